@@ -1,0 +1,43 @@
+-- Room never shapes text, of two calls of any function that promises `Expanded`, whatever the buffers held before.
+use Prim.Native.Nat.{ℕ, _≤_, _<_}
+use mathlib.Core.Path.{_≡_, refl, sym, ap, _∙_}
+use mathlib.Core.Bool.{true, false}
+use mathlib.Core.List.{List, [], _∷_}
+use lib.ListN.{length, take, drop}
+use lib.Seq.{take-append-seam}
+use Rattle.rules.specs.declared.Report.{Report}
+use Rattle.rules.specs.Bytes.{Bytes}
+use Rattle.rules.specs.Answers.{isStopped, numbers}
+use Rattle.rules.specs.State.{freshStart}
+use Rattle.rules.specs.Run.{Setting, Ended, run}
+use Rattle.rules.specs.Room.{Lendable, NowhereSmaller, Unshaped}
+use Rattle.rules.specs.Contract.{Buffers, settingOf, outputOf, errorsOf, reportOf, fronted, leftBy, runIn, Expanded, written, Agree}
+use Rattle.rules.proofs.Room.{room-never-shapes-text}
+
+-- the written bytes are those of the run
+written-run : (e : Ended) (b : Buffers) → written (reportOf e) (leftBy e b) ≡ outputOf e ∷ errorsOf e ∷ []
+unfolding written reportOf leftBy fronted
+written-run e b = rw (take-append-seam (outputOf e) (drop (length (outputOf e)) (b .output)), take-append-seam (errorsOf e) (drop (length (errorsOf e)) (b .errors)))
+
+agree : {a b : Setting} (r t : Ended) (x y : Buffers) → Unshaped a b r t → Agree a b (reportOf r) (reportOf t) (leftBy r x) (leftBy t y)
+unfolding reportOf
+agree r t x y u =
+    record {
+      same =
+          λ p. (
+            ap (λ (e : Ended). numbers (reportOf e)) (u .same p),
+            written-run t y ∙ ap (λ (e : Ended). outputOf e ∷ errorsOf e ∷ []) (u .same p) ∙ sym (written-run r x),
+          );
+      further = λ p. u .further p;
+      again = λ p q. ap (λ (e : Ended). numbers (reportOf e)) (u .again p q);
+    }
+
+-- demand 3: two calls on one text, the second's lengths and budget nowhere smaller and none of its lengths above 65,536
+pub calls-agree :
+    (text : Bytes) (n m : ℕ) (before after before′ after′ : Buffers) (r t : Report) → Lendable (settingOf before′ m)
+    → NowhereSmaller (settingOf before n) (settingOf before′ m) → Expanded text n before after r → Expanded text m before′ after′ t
+    → Agree (settingOf before n) (settingOf before′ m) r t after after′
+unfolding runIn
+calls-agree text n m b x b′ x′ r t l w e f =
+    rw (e .report, e .buffers, f .report, f .buffers)
+    (agree (runIn text b n) (runIn text b′ m) b b′ (room-never-shapes-text (freshStart text) (settingOf b n) (settingOf b′ m) l w))

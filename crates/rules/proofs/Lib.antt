@@ -1,0 +1,9 @@
+-- The laws of the book of rules.
+pub mod Book
+pub mod Cases
+pub mod Reach
+pub mod Fuel
+pub mod Run
+pub mod Room
+pub mod Contract
+pub mod Empty

@@ -1,0 +1,108 @@
+-- The worked texts that 01 marks P, every one and no other, and the four traps of the old box, as cases that are computed.
+use Prim.Native.Nat.{ℕ, suc}
+use Prim.Native.String.{String}
+use mathlib.Core.Bool.{Bool, true, false, _&&_}
+use mathlib.Core.List.{List, [], _∷_}
+use lib.Dec.{eqb}
+use Rattle.rules.specs.declared.Report.{Report}
+use Rattle.rules.specs.Bytes.{Bytes, bytesOf, sameBytes}
+use Rattle.rules.specs.Answers.{answerNumber, answerDetail}
+use Rattle.rules.specs.State.{freshStart}
+use Rattle.rules.specs.Run.{Setting, Ended, run}
+use Rattle.rules.specs.Contract.{outputOf, errorsOf}
+
+-- what a worked text says: done with this output; that in so many steps; refused with this number; or number, detail, steps, place and
+-- output. No worked text writes to the error text
+pub data Expected : Type 0 where
+  gives : String → Expected
+  takes : String → ℕ → Expected
+  refuses : ℕ → Expected
+  answers : ℕ → ℕ → ℕ → ℕ → String → Expected
+
+pub record Case : Type 0 where
+  pub text : String
+  pub setting : Setting
+  pub expected : Expected
+
+unfoldable pub writes : Ended → String → Bool
+writes e output = sameBytes (outputOf e) (bytesOf output) && sameBytes (errorsOf e) []
+
+unfoldable pub meets : Expected → Ended → Bool
+meets (gives output) e = eqb (answerNumber (e .answer)) 0 && writes e output
+meets (takes output steps) e = eqb (answerNumber (e .answer)) 0 && eqb (e .steps) steps && writes e output
+meets (refuses number) e = eqb (answerNumber (e .answer)) number && writes e ""
+meets (answers number detail steps place output) e =
+    eqb (answerNumber (e .answer)) number
+    && eqb (answerDetail (e .answer)) detail
+    && eqb (e .steps) steps
+    && eqb (e .state .source .taken) place
+    && writes e output
+
+unfoldable pub caseHolds : Case → Bool
+caseHolds c = meets (c .expected) (run (freshStart (bytesOf (c .text))) (c .setting))
+
+-- the number, from n, of the first case that does not hold; 0: all hold
+unfoldable pub firstWrong : ℕ → List Case → ℕ
+firstWrong n [] = 0
+firstWrong n (c ∷ cs) = elim (caseHolds c) [ true ↦ firstWrong (suc n) cs | false ↦ n ]
+
+-- 01 "Budget and room are ample unless said"
+unfoldable pub budgeted : ℕ → Setting
+budgeted n =
+    record { pending = 65536; calls = 65536; definitions = 65536; streams = 65536; wrap = 65536; errors = 65536; output = 65536; budget = n }
+
+unfoldable pub ample : Setting
+ample = budgeted 16777216
+
+-- lengths of the buffers 1, 2, 3 and 7, the others 0, as the third case names them
+unfoldable pub lending : ℕ → ℕ → ℕ → ℕ → Setting
+lending pending calls definitions output =
+    record {
+      pending = pending;
+      calls = calls;
+      definitions = definitions;
+      streams = 0;
+      wrap = 0;
+      errors = 0;
+      output = output;
+      budget = 16777216;
+    }
+
+unfoldable pub case : String → Setting → Expected → Case
+case text setting expected = record { text = text; setting = setting; expected = expected }
+
+unfoldable pub thirdText : String
+thirdText = "define(`n',`5')n"
+
+unfoldable pub workedCases : List Case
+workedCases =
+    case "" (budgeted 0) (answers 3 0 0 0 "")
+    ∷ case "" (budgeted 1) (answers 0 0 1 0 "")
+    ∷ case "`a `b' c'" ample (takes "a `b' c" 2)
+    ∷ case thirdText ample (answers 0 0 8 16 "5")
+    ∷ case thirdText (lending 1 8 2 1) (answers 0 0 8 16 "5")
+    ∷ case thirdText (lending 0 8 2 1) (answers 4 1 5 15 "")
+    ∷ case thirdText (lending 1 7 2 1) (answers 4 2 3 11 "")
+    ∷ case thirdText (lending 1 8 1 1) (answers 4 3 4 14 "")
+    ∷ case thirdText (lending 1 8 2 0) (answers 4 7 6 16 "")
+    ∷ case "define(`f',`$#:$*')f f() f(a,b)" ample (gives "0: 1: 2:a,b")
+    ∷ case "define(`N',`7')2N N2" ample (gives "27 N2")
+    ∷ case "divert(2)b`'divert(1)a`'divert(0)c" ample (gives "cab")
+    ∷ case "ifelse(`a',`b',`c',`d',`e')" ample (gives "d")
+    ∷ case "shift(`a',`b',`c')" ample (gives "b,c")
+    ∷ case "substr(`abc',3)" ample (gives "")
+    ∷ case "translit(`abcda',`ad',`x')" ample (gives "xbcx")
+    ∷ case "eval(`0&&1/0')" ample (gives "0")
+    ∷ case "eval(`1/0')" ample (refuses 9)
+    ∷ case "eval(`08')" ample (refuses 8)
+    ∷ []
+
+-- 01 "Traps on the old box": replaced text and freed definitions are used again to the last byte, a token may cross the border of
+-- pending text and input, and the end mark is tried first
+unfoldable pub trapCases : List Case
+trapCases =
+    case "define(`a',`b')define(`a',`c')" (lending 0 8 2 0) (answers 0 0 11 30 "")
+    ∷ case "define(`a',`b')undefine(`a')define(`c',`d')" (lending 0 9 2 0) (answers 0 0 14 43 "")
+    ∷ case "define(`p',`a')define(`ab',`X')p()b" ample (answers 0 0 15 35 "X")
+    ∷ case "changequote(`|',`|')|a|" ample (answers 0 0 7 23 "a")
+    ∷ []

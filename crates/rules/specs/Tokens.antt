@@ -1,0 +1,89 @@
+-- Reading a token off the text ahead: 01 "five kinds of token, tried in this order".
+use Prim.Native.Nat.{ℕ, zero, suc, pred, _+_}
+use mathlib.Core.Bool.{Bool, true, false}
+use mathlib.Core.List.{List, [], _∷_}
+use mathlib.Core.Option.{Option, none, some}
+use lib.Dec.{eqb}
+use lib.ListN.{length, drop}
+use Rattle.rules.specs.declared.Token.{Token}
+use Rattle.rules.specs.declared.Token.the-variants as token
+use Rattle.rules.specs.declared.Reading.{Reading}
+use Rattle.rules.specs.declared.Reading.the-variants.{Is, OpenQuote, OpenComment}
+use Rattle.rules.specs.Bytes.{Bytes, beginsName, nameLength}
+use Rattle.rules.specs.Marks.{MarkTexts}
+
+-- a text stands at the front
+unfoldable pub beginsWith : Bytes → Bytes → Bool
+beginsWith [] xs = true
+beginsWith (m ∷ ms) [] = false
+beginsWith (m ∷ ms) (x ∷ xs) = elim (eqb m x) [ true ↦ beginsWith ms xs | false ↦ false ]
+
+-- a mark stands at the front; an empty one never does
+unfoldable pub atMark : Bytes → Bytes → Bool
+atMark [] xs = false
+atMark (m ∷ ms) xs = beginsWith (m ∷ ms) xs
+
+unfoldable pub later : Option ℕ → Option ℕ
+later none = none
+later (some n) = some (suc n)
+
+-- where a text first stands
+unfoldable pub firstPlace : Bytes → Bytes → Option ℕ
+firstPlace m [] = elim (beginsWith m []) [ true ↦ some 0 | false ↦ none ]
+firstPlace m (x ∷ xs) = elim (beginsWith m (x ∷ xs)) [ true ↦ some 0 | false ↦ later (firstPlace m xs) ]
+
+-- where a quote closes, or how many quotes are open at the end
+pub data QuoteEnd : Type 0 where
+  closesAt : ℕ → QuoteEnd
+  leftOpen : ℕ → QuoteEnd
+
+unfoldable pub oneOn : QuoteEnd → QuoteEnd
+oneOn (closesAt n) = closesAt (suc n)
+oneOn (leftOpen d) = leftOpen d
+
+-- 01 "Inside, the end mark is tried first, then the begin mark, which nests": with `inner` quotes open inside the outermost one, and
+-- after `skip` more bytes of a mark that was matched. (How many are open at the end is not in 01: document 02 will ask)
+unfoldable pub quoteEnd : Bytes → Bytes → ℕ → ℕ → Bytes → QuoteEnd
+quoteEnd begin end inner skip [] = leftOpen (suc inner)
+quoteEnd begin end inner (suc k) (x ∷ xs) = oneOn (quoteEnd begin end inner k xs)
+quoteEnd begin end inner zero (x ∷ xs) =
+    elim (beginsWith end (x ∷ xs)) [
+      | true ↦ elim inner [ zero ↦ closesAt 0 | suc d ↦ oneOn (quoteEnd begin end d (pred (length end)) xs) ]
+      | false ↦
+          elim (beginsWith begin (x ∷ xs)) [
+            | true ↦ oneOn (quoteEnd begin end (suc inner) (pred (length begin)) xs)
+            | false ↦ oneOn (quoteEnd begin end inner zero xs)
+          ]
+    ]
+
+-- 2: from the begin-comment mark through the next end-comment mark, both kept
+unfoldable pub commentRead : ℕ → ℕ → Option ℕ → Reading
+commentRead begin end none = OpenComment
+commentRead begin end (some n) = Is (token.Comment (begin + (n + end)))
+
+unfoldable pub readComment : MarkTexts → Bytes → Reading
+readComment m text =
+    let b = length (m .beginComment) in
+    commentRead b (length (m .endComment)) (firstPlace (m .endComment) (drop b text))
+
+-- 3: from the begin-quote mark to its matching end mark; "Only the outermost marks go"
+unfoldable pub quoteRead : ℕ → ℕ → QuoteEnd → Reading
+quoteRead begin end (leftOpen d) = OpenQuote d
+quoteRead begin end (closesAt n) = Is (token.Quoted begin (begin + n) (begin + (n + end)))
+
+unfoldable pub readQuoted : MarkTexts → Bytes → Reading
+readQuoted m text =
+    let b = length (m .beginQuote) in
+    quoteRead b (length (m .endQuote)) (quoteEnd (m .beginQuote) (m .endQuote) 0 0 (drop b text))
+
+unfoldable pub readToken : MarkTexts → Bytes → Reading
+readToken m [] = Is token.End
+readToken m (x ∷ xs) =
+    elim (atMark (m .beginComment) (x ∷ xs)) [
+      | true ↦ readComment m (x ∷ xs)
+      | false ↦
+          elim (atMark (m .beginQuote) (x ∷ xs)) [
+            | true ↦ readQuoted m (x ∷ xs)
+            | false ↦ elim (beginsName x) [ true ↦ Is (token.Name (nameLength (x ∷ xs))) | false ↦ Is (token.Byte x) ]
+          ]
+    ]
