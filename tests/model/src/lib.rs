@@ -1,0 +1,36 @@
+//! A plain executable model of the expander that document 01 defines.
+//!
+//! It is written from the papers alone and cares for clarity first. Memory comes from the heap; the
+//! seven lent lengths only judge what the state holds after each step, as 01 says: "Room is judged
+//! on the state after a step, not on the way."
+//!
+//! The modules follow the paper: [`bytes`], [`marks`] and [`tokens`] read; [`calls`],
+//! [`definitions`], [`streams`] and [`ahead`] hold; [`numbers`], [`eval`], [`expansion`] and
+//! [`macros`] work; [`step`] and [`run`] join them. [`table`], [`random`], [`generate`] and
+//! [`demand3`] serve the two programs.
+
+pub mod ahead;
+pub mod answer;
+pub mod bytes;
+pub mod calls;
+pub mod definitions;
+pub mod demand3;
+pub mod eval;
+pub mod expansion;
+pub mod generate;
+pub mod macros;
+pub mod marks;
+pub mod numbers;
+pub mod random;
+pub mod run;
+pub mod state;
+pub mod step;
+pub mod streams;
+pub mod table;
+pub mod tokens;
+
+pub use answer::{Report, Setting};
+pub use run::{expand, expand_buffers, expand_traced, Trace};
+
+/// No text and no lent buffer may be longer. 01: "the text or a buffer exceeds 65,536 bytes".
+pub const LIMIT: usize = 65_536;

@@ -1,0 +1,362 @@
+//! The predefined macros. 01: "Absent arguments are null, surplus ones ignored."
+
+use crate::answer::Refusal;
+use crate::bytes::is_name;
+use crate::definitions::Meaning;
+use crate::eval;
+use crate::expansion::{join_quoted, Expansion};
+use crate::marks::Pair;
+use crate::numbers::{needed, or_default, read, within};
+use crate::state::State;
+
+/// The 24 predefined macros in the order of 01.
+#[derive(Clone, Copy, Debug, PartialEq, Eq)]
+pub enum Predefined {
+    Changecom,
+    Changequote,
+    Decr,
+    Define,
+    Defn,
+    Divert,
+    Divnum,
+    Dnl,
+    Errprint,
+    Eval,
+    Ifdef,
+    Ifelse,
+    Incr,
+    Index,
+    Len,
+    M4exit,
+    M4wrap,
+    Popdef,
+    Pushdef,
+    Shift,
+    Substr,
+    Translit,
+    Undefine,
+    Undivert,
+}
+
+use Predefined::*;
+
+impl Predefined {
+    pub const ALL: [Predefined; 24] = [
+        Changecom,
+        Changequote,
+        Decr,
+        Define,
+        Defn,
+        Divert,
+        Divnum,
+        Dnl,
+        Errprint,
+        Eval,
+        Ifdef,
+        Ifelse,
+        Incr,
+        Index,
+        Len,
+        M4exit,
+        M4wrap,
+        Popdef,
+        Pushdef,
+        Shift,
+        Substr,
+        Translit,
+        Undefine,
+        Undivert,
+    ];
+
+    /// The name that has this meaning at the start.
+    pub fn name(self) -> &'static str {
+        const NAMES: [&str; 24] = [
+            "changecom",
+            "changequote",
+            "decr",
+            "define",
+            "defn",
+            "divert",
+            "divnum",
+            "dnl",
+            "errprint",
+            "eval",
+            "ifdef",
+            "ifelse",
+            "incr",
+            "index",
+            "len",
+            "m4exit",
+            "m4wrap",
+            "popdef",
+            "pushdef",
+            "shift",
+            "substr",
+            "translit",
+            "undefine",
+            "undivert",
+        ];
+        NAMES[self as usize]
+    }
+}
+
+/// What a predefined macro gives.
+#[derive(Clone, Debug, PartialEq, Eq)]
+pub enum Outcome {
+    /// "Results are pushed back and scanned again."
+    Result(Expansion),
+    /// "m4exit ends at once".
+    Exit(u32),
+}
+
+/// Calls a predefined macro with the arguments that are there.
+pub fn perform(
+    which: Predefined,
+    state: &mut State,
+    arguments: &[Vec<u8>],
+) -> Result<Outcome, Refusal> {
+    if which == M4exit {
+        return exit_code(arguments).map(Outcome::Exit);
+    }
+    let result = match which {
+        Decr => step_number(arguments, -1)?,
+        Defn => defined_texts(state, arguments)?,
+        Divnum => Expansion::of_number(i64::from(state.streams.current())),
+        Eval => evaluate(arguments)?,
+        Ifdef => if_defined(state, arguments),
+        Ifelse => if_else(arguments),
+        Incr => step_number(arguments, 1)?,
+        Index => find(arguments),
+        Len => Expansion::of_number(text(arguments, 0).len() as i64),
+        Shift => join_quoted(arguments.get(1..).unwrap_or(&[]), &state.marks.quote),
+        Substr => cut_out(arguments)?,
+        Translit => transliterate(arguments),
+        // 004: "Their values shall be null unless otherwise stated."
+        _ => act(which, state, arguments).map(|()| Expansion::null())?,
+    };
+    Ok(Outcome::Result(result))
+}
+
+/// The macros that change the state and give nothing.
+fn act(which: Predefined, state: &mut State, arguments: &[Vec<u8>]) -> Result<(), Refusal> {
+    match which {
+        Changecom => change_comment(state, arguments)?,
+        Changequote => change_quote(state, arguments)?,
+        Define => state
+            .definitions
+            .define(name(arguments)?, text(arguments, 1)),
+        Divert => state.streams.divert(or_default(arguments.first(), 0)?),
+        Dnl => state.ahead.drop_line(),
+        // "errprint joins its arguments with one space."
+        Errprint => state.errors.extend(arguments.join(&b' ')),
+        // 004: "The first argument shall be processed when EOF is reached."
+        M4wrap => state.wrap.extend_from_slice(text(arguments, 0)),
+        Popdef => arguments
+            .iter()
+            .for_each(|name| state.definitions.popdef(name)),
+        Pushdef => state
+            .definitions
+            .pushdef(name(arguments)?, text(arguments, 1)),
+        Undefine => arguments
+            .iter()
+            .for_each(|name| state.definitions.undefine(name)),
+        Undivert => undivert(state, arguments)?,
+        _ => unreachable!("{} gives a result", which.name()),
+    }
+    Ok(())
+}
+
+/// An argument as text, null if absent.
+fn text(arguments: &[Vec<u8>], at: usize) -> &[u8] {
+    arguments.get(at).map_or(&[], Vec::as_slice)
+}
+
+/// The first argument of define and pushdef; 6: "define or pushdef of what is not a name".
+fn name(arguments: &[Vec<u8>]) -> Result<&[u8], Refusal> {
+    let name = text(arguments, 0);
+    if is_name(name) {
+        Ok(name)
+    } else {
+        Err(Refusal::Name)
+    }
+}
+
+/// "changecom without arguments turns comments off".
+fn change_comment(state: &mut State, arguments: &[Vec<u8>]) -> Result<(), Refusal> {
+    state.marks.comment = if arguments.is_empty() {
+        None
+    } else {
+        Some(Pair::read(arguments)?)
+    };
+    Ok(())
+}
+
+/// "changequote without arguments sets the defaults".
+fn change_quote(state: &mut State, arguments: &[Vec<u8>]) -> Result<(), Refusal> {
+    state.marks.quote = if arguments.is_empty() {
+        Pair::default_quote()
+    } else {
+        Pair::read(arguments)?
+    };
+    Ok(())
+}
+
+/// incr and decr; 7: "an incr or decr result outside that range".
+fn step_number(arguments: &[Vec<u8>], by: i32) -> Result<Expansion, Refusal> {
+    let number = needed(arguments.first())?
+        .checked_add(by)
+        .ok_or(Refusal::Number)?;
+    Ok(Expansion::of_number(i64::from(number)))
+}
+
+/// "defn joins its arguments' texts, each in quote marks; unknown names give nothing."
+fn defined_texts(state: &State, arguments: &[Vec<u8>]) -> Result<Expansion, Refusal> {
+    let mut result = Expansion::null();
+    for name in arguments {
+        match state.definitions.newest(name) {
+            Some(Meaning::Text(text)) => result.add_quoted(text, &state.marks.quote),
+            // 11: "defn of a predefined meaning in force"
+            Some(Meaning::Predefined(_)) => return Err(Refusal::NoText),
+            None => {}
+        }
+    }
+    Ok(result)
+}
+
+/// "eval in the order 8, radix, digits, 9".
+fn evaluate(arguments: &[Vec<u8>]) -> Result<Expansion, Refusal> {
+    let tree = eval::read(text(arguments, 0))?;
+    let radix = within(or_default(arguments.get(1), 10)?, 2, 36)?;
+    let digits = within(or_default(arguments.get(2), 0)?, 0, i32::MAX)?;
+    let value = eval::work_out(&tree)?;
+    Ok(eval::write(value, radix as u32, digits as usize))
+}
+
+/// 004: "If the first argument to the ifdef macro is defined, the defining text shall be the second
+/// argument. Otherwise ... the third argument, if specified, or the null string, if not."
+fn if_defined(state: &State, arguments: &[Vec<u8>]) -> Expansion {
+    let defined = state.definitions.newest(text(arguments, 0)).is_some();
+    Expansion::of(text(arguments, if defined { 1 } else { 2 }))
+}
+
+/// "ifelse: below three arguments null, then as 004 says".
+fn if_else(arguments: &[Vec<u8>]) -> Expansion {
+    match arguments {
+        [left, right, equal, ..] if left == right => Expansion::of(equal),
+        // "six or more arguments, the first three arguments shall be discarded and processing shall
+        // restart"
+        [_, _, _, rest @ ..] if rest.len() >= 3 => if_else(rest),
+        // "four or five arguments, the defining text shall be the fourth argument"
+        [_, _, _, fourth, ..] => Expansion::of(fourth),
+        _ => Expansion::null(),
+    }
+}
+
+/// 004: "the first character position ... (zero origin), or -1"; "index finds an empty string at
+/// 0."
+fn find(arguments: &[Vec<u8>]) -> Expansion {
+    let (whole, part) = (text(arguments, 0), text(arguments, 1));
+    let found = (0..=whole.len()).find(|&at| whole[at..].starts_with(part));
+    Expansion::of_number(found.map_or(-1, |at| at as i64))
+}
+
+/// 7: "a negative substr start or length"; default: "substr length to the end".
+fn cut_out(arguments: &[Vec<u8>]) -> Result<Expansion, Refusal> {
+    let whole = text(arguments, 0);
+    let start = within(needed(arguments.get(1))?, 0, i32::MAX)?;
+    let length = within(or_default(arguments.get(2), i32::MAX)?, 0, i32::MAX)?;
+    let from = whole.get(start as usize..).unwrap_or(&[]);
+    Ok(Expansion::of(&from[..from.len().min(length as usize)]))
+}
+
+/// "translit deletes bytes whose partner is missing; of a repeated byte the first counts; no
+/// ranges."
+fn transliterate(arguments: &[Vec<u8>]) -> Expansion {
+    let (from, to) = (text(arguments, 1), text(arguments, 2));
+    let partner = |byte: &u8| match from.iter().position(|other| other == byte) {
+        Some(at) => to.get(at).copied(),
+        None => Some(*byte),
+    };
+    let changed: Vec<u8> = text(arguments, 0).iter().filter_map(partner).collect();
+    Expansion::of(&changed)
+}
+
+/// 7: "undivert outside 1 to 9"; default: "undivert all nine".
+fn undivert(state: &mut State, arguments: &[Vec<u8>]) -> Result<(), Refusal> {
+    let mut named = Vec::new();
+    for argument in arguments {
+        named.push(within(read(argument)?, 1, 9)?);
+    }
+    if arguments.is_empty() {
+        named = (1..=9).collect();
+    }
+    named
+        .into_iter()
+        .for_each(|stream| state.streams.undivert(stream));
+    Ok(())
+}
+
+/// 7: "m4exit outside 0 to 255"; default 0.
+fn exit_code(arguments: &[Vec<u8>]) -> Result<u32, Refusal> {
+    let code = within(or_default(arguments.first(), 0)?, 0, 255)?;
+    Ok(code as u32)
+}
+
+#[cfg(test)]
+mod tests {
+    use super::*;
+
+    #[test]
+    fn names_stand_in_the_order_of_the_page() {
+        let names: Vec<&str> = Predefined::ALL.iter().map(|which| which.name()).collect();
+        assert!(names.windows(2).all(|pair| pair[0] < pair[1]));
+        let places: Vec<usize> = Predefined::ALL
+            .iter()
+            .map(|&which| which as usize)
+            .collect();
+        assert_eq!(places, (0..24).collect::<Vec<usize>>());
+    }
+
+    fn arguments(list: &[&str]) -> Vec<Vec<u8>> {
+        list.iter()
+            .map(|argument| argument.as_bytes().to_vec())
+            .collect()
+    }
+
+    #[test]
+    fn ifelse_by_count() {
+        let cases: [(&[&str], &str); 8] = [
+            (&[], ""),
+            (&["a", "a"], ""),
+            (&["a", "b", "c"], ""),
+            (&["a", "b", "c", "d"], "d"),
+            (&["a", "b", "c", "d", "e"], "d"),
+            (&["a", "b", "c", "d", "d", "f"], "f"),
+            (&["a", "b", "c", "d", "e", "f", "g"], "g"),
+            (&["a", "b", "c", "d", "e", "f", "g", "h"], "g"),
+        ];
+        for (list, expected) in cases {
+            assert_eq!(
+                if_else(&arguments(list)),
+                Expansion::of(expected.as_bytes())
+            );
+        }
+    }
+
+    #[test]
+    fn strings() {
+        assert_eq!(find(&arguments(&["abc", "c"])), Expansion::of(b"2"));
+        assert_eq!(find(&arguments(&["", ""])), Expansion::of(b"0"));
+        assert_eq!(find(&arguments(&["a", "ab"])), Expansion::of(b"-1"));
+        assert_eq!(
+            cut_out(&arguments(&["abc", "1", "1"])),
+            Ok(Expansion::of(b"b"))
+        );
+        assert_eq!(cut_out(&arguments(&["abc", "4"])), Ok(Expansion::null()));
+        assert_eq!(cut_out(&arguments(&["abc"])), Err(Refusal::Number));
+        assert_eq!(
+            transliterate(&arguments(&["abcda", "ad", "x"])),
+            Expansion::of(b"xbcx")
+        );
+    }
+}

@@ -1,0 +1,96 @@
+//! How a run leaves the seven lent buffers, and what its trace counts.
+
+use model::macros::Predefined;
+use model::{expand_buffers, expand_traced, Setting};
+
+fn lent(lengths: [usize; 7]) -> [Vec<u8>; 7] {
+    lengths.map(|length| vec![0xa5; length])
+}
+
+#[test]
+fn done_and_exit_write_from_the_front() {
+    for (text, number) in [("errprint(xy)ab", 0), ("errprint(xy)ab m4exit", 1)] {
+        let mut buffers = lent([20; 7]);
+        let numbers = expand_buffers(text.as_bytes(), &mut buffers, 1_000);
+        let written = if number == 0 { &b"ab"[..] } else { b"ab " };
+        assert_eq!(numbers[0], number);
+        assert_eq!(numbers[4..], [written.len() as u32, 2]);
+        assert!(buffers[..5].iter().all(|buffer| buffer == &[0; 20]));
+        assert_eq!(buffers[5], [&b"xy"[..], &[0xa5; 18]].concat());
+        assert_eq!(
+            buffers[6],
+            [written, &vec![0xa5; 20 - written.len()]].concat()
+        );
+    }
+}
+
+#[test]
+fn a_refusal_writes_no_text() {
+    for (text, budget, number) in [
+        ("errprint(xy)ab`", 1_000, 5),
+        ("abcdefgh", 1, 3),
+        ("errprint(xyz)", 1_000, 4),
+    ] {
+        let mut buffers = lent([20, 20, 20, 20, 20, 2, 20]);
+        let numbers = expand_buffers(text.as_bytes(), &mut buffers, budget);
+        assert_eq!((numbers[0], numbers[4], numbers[5]), (number, 0, 0));
+        assert!(buffers[..5].iter().flatten().all(|&byte| byte == 0));
+        assert!(buffers[5..].iter().flatten().all(|&byte| byte == 0xa5));
+    }
+}
+
+#[test]
+fn lend_writes_nothing() {
+    let mut buffers = lent([1, 1, 1, 65_537, 1, 1, 1]);
+    assert_eq!(expand_buffers(b"a", &mut buffers, 0), [2, 0, 0, 0, 0, 0]);
+    assert!(buffers.iter().flatten().all(|&byte| byte == 0xa5));
+    let mut buffers = lent([1; 7]);
+    assert_eq!(
+        expand_buffers(&[b'a'; 65_537], &mut buffers, 0),
+        [2, 0, 0, 0, 0, 0]
+    );
+    assert!(buffers.iter().flatten().all(|&byte| byte == 0xa5));
+}
+
+#[test]
+fn the_longest_text() {
+    let report = model::expand(&[b'-'; 65_536], &Setting::ample());
+    assert_eq!(
+        (report.number, report.steps, report.place),
+        (0, 65_537, 65_536)
+    );
+    assert_eq!(report.output.len(), 65_536);
+}
+
+#[test]
+fn results_that_are_not_built() {
+    let ample = Setting::ample();
+    for (text, number, detail) in [
+        ("eval(1,10,2147483647)", 4, 1),
+        ("eval(1/0,10,2147483647)", 9, 0),
+        ("eval(-1,10,65536)", 4, 1),
+    ] {
+        let report = model::expand(text.as_bytes(), &ample);
+        assert_eq!((report.number, report.detail), (number, detail), "{text}");
+    }
+}
+
+#[test]
+fn calls_of_completed_steps_are_counted() {
+    let (_, trace) = expand_traced(
+        b"len(len(a))len divnum`'define(`len',`x')len(b)incr(x)",
+        &Setting::ample(),
+    );
+    let calls = |which: Predefined| trace.calls[which as usize];
+    assert_eq!(calls(Predefined::Len), 3);
+    assert_eq!(calls(Predefined::Divnum), 1);
+    assert_eq!(calls(Predefined::Define), 1);
+    assert_eq!(calls(Predefined::Incr), 0);
+    assert_eq!(trace.calls.iter().sum::<u64>(), 5);
+}
+
+#[test]
+fn peaks_are_what_a_text_needs() {
+    let (_, trace) = expand_traced(b"define(`n',`5')n", &Setting::ample());
+    assert_eq!(trace.peaks, [1, 8, 2, 0, 0, 0, 1]);
+}

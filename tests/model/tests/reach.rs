@@ -1,0 +1,81 @@
+//! The generator reaches every answer, every detail of 4 and 5 and every macro, and the third
+//! demand holds on random pairs.
+
+use model::demand3::{pair, try_pair};
+use model::generate::case;
+use model::random::Random;
+use model::{expand, expand_traced, Setting};
+
+#[test]
+fn everything_is_reached() {
+    let mut random = Random::new(1);
+    let (mut answers, mut room, mut unclosed) = ([0; 14], [0; 8], [0; 4]);
+    let mut calls = [0; 24];
+    for _ in 0..2_000 {
+        let case = case(&mut random);
+        let (report, trace) = expand_traced(&case.text, &case.setting);
+        answers[report.number as usize] += 1;
+        match report.number {
+            4 => room[report.detail as usize] += 1,
+            5 => unclosed[report.detail as usize] += 1,
+            _ => {}
+        }
+        (0..24).for_each(|i| calls[i] += trace.calls[i]);
+    }
+    assert!(answers.iter().all(|&count| count > 0), "{answers:?}");
+    assert!(room[1..].iter().all(|&count| count > 0), "{room:?}");
+    assert!(unclosed[1..].iter().all(|&count| count > 0), "{unclosed:?}");
+    assert!(calls.iter().all(|&count| count > 0), "{calls:?}");
+}
+
+#[test]
+fn room_never_shapes_text() {
+    let mut random = Random::new(3);
+    for _ in 0..1_000 {
+        let pair = pair(&mut random);
+        if let Err(violation) = try_pair(&mut random, &pair) {
+            panic!("{violation}");
+        }
+    }
+}
+
+/// A run that needs exactly its peaks and steps gets along with just those, and with no less of
+/// any.
+#[test]
+fn peaks_are_exact() {
+    let mut random = Random::new(5);
+    for _ in 0..500 {
+        let text = model::generate::text(&mut random);
+        let ample = Setting {
+            budget: 4_000,
+            ..Setting::ample()
+        };
+        let (report, trace) = expand_traced(&text, &ample);
+        if report.number > 1 {
+            continue;
+        }
+        let lengths = trace.peaks;
+        let budget = report.steps;
+        assert_eq!(expand(&text, &Setting { lengths, budget }), report);
+        let spent = expand(
+            &text,
+            &Setting {
+                lengths,
+                budget: budget - 1,
+            },
+        );
+        assert_eq!((spent.number, spent.steps), (3, budget - 1));
+        for buffer in (0..7).filter(|&buffer| lengths[buffer] > 0) {
+            let mut short = lengths;
+            short[buffer] -= 1;
+            let refused = expand(
+                &text,
+                &Setting {
+                    lengths: short,
+                    budget,
+                },
+            );
+            assert_eq!((refused.number, refused.detail), (4, buffer as u32 + 1));
+        }
+    }
+}
