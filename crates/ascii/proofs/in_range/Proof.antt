@@ -1,0 +1,16 @@
+-- `ascii::in_range` meets its contract. Assumes nothing.
+use borrow.Author.Tests.{le-leb, lt-leb}
+use Rattle.rules.specs.Bytes.{ranging}
+use Rattle.ascii.proofs.in_range.Statement.{statement}
+use Rattle.ascii.proofs.in_range.Tie as tie
+
+returns : tie.Need-returns
+unfolding ranging
+returns c = rw (le-leb _ _ (c .if1 .taken))
+
+returns-2 : tie.Need-returns-2
+unfolding ranging
+returns-2 c = rw (lt-leb _ _ (c .if1 .left))
+
+pub in-range-spec : {M : Type 1} → statement M
+in-range-spec = tie.close (tie.spec returns returns-2)

@@ -1,0 +1,58 @@
+-- A text written into a buffer at a place.
+use Prim.Native.Nat.{ℕ, _+_, _-_, _≤_}
+use mathlib.Core.Path.{_≡_, refl, sym, ap, _∙_}
+use mathlib.Core.List.{List, [], _∷_, _++_, append-assoc}
+use native.Mathlib.Omega.{arith}
+use lib.ListN.{length, take, drop, set, length-append, length-take, length-drop}
+use lib.Seq.{take-at, length-take-le, drop-drop, set-split}
+use borrow.Rule.Slice.PartMut.{putMid}
+use native.Mathlib.Numerals.{add-one}
+use Rattle.rules.specs.Bytes.{Bytes}
+use mathlib.Core.Bool.{Bool}
+use Rattle.ascii.specs.Copied.{Copied}
+use Rattle.expander.specs.Filled.{Filled}
+use Rattle.expander.proofs.Parts.{copied-whole}
+
+module _ {before : Bytes} {at : ℕ} {w after : Bytes} (f : Filled before at w after) where
+  front-long : length (take at before ++ w) ≡ at + length w
+  front-long = length-append (take at before) w ∙ omega (arith, length-take-le at before (omega (arith, f .fits)))
+
+  -- what stood in front still does, and the text stands behind it
+  pub filled-front : take (at + length w) after ≡ take at before ++ w
+  filled-front =
+      ap (take (at + length w)) (f .is ∙ sym (append-assoc (take at before) w (drop (at + length w) before)))
+      ∙ take-at (take at before ++ w) (drop (at + length w) before) (at + length w) front-long
+
+  pub filled-long : length after ≡ length before
+  filled-long =
+      ap length (f .is ∙ sym (append-assoc (take at before) w (drop (at + length w) before)))
+      ∙ length-append (take at before ++ w) (drop (at + length w) before)
+      ∙ omega (arith, front-long, length-drop (at + length w) before, f .fits)
+
+-- a part of a slice that a function filled
+pub part-fills : (d w : Bytes) (a n : ℕ) → length w ≡ n → a + n ≤ length d → Filled d a w (putMid a (a + n - a) d w)
+part-fills d w a n e h =
+    let f : a + (a + n - a) ≡ a + length w = omega arith in
+    record {
+      fits = omega arith;
+      is = ap (λ (l : Bytes). take a d ++ (w ++ l)) (drop-drop (a + n - a) a d ∙ ap (λ (k : ℕ). drop k d) f);
+    }
+
+-- a byte that was stored
+pub byte-fills : (d : Bytes) (a x : ℕ) → a + 1 ≤ length d → Filled d a (x ∷ []) (set d a x)
+byte-fills d a x h =
+    let l : a + 1 ≤ length d = h in
+    record { fits = omega arith; is = set-split d a x (omega arith) ∙ ap (λ (k : ℕ). take a d ++ (x ∷ drop k d)) (sym (add-one a)) }
+
+-- as the two copying functions leave it: y is what the part of d from a on holds then
+module _ (d y : Bytes) (a n : ℕ) (fits : a + n ≤ length d) where
+  part-size : length (take (a + n - a) (drop a d)) ≡ n
+  part-size = omega (arith, length-take (a + n - a) (drop a d), length-drop a d)
+
+  pub fills-front : (xs : Bytes) → n ≤ length xs → y ≡ take (length (take (a + n - a) (drop a d))) xs → Filled d a (take n xs) (putMid a (a + n - a) d y)
+  fills-front xs h e =
+      let w : y ≡ take n xs = e ∙ ap (λ (k : ℕ). take k xs) part-size in
+      rw w (part-fills d (take n xs) a n (omega (arith, length-take n xs)) fits)
+
+  pub fills-copy : {s : Bytes} {r : Bool} → length s ≡ n → Copied s (take (a + n - a) (drop a d)) r y → Filled d a s (putMid a (a + n - a) d y)
+  fills-copy {s} h k = rw (copied-whole k (h ∙ sym part-size)) (part-fills d s a n h fits)

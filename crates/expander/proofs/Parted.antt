@@ -1,0 +1,149 @@
+-- The meaning with one part of it changed: its buffers keep their lengths, and the other parts are as they were.
+use Prim.Native.Nat.{ℕ}
+use mathlib.Core.Path.{_≡_, refl, sym, _∙_}
+use mathlib.Core.List.{List}
+use native.Mathlib.Omega.{arith}
+use lib.ListN.{length}
+use Rattle.rules.specs.declared.Marks.{Marks}
+use Rattle.rules.specs.Bytes.{Bytes}
+use Rattle.rules.specs.Marks.{MarkTexts, markTexts}
+use Rattle.rules.specs.Source.{Source}
+use Rattle.rules.specs.Table.{Table}
+use Rattle.rules.specs.Streams.{Streams}
+use Rattle.rules.specs.State.{Call, State, withSource, withMarks, withCalls, withTable, withStreams, withWrap, withErrors}
+use Rattle.rules.specs.Run.{Setting}
+use Rattle.expander.specs.declared.calls.Calls.{Calls}
+use Rattle.expander.specs.declared.machine.Machine.{Machine}
+use Rattle.expander.specs.declared.sinks.Sinks.{Sinks}
+use Rattle.expander.specs.declared.source.Position.{Position}
+use Rattle.expander.specs.declared.table.Definitions.{Definitions}
+use Rattle.expander.specs.Source.{SourceIn}
+use Rattle.expander.specs.Calls.{CallsIn}
+use Rattle.expander.specs.Table.{TableIn}
+use Rattle.expander.specs.Tokens.{GoodMarks}
+use Rattle.expander.specs.Sinks.{SinksIn}
+use Rattle.expander.specs.Front.{Front}
+use Rattle.expander.specs.Machine.{memory, Means, sourceSet, marksSet, callsSet, tableSet, sinksSet, wrapSet, errorsSet}
+
+module _
+    {a : Setting} {text pending calls : Bytes} {callEnds stack : List ℕ} {definitions : Bytes} {tableEnds : List ℕ} {streams : Bytes} {owners : List ℕ}
+    {wrap errors output : Bytes} {m : Machine} {s : State}
+    (r : Means a (memory text pending calls callEnds stack definitions tableEnds streams owners wrap errors output) m s)
+  where
+    pub with-marks : {x : Marks} → GoodMarks x → Means a (memory text pending calls callEnds stack definitions tableEnds streams owners wrap errors output) (marksSet x m) (withMarks (markTexts x) s)
+    unfolding withMarks
+    with-marks g = record { source = r .source; marks = refl; marks-good = g; calls = r .calls; table = r .table; sinks = r .sinks; wrap = r .wrap; errors = r .errors; limits = r .limits }
+
+    pub with-source :
+        {pending′ : Bytes} {x : Position} {y : Source} → SourceIn text pending′ x y → length pending′ ≡ length pending
+        → Means a (memory text pending′ calls callEnds stack definitions tableEnds streams owners wrap errors output) (sourceSet x m) (withSource y s)
+    unfolding withSource
+    with-source h e-pending =
+        let q = r .limits in
+        record {
+          source = h;
+          marks = r .marks;
+          marks-good = r .marks-good;
+          calls = r .calls;
+          table = r .table;
+          sinks = r .sinks;
+          wrap = r .wrap;
+          errors = r .errors;
+          limits =
+              record { text = q .text; pending = q .pending ∙ sym e-pending; pending-most = omega (arith, e-pending, q .pending-most); calls = q .calls; calls-most = q .calls-most; definitions = q .definitions; definitions-most = q .definitions-most; streams = q .streams; streams-most = q .streams-most; wrap = q .wrap; wrap-most = q .wrap-most; errors = q .errors; errors-most = q .errors-most; output = q .output; output-most = q .output-most; call-ends = q .call-ends; stack = q .stack; table-ends = q .table-ends; owners = q .owners };
+        }
+
+    pub with-calls :
+        {calls′ : Bytes} {callEnds′ : List ℕ} {stack′ : List ℕ} {x : Calls} {y : List Call} → CallsIn calls′ callEnds′ stack′ x y → length calls′ ≡ length calls → length callEnds′ ≡ length callEnds → length stack′ ≡ length stack
+        → Means a (memory text pending calls′ callEnds′ stack′ definitions tableEnds streams owners wrap errors output) (callsSet x m) (withCalls y s)
+    unfolding withCalls
+    with-calls h e-calls e-callEnds e-stack =
+        let q = r .limits in
+        record {
+          source = r .source;
+          marks = r .marks;
+          marks-good = r .marks-good;
+          calls = h;
+          table = r .table;
+          sinks = r .sinks;
+          wrap = r .wrap;
+          errors = r .errors;
+          limits =
+              record { text = q .text; pending = q .pending; pending-most = q .pending-most; calls = q .calls ∙ sym e-calls; calls-most = omega (arith, e-calls, q .calls-most); definitions = q .definitions; definitions-most = q .definitions-most; streams = q .streams; streams-most = q .streams-most; wrap = q .wrap; wrap-most = q .wrap-most; errors = q .errors; errors-most = q .errors-most; output = q .output; output-most = q .output-most; call-ends = e-callEnds ∙ q .call-ends; stack = e-stack ∙ q .stack; table-ends = q .table-ends; owners = q .owners };
+        }
+
+    pub with-table :
+        {definitions′ : Bytes} {tableEnds′ : List ℕ} {x : Definitions} {y : Table} → TableIn definitions′ tableEnds′ (x .packed) (x .own) y → length definitions′ ≡ length definitions → length tableEnds′ ≡ length tableEnds
+        → Means a (memory text pending calls callEnds stack definitions′ tableEnds′ streams owners wrap errors output) (tableSet x m) (withTable y s)
+    unfolding withTable
+    with-table h e-definitions e-tableEnds =
+        let q = r .limits in
+        record {
+          source = r .source;
+          marks = r .marks;
+          marks-good = r .marks-good;
+          calls = r .calls;
+          table = h;
+          sinks = r .sinks;
+          wrap = r .wrap;
+          errors = r .errors;
+          limits =
+              record { text = q .text; pending = q .pending; pending-most = q .pending-most; calls = q .calls; calls-most = q .calls-most; definitions = q .definitions ∙ sym e-definitions; definitions-most = omega (arith, e-definitions, q .definitions-most); streams = q .streams; streams-most = q .streams-most; wrap = q .wrap; wrap-most = q .wrap-most; errors = q .errors; errors-most = q .errors-most; output = q .output; output-most = q .output-most; call-ends = q .call-ends; stack = q .stack; table-ends = e-tableEnds ∙ q .table-ends; owners = q .owners };
+        }
+
+    pub with-sinks :
+        {streams′ : Bytes} {owners′ : List ℕ} {output′ : Bytes} {x : Sinks} {y : Streams} → SinksIn streams′ owners′ output′ x y → length streams′ ≡ length streams → length owners′ ≡ length owners → length output′ ≡ length output
+        → Means a (memory text pending calls callEnds stack definitions tableEnds streams′ owners′ wrap errors output′) (sinksSet x m) (withStreams y s)
+    unfolding withStreams
+    with-sinks h e-streams e-owners e-output =
+        let q = r .limits in
+        record {
+          source = r .source;
+          marks = r .marks;
+          marks-good = r .marks-good;
+          calls = r .calls;
+          table = r .table;
+          sinks = h;
+          wrap = r .wrap;
+          errors = r .errors;
+          limits =
+              record { text = q .text; pending = q .pending; pending-most = q .pending-most; calls = q .calls; calls-most = q .calls-most; definitions = q .definitions; definitions-most = q .definitions-most; streams = q .streams ∙ sym e-streams; streams-most = omega (arith, e-streams, q .streams-most); wrap = q .wrap; wrap-most = q .wrap-most; errors = q .errors; errors-most = q .errors-most; output = q .output ∙ sym e-output; output-most = omega (arith, e-output, q .output-most); call-ends = q .call-ends; stack = q .stack; table-ends = q .table-ends; owners = e-owners ∙ q .owners };
+        }
+
+    pub with-wrap :
+        {wrap′ : Bytes} {x : ℕ} {y : Bytes} → Front wrap′ x y → length wrap′ ≡ length wrap
+        → Means a (memory text pending calls callEnds stack definitions tableEnds streams owners wrap′ errors output) (wrapSet x m) (withWrap y s)
+    unfolding withWrap
+    with-wrap h e-wrap =
+        let q = r .limits in
+        record {
+          source = r .source;
+          marks = r .marks;
+          marks-good = r .marks-good;
+          calls = r .calls;
+          table = r .table;
+          sinks = r .sinks;
+          wrap = h;
+          errors = r .errors;
+          limits =
+              record { text = q .text; pending = q .pending; pending-most = q .pending-most; calls = q .calls; calls-most = q .calls-most; definitions = q .definitions; definitions-most = q .definitions-most; streams = q .streams; streams-most = q .streams-most; wrap = q .wrap ∙ sym e-wrap; wrap-most = omega (arith, e-wrap, q .wrap-most); errors = q .errors; errors-most = q .errors-most; output = q .output; output-most = q .output-most; call-ends = q .call-ends; stack = q .stack; table-ends = q .table-ends; owners = q .owners };
+        }
+
+    pub with-errors :
+        {errors′ : Bytes} {x : ℕ} {y : Bytes} → Front errors′ x y → length errors′ ≡ length errors
+        → Means a (memory text pending calls callEnds stack definitions tableEnds streams owners wrap errors′ output) (errorsSet x m) (withErrors y s)
+    unfolding withErrors
+    with-errors h e-errors =
+        let q = r .limits in
+        record {
+          source = r .source;
+          marks = r .marks;
+          marks-good = r .marks-good;
+          calls = r .calls;
+          table = r .table;
+          sinks = r .sinks;
+          wrap = r .wrap;
+          errors = h;
+          limits =
+              record { text = q .text; pending = q .pending; pending-most = q .pending-most; calls = q .calls; calls-most = q .calls-most; definitions = q .definitions; definitions-most = q .definitions-most; streams = q .streams; streams-most = q .streams-most; wrap = q .wrap; wrap-most = q .wrap-most; errors = q .errors ∙ sym e-errors; errors-most = omega (arith, e-errors, q .errors-most); output = q .output; output-most = q .output-most; call-ends = q .call-ends; stack = q .stack; table-ends = q .table-ends; owners = q .owners };
+        }

@@ -1,0 +1,174 @@
+-- Laws of definitions and of the strings that they are. Assumes nothing.
+use Prim.Native.Nat.{ℕ, zero, suc, _+_, _-_, _*_, _/_, _≤_, _<_}
+use native.Mathlib.Nat.{le-of-suc-le-suc, not-suc-le-zero}
+use native.Mathlib.Omega.{arith}
+use mathlib.Core.Path.{_≡_, refl, sym, ap, _∙_}
+use mathlib.Core.Bool.{Bool, true, false}
+use mathlib.Core.List.{List, [], _∷_, _++_}
+use mathlib.Core.Option.{Option, none, some}
+use lib.Dec.{lit<}
+use lib.ListN.{length, take, getD, length-take}
+use lib.Seq.{take-all, take-suc}
+use Rattle.rules.specs.Bytes.{Bytes, sameBytes}
+use Rattle.rules.specs.Streams.{joined}
+use Rattle.rules.specs.Table.{Meaning, text, Definition, Table, freshTable, ownMeaning, newestPlace, meaningAt, meaningOf}
+use Rattle.expander.specs.Packed.{endsFrom}
+use Rattle.expander.specs.Table.{meaningText, rows, Plain, DefinitionsIn, SoundDefinitions, TableIn, placeOf, meaningFor, textEnd, Finds}
+use Rattle.expander.specs.declared.packed.Packed.{Packed}
+use Rattle.expander.specs.declared.table.Found.the-variants as found
+use Rattle.expander.specs.declared.table.Meaning.{Meaning as Looked}
+use Rattle.expander.specs.declared.table.Meaning.the-variants as looked
+use Rattle.expander.proofs.Packing.{count-is}
+
+-- what stands past the end
+unfoldable pub blank : Definition
+blank = record { name = []; meaning = text [] }
+
+pub length-rows : (ds : List Definition) → length (rows ds) ≡ 2 * length ds
+unfolding rows
+length-rows [] = refl
+length-rows (d ∷ ds) = omega (arith, length-rows ds)
+
+pub name-at : (ds : List Definition) (i : ℕ) → getD (rows ds) (2 * i) [] ≡ (getD ds i blank) .name
+unfolding rows blank
+name-at [] i = refl
+name-at (d ∷ ds) zero = refl
+name-at (d ∷ ds) (suc i) =
+    let e : 2 * suc i ≡ suc (suc (2 * i)) = omega arith in
+    rw e (name-at ds i)
+
+pub text-at : (ds : List Definition) (i : ℕ) → getD (rows ds) (2 * i + 1) [] ≡ meaningText ((getD ds i blank) .meaning)
+unfolding rows blank meaningText
+text-at [] i = refl
+text-at (d ∷ ds) zero = refl
+text-at (d ∷ ds) (suc i) =
+    let e : 2 * suc i + 1 ≡ suc (suc (2 * i + 1)) = omega arith in
+    rw e (text-at ds i)
+
+-- every definition has a name and a text
+pub record PlainAt (d : Definition) : Type 0 where
+  pub named : 0 < length (d .name)
+  pub means : d .meaning ≡ text (meaningText (d .meaning))
+
+pub plain-at : (ds : List Definition) (i : ℕ) → Plain ds → i < length ds → PlainAt (getD ds i blank)
+unfolding Plain
+plain-at [] i p h = absurd (not-suc-le-zero h)
+plain-at (d ∷ ds) zero p h = record { named = p .0; means = p .1 }
+plain-at (d ∷ ds) (suc i) p h = plain-at ds i (p .2) (le-of-suc-le-suc h)
+
+pub meaning-at : (ds : List Definition) (i : ℕ) → i < length ds → meaningAt i ds ≡ some ((getD ds i blank) .meaning)
+unfolding meaningAt
+meaning-at [] i h = absurd (not-suc-le-zero h)
+meaning-at (d ∷ ds) zero h = refl
+meaning-at (d ∷ ds) (suc i) h = meaning-at ds i (le-of-suc-le-suc h)
+
+-- the newest definition of a name
+module _ (w : Bytes) where
+  newest-snoc : (ds : List Definition) (d : Definition)
+      → newestPlace w (ds ++ (d ∷ [])) ≡ elim (sameBytes w (d .name)) [ true ↦ some (length ds) | false ↦ newestPlace w ds ]
+  unfolding newestPlace
+  newest-snoc [] d = refl
+  newest-snoc (e ∷ ds) d = rw (newest-snoc ds d, newestPlace) (go (sameBytes w (d .name)))
+    where
+      go : (t : Bool)
+          → _≡_ {A = Option ℕ}
+          (elim (elim t as (λ _. Option ℕ) [ true ↦ some (length ds) | false ↦ newestPlace w ds ])
+          [ some i ↦ some (suc i) | none ↦ elim (sameBytes w (e .name)) [ true ↦ some 0 | false ↦ none ] ])
+          (elim t [ true ↦ some (suc (length ds)) | false ↦ newestPlace w (e ∷ ds) ])
+      go true = refl
+      go false = refl
+
+  pub newest-in : (ds : List Definition) (i : ℕ) → newestPlace w ds ≡ some i → i < length ds
+  unfolding newestPlace
+  newest-in [] i e = absurd (let z : _≡_ {A = ℕ} 0 1 = cc in omega arith)
+  newest-in (d ∷ ds) i e = go (newestPlace w ds) (newest-in ds) (sameBytes w (d .name)) e
+    where
+      go : (o : Option ℕ) → ((j : ℕ) → o ≡ some j → j < length ds) → (t : Bool)
+          → _≡_ {A = Option ℕ} (elim o [ some j ↦ some (suc j) | none ↦ elim t [ true ↦ some 0 | false ↦ none ] ]) (some i) → i < suc (length ds)
+      go (some j) f t e =
+          let s : suc j ≡ i = cc in
+          omega (arith, f j refl)
+      go none f true e =
+          let s : 0 ≡ i = cc in
+          omega arith
+      go none f false e = absurd (let z : _≡_ {A = ℕ} 0 1 = cc in omega arith)
+
+  -- the definition at place i is of the name, or not
+  newest-turn : (ds : List Definition) (i : ℕ) → i < length ds
+      → newestPlace w (take (suc i) ds) ≡ elim (sameBytes w ((getD ds i blank) .name)) [ true ↦ some i | false ↦ newestPlace w (take i ds) ]
+  newest-turn ds i h =
+      ap (newestPlace w) (take-suc ds i blank h)
+      ∙ newest-snoc (take i ds) (getD ds i blank)
+      ∙ ap (λ (n : ℕ). elim (sameBytes w ((getD ds i blank) .name)) as (λ _. Option ℕ) [ true ↦ some n | false ↦ newestPlace w (take i ds) ]) (omega (arith, length-take i ds))
+
+module _ {bytes : Bytes} {ends : List ℕ} {p : Packed} {ds : List Definition} (h : DefinitionsIn bytes ends p ds) where
+  pub sound : SoundDefinitions bytes ends p
+  sound = record { definitions = ds; holds = h }
+
+  pub string-count : 2 * length ds ≡ p .count
+  string-count = sym (length-rows ds) ∙ count-is (h .packs)
+
+  -- a search has come down to place i: what is newest is among the first i definitions
+  module _ (w : Bytes) (i : ℕ) (e : newestPlace w ds ≡ newestPlace w (take i ds)) where
+    search-turn : {t : Bool} → 0 < i → i ≤ p .count / 2 → t ≡ sameBytes w (getD (rows ds) (2 * (i - 1)) [])
+        → newestPlace w ds ≡ elim t as (λ _. Option ℕ) [ true ↦ some (i - 1) | false ↦ newestPlace w (take (i - 1) ds) ]
+    search-turn pos le f =
+        let n : i ≡ suc (i - 1) = omega arith in
+        e ∙ ap (λ (k : ℕ). newestPlace w (take k ds)) n ∙ newest-turn w ds (i - 1) (omega (arith, string-count)) ∙ rw (sym (name-at ds (i - 1)), sym f)
+
+    pub search-found : {t : Bool} → 0 < i → i ≤ p .count / 2 → t ≡ sameBytes w (getD (rows ds) (2 * (i - 1)) []) → t ≡ true → newestPlace w ds ≡ placeOf (found.At (i - 1))
+    unfolding placeOf
+    search-found pos le f b = search-turn pos le f ∙ rw b
+
+    pub search-on : {t : Bool} → 0 < i → i ≤ p .count / 2 → t ≡ sameBytes w (getD (rows ds) (2 * (i - 1)) []) → t ≡ false → newestPlace w ds ≡ newestPlace w (take (i - 1) ds)
+    search-on pos le f b = search-turn pos le f ∙ rw b
+
+    pub search-ended : i ≡ 0 → newestPlace w ds ≡ placeOf found.Nowhere
+    unfolding placeOf newestPlace
+    search-ended z = e ∙ ap (λ (k : ℕ). newestPlace w (take k ds)) z
+
+  pub search-begins : (w : Bytes) → newestPlace w ds ≡ newestPlace w (take (p .count / 2) ds)
+  search-begins w = ap (newestPlace w) (sym (take-all (p .count / 2) ds (omega (arith, string-count))))
+
+-- what a name means, from where its newest definition is
+module _ {bytes : Bytes} {ends : List ℕ} {p : Packed} {own : ℕ} {t : Table} (h : TableIn bytes ends p own t) (w : Bytes) where
+  pub means-text : (i : ℕ) → newestPlace w (t .definitions) ≡ placeOf (found.At i) → Finds (t .definitions) (meaningOf w t) (looked.Text i)
+  unfolding placeOf meaningOf meaningFor textEnd
+  means-text i e =
+      let ds = t .definitions in
+      let lt = newest-in w ds i e in
+      record {
+        is = rw (e, meaningOf) (meaning-at ds i lt ∙ ap some (plain-at ds i (h .holds .plain) lt .means ∙ ap text (sym (text-at ds i))));
+        within = omega (arith, length-rows ds);
+      }
+
+  pub means-own : {r : Looked} → newestPlace w (t .definitions) ≡ placeOf found.Nowhere → ((ds : List Definition) → Finds ds (ownMeaning w own) r)
+      → Finds (t .definitions) (meaningOf w t) r
+  unfolding placeOf meaningOf
+  means-own e f =
+      let g = f (t .definitions) in
+      record { is = rw (e, meaningOf, h .own-is) (g .is); within = g .within }
+
+-- what a text that was found is, and that it is there
+pub finds-text : {ds : List Definition} {m : Option Meaning} {i : ℕ} → Finds ds m (looked.Text i) → m ≡ some (text (getD (rows ds) (2 * i + 1) []))
+unfolding meaningFor
+finds-text h = h .is
+
+pub finds-within : {bytes : Bytes} {ends : List ℕ} {p : Packed} {ds : List Definition} → DefinitionsIn bytes ends p ds → {m : Option Meaning} {i : ℕ} → Finds ds m (looked.Text i)
+    → 2 * i + 1 < p .count
+unfolding textEnd
+finds-within {ds = ds} d h = omega (arith, h .within, length-rows ds, string-count d)
+
+-- a run begins with no definition and with every predefined name's own meaning
+pub fresh-in : (bytes : Bytes) (ends : List ℕ) → length bytes ≤ 65536 → length ends ≡ 131072 → TableIn bytes ends (record { count = 0; used = 0 }) 16777215 freshTable
+unfolding freshTable rows Plain endsFrom joined
+fresh-in bytes ends hb he = record {
+  holds = record {
+    packs = record { ends-are = refl; bytes-are = refl; count-in = omega arith; used-in = omega arith };
+    plain = tt;
+    bytes-most = hb;
+    ends-are = he;
+  };
+  own-is = refl;
+  own-few = lit< tt;
+}

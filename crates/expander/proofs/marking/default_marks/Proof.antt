@@ -1,0 +1,14 @@
+use mathlib.Core.Path.{refl}
+use Rattle.rules.specs.Marks.{markTexts, markText, defaultMarks}
+use borrow.Author.Needs.{needs}
+use Rattle.expander.proofs.marking.default_marks.Statement.{statement}
+use Rattle.expander.proofs.marking.default_marks.Tie as tie
+use Rattle.expander.proofs.marking.default_marks.Reads as reads
+use Rattle.expander.proofs.marking.default_marks.Lts as lts
+
+returns : tie.Need-returns
+unfolding markTexts markText defaultMarks
+returns c = (refl, search needs)
+
+pub default-marks-spec : {M : Type 1} → statement M
+default-marks-spec = tie.close (tie.spec returns)

@@ -1,0 +1,23 @@
+use mathlib.Core.Path.{sym, _∙_}
+use Rattle.expander.proofs.MarkLaws.{mark-empty, mark-long, mark-tested}
+use borrow.Author.Needs.{needs}
+use Rattle.expander.proofs.marking.is_mark.Statement.{statement}
+use Rattle.expander.proofs.marking.is_mark.Tie as tie
+use Rattle.expander.proofs.marking.is_mark.Reads as reads
+use Rattle.expander.proofs.marking.is_mark.Lts as lts
+use Rattle.expander.proofs.marking.none_barred.Reads as none-barred-reads
+
+returns : tie.Need-returns
+returns c = mark-empty _ (c .if1 .taken)
+
+returns-2 : tie.Need-returns-2
+returns-2 c = mark-long _ (c .if2 .taken)
+
+none-barred-requires : tie.Need-none-barred-requires
+none-barred-requires c κs = search needs
+
+returns-3 : tie.Need-returns-3
+returns-3 c = c .none-barred .ensures ∙ sym (mark-tested _ (c .before .before .if1 .left) (c .before .if2 .left))
+
+pub is-mark-spec : {M : Type 1} → statement M
+is-mark-spec = tie.close (tie.spec returns returns-2 none-barred-requires returns-3)

@@ -1,0 +1,14 @@
+use mathlib.Core.Path.{refl}
+use Rattle.rules.specs.Marks.{markTexts, withComments}
+use borrow.Author.Needs.{needs}
+use Rattle.expander.proofs.marking.with_comments.Statement.{statement}
+use Rattle.expander.proofs.marking.with_comments.Tie as tie
+use Rattle.expander.proofs.marking.with_comments.Reads as reads
+use Rattle.expander.proofs.marking.with_comments.Lts as lts
+
+returns : tie.Need-returns
+unfolding markTexts withComments
+returns c = (refl, λ g x y. record { beginQuote = g .beginQuote; endQuote = g .endQuote; beginComment = x; endComment = y })
+
+pub with-comments-spec : {M : Type 1} → statement M
+with-comments-spec = tie.close (tie.spec returns)

@@ -1,0 +1,14 @@
+use mathlib.Core.Path.{refl}
+use Rattle.rules.specs.Marks.{markTexts, withQuotes}
+use borrow.Author.Needs.{needs}
+use Rattle.expander.proofs.marking.with_quotes.Statement.{statement}
+use Rattle.expander.proofs.marking.with_quotes.Tie as tie
+use Rattle.expander.proofs.marking.with_quotes.Reads as reads
+use Rattle.expander.proofs.marking.with_quotes.Lts as lts
+
+returns : tie.Need-returns
+unfolding markTexts withQuotes
+returns c = (refl, λ g x y. record { beginQuote = x; endQuote = y; beginComment = g .beginComment; endComment = g .endComment })
+
+pub with-quotes-spec : {M : Type 1} → statement M
+with-quotes-spec = tie.close (tie.spec returns)

@@ -1,0 +1,22 @@
+-- `expander::table::keeps_own` meets its contract. Assumes nothing.
+use mathlib.Core.Path.{refl}
+use Rattle.rules.specs.Table.{keepsOwn}
+use borrow.Author.Needs.{needs}
+use Rattle.expander.proofs.table.keeps_own.Statement.{statement}
+use Rattle.expander.proofs.table.keeps_own.Tie as tie
+
+sub-bit : tie.Need-sub-bit
+sub-bit c = search needs
+
+cast-result : tie.Need-cast-result
+cast-result c = search needs
+
+shr-result : tie.Need-shr-result
+shr-result c = search needs
+
+returns : tie.Need-returns
+unfolding keepsOwn
+returns c = refl
+
+pub keeps-own-spec : {M : Type 1} → statement M
+keeps-own-spec = tie.close (tie.spec sub-bit cast-result shr-result returns)

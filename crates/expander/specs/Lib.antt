@@ -1,0 +1,13 @@
+-- What the buffers, the links and the by-value state mean.
+pub mod Ahead
+pub mod Calls
+pub mod Filled
+pub mod Front
+pub mod Machine
+pub mod Packed
+pub mod Sinks
+pub mod Source
+pub mod Streams
+pub mod Table
+pub mod Tokens
+pub mod Verdict

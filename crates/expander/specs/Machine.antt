@@ -1,0 +1,135 @@
+-- What the buffers, the links and the by-value machine mean: one state. And what a step has to give.
+use Prim.Native.Nat.{ℕ, _≤_}
+use mathlib.Core.Path.{_≡_}
+use mathlib.Core.List.{List}
+use lib.ListN.{length}
+use Rattle.rules.specs.Bytes.{Bytes}
+use Rattle.rules.specs.Marks.{markTexts}
+use Rattle.rules.specs.State.{State, Outcome}
+use Rattle.rules.specs.Run.{Setting, lengths}
+use Rattle.rules.specs.declared.Marks.{Marks}
+use Rattle.expander.specs.declared.calls.Calls.{Calls}
+use Rattle.expander.specs.declared.machine.Machine.{Machine}
+use Rattle.expander.specs.declared.sinks.Sinks.{Sinks}
+use Rattle.expander.specs.declared.source.Position.{Position}
+use Rattle.expander.specs.declared.table.Definitions.{Definitions}
+use Rattle.expander.specs.declared.machine.Turn.{Turn}
+use Rattle.expander.specs.declared.machine.Went.the-variants as went
+use Rattle.expander.specs.Source.{SourceIn}
+use Rattle.expander.specs.Calls.{CallsIn}
+use Rattle.expander.specs.Table.{TableIn}
+use Rattle.expander.specs.Tokens.{GoodMarks}
+use Rattle.expander.specs.Sinks.{SinksIn}
+use Rattle.expander.specs.Front.{Front}
+use Rattle.expander.specs.Verdict.{Verdict, going, over, denied, verdict}
+
+-- the lent buffers, and the links and texts beside them that belong to the run. `errors` and `output` are the run's own, as long as the
+-- lent ones, which are written only when the run has finished
+pub record Memory : Type 0 where
+  pub text : Bytes
+  pub pending : Bytes
+  pub calls : Bytes
+  pub callEnds : List ℕ
+  pub stack : List ℕ
+  pub definitions : Bytes
+  pub tableEnds : List ℕ
+  pub streams : Bytes
+  pub owners : List ℕ
+  pub wrap : Bytes
+  pub errors : Bytes
+  pub output : Bytes
+
+abbrev pub memory :
+    Bytes → Bytes → Bytes → List ℕ → List ℕ → Bytes → List ℕ → Bytes → List ℕ → Bytes → Bytes → Bytes → Memory
+memory text pending calls callEnds stack definitions tableEnds streams owners wrap errors output =
+    record {
+      text = text;
+      pending = pending;
+      calls = calls;
+      callEnds = callEnds;
+      stack = stack;
+      definitions = definitions;
+      tableEnds = tableEnds;
+      streams = streams;
+      owners = owners;
+      wrap = wrap;
+      errors = errors;
+      output = output;
+    }
+
+-- how much is lent, and how long the links are
+pub record Limits (a : Setting) (b : Memory) : Type 0 where
+  pub text : length (b .text) ≤ 65536
+  pub pending : a .pending ≡ length (b .pending)
+  pub pending-most : length (b .pending) ≤ 65536
+  pub calls : a .calls ≡ length (b .calls)
+  pub calls-most : length (b .calls) ≤ 65536
+  pub definitions : a .definitions ≡ length (b .definitions)
+  pub definitions-most : length (b .definitions) ≤ 65536
+  pub streams : a .streams ≡ length (b .streams)
+  pub streams-most : length (b .streams) ≤ 65536
+  pub wrap : a .wrap ≡ length (b .wrap)
+  pub wrap-most : length (b .wrap) ≤ 65536
+  pub errors : a .errors ≡ length (b .errors)
+  pub errors-most : length (b .errors) ≤ 65536
+  pub output : a .output ≡ length (b .output)
+  pub output-most : length (b .output) ≤ 65536
+  pub call-ends : length (b .callEnds) ≡ 320
+  pub stack : length (b .stack) ≡ 192
+  pub table-ends : length (b .tableEnds) ≡ 131072
+  pub owners : length (b .owners) ≡ 65536
+
+pub record Means (a : Setting) (b : Memory) (m : Machine) (s : State) : Type 0 where
+  pub source : SourceIn (b .text) (b .pending) (m .source) (s .source)
+  pub marks : s .marks ≡ markTexts (m .marks)
+  pub marks-good : GoodMarks (m .marks)
+  pub calls : CallsIn (b .calls) (b .callEnds) (b .stack) (m .calls) (s .calls)
+  pub table : TableIn (b .definitions) (b .tableEnds) (m .table .packed) (m .table .own) (s .table)
+  pub sinks : SinksIn (b .streams) (b .owners) (b .output) (m .sinks) (s .streams)
+  pub wrap : Front (b .wrap) (m .wrap) (s .wrap)
+  pub errors : Front (b .errors) (m .errors) (s .errors)
+  pub limits : Limits a b
+
+-- the machine with one part replaced
+abbrev pub marksSet : Marks → Machine → Machine
+marksSet x m =
+    record { marks = x; source = m .source; calls = m .calls; table = m .table; sinks = m .sinks; wrap = m .wrap; errors = m .errors }
+
+abbrev pub sourceSet : Position → Machine → Machine
+sourceSet x m =
+    record { marks = m .marks; source = x; calls = m .calls; table = m .table; sinks = m .sinks; wrap = m .wrap; errors = m .errors }
+
+abbrev pub callsSet : Calls → Machine → Machine
+callsSet x m =
+    record { marks = m .marks; source = m .source; calls = x; table = m .table; sinks = m .sinks; wrap = m .wrap; errors = m .errors }
+
+abbrev pub tableSet : Definitions → Machine → Machine
+tableSet x m =
+    record { marks = m .marks; source = m .source; calls = m .calls; table = x; sinks = m .sinks; wrap = m .wrap; errors = m .errors }
+
+abbrev pub sinksSet : Sinks → Machine → Machine
+sinksSet x m =
+    record { marks = m .marks; source = m .source; calls = m .calls; table = m .table; sinks = x; wrap = m .wrap; errors = m .errors }
+
+abbrev pub wrapSet : ℕ → Machine → Machine
+wrapSet x m =
+    record { marks = m .marks; source = m .source; calls = m .calls; table = m .table; sinks = m .sinks; wrap = x; errors = m .errors }
+
+abbrev pub errorsSet : ℕ → Machine → Machine
+errorsSet x m =
+    record { marks = m .marks; source = m .source; calls = m .calls; table = m .table; sinks = m .sinks; wrap = m .wrap; errors = x }
+
+-- some state is meant: what a function of the step asks
+pub record Sound (b : Memory) (m : Machine) : Type 0 where
+  pub setting : Setting
+  pub state : State
+  pub means : Means setting b m state
+
+-- what a function leaves whose outcome is o, once room is judged
+unfoldable pub Came : Setting → Memory → Turn → Verdict → Type 0
+Came a b t (going s) = (t .went ≡ went.On) × Means a b (t .machine) s
+Came a b t (over x s) = (t .went ≡ went.Ended x) × Means a b (t .machine) s
+Came a b t (denied x) = t .went ≡ went.Refused x
+
+pub record Gives (a : Setting) (o : Outcome) (b : Memory) (t : Turn) : Type 0 where
+  pub came : Came a b t (verdict (lengths a) o)

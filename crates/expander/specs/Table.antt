@@ -1,0 +1,101 @@
+-- The definitions in force, as packed strings, and what looking one up answers.
+use Prim.Native.Nat.{ℕ, zero, suc, _+_, _-_, _*_, _^_, _≤_, _<_}
+use mathlib.Core.Bool.{true, false}
+use mathlib.Core.Path.{_≡_}
+use mathlib.Core.List.{List, [], _∷_, _++_}
+use mathlib.Core.Option.{Option, none, some}
+use lib.ListN.{length, take, drop, getD}
+use Rattle.rules.specs.Bytes.{Bytes, sameBytes}
+use Rattle.rules.specs.Table.{Meaning, text, predefined, Definition, Table, numberFrom, predefinedNumber}
+use Rattle.expander.specs.Packed.{Packs}
+use Rattle.expander.specs.declared.packed.Packed.{Packed}
+use Rattle.expander.specs.declared.table.Found.{Found}
+use Rattle.expander.specs.declared.table.Found.the-variants as found
+use Rattle.expander.specs.declared.table.Meaning.{Meaning as Looked}
+use Rattle.expander.specs.declared.table.Meaning.the-variants as looked
+
+-- the number of a predefined name as a byte: 0 where it has none
+unfoldable pub numbered : ℕ → Option ℕ
+numbered zero = none
+numbered (suc k) = some (suc k)
+
+-- r is the number of a name among names that are numbered from k
+pub record NumberAmong (k : ℕ) (w : Bytes) (names : List Bytes) (r : ℕ) : Type 0 where
+  pub is : numberFrom k w names ≡ numbered r
+  pub most : r ≤ 24
+
+-- r is the number of a name among the predefined ones
+pub record HasNumber (w : Bytes) (r : ℕ) : Type 0 where
+  pub is : predefinedNumber w ≡ numbered r
+  pub most : r ≤ 24
+
+-- the text of a meaning; a predefined one has none
+unfoldable pub meaningText : Meaning → Bytes
+meaningText (text x) = x
+meaningText (predefined k) = []
+
+-- name and text by turns, in order of arrival
+unfoldable pub rows : List Definition → List Bytes
+rows [] = []
+rows (d ∷ ds) = d .name ∷ (meaningText (d .meaning) ∷ rows ds)
+
+-- every name has a byte at least, and every meaning is a text (for now)
+unfoldable pub Plain : List Definition → Type 0
+Plain [] = Unit {0}
+Plain (d ∷ ds) = (0 < length (d .name)) × (d .meaning ≡ text (meaningText (d .meaning))) × Plain ds
+
+-- buffer 3 and the ends beside it hold the definitions
+pub record DefinitionsIn (bytes : Bytes) (ends : List ℕ) (p : Packed) (ds : List Definition) : Type 0 where
+  pub packs : Packs ends (p .count) bytes (p .used) (rows ds)
+  pub plain : Plain ds
+  pub bytes-most : length bytes ≤ 65536
+  pub ends-are : length ends ≡ 131072
+
+-- they hold some: what functions ask
+pub record SoundDefinitions (bytes : Bytes) (ends : List ℕ) (p : Packed) : Type 0 where
+  pub definitions : List Definition
+  pub holds : DefinitionsIn bytes ends p definitions
+
+-- with the mask `own` they are a table
+pub record TableIn (bytes : Bytes) (ends : List ℕ) (p : Packed) (own : ℕ) (t : Table) : Type 0 where
+  pub holds : DefinitionsIn bytes ends p (t .definitions)
+  pub own-is : t .own ≡ own
+  pub own-few : own < 2 ^ 24
+
+-- the place that a search found
+unfoldable pub placeOf : Found → Option ℕ
+placeOf (found.At i) = some i
+placeOf found.Nowhere = none
+
+-- the meaning that looking a name up answers, over the strings of the definitions
+unfoldable pub meaningFor : List Bytes → Looked → Option Meaning
+meaningFor ss (looked.Text i) = some (text (getD ss (2 * i + 1) []))
+meaningFor ss (looked.Predefined k) = some (predefined k)
+meaningFor ss looked.Undefined = none
+
+-- how many strings there are up to the text that it answers
+unfoldable pub textEnd : Looked → ℕ
+textEnd (looked.Text i) = 2 * i + 2
+textEnd (looked.Predefined k) = 0
+textEnd looked.Undefined = 0
+
+-- what looking a name up answers is its meaning m
+pub record Finds (ds : List Definition) (m : Option Meaning) (r : Looked) : Type 0 where
+  pub is : m ≡ meaningFor (rows ds) r
+  pub within : textEnd r ≤ length (rows ds)
+
+-- a definition's name and text, unless the name is w
+unfoldable pub unlessNamed : Bytes → Bytes → Bytes → List Bytes
+unlessNamed w x y = elim (sameBytes w x) [ true ↦ [] | false ↦ x ∷ y ∷ [] ]
+
+-- a definition that a pass comes to, with its name from `from` up to `middle` and its text up to `end`, is put behind those kept, unless
+-- it is of the name w; what stands behind it is as it was
+pub record Sifted (w bytes : Bytes) (ends : List ℕ) (kept : Packed) (from middle end : ℕ) (bytes′ : Bytes) (ends′ : List ℕ) (r : Packed) : Type 0 where
+  pub packs :
+      (ss : List Bytes) → Packs ends (kept .count) bytes (kept .used) ss
+      → Packs ends′ (r .count) bytes′ (r .used)
+      (ss ++ unlessNamed w (take (middle - from) (drop from bytes)) (take (end - middle) (drop middle bytes)))
+  pub bytes-behind : drop end bytes′ ≡ drop end bytes
+  pub ends-behind : drop (kept .count + 2) ends′ ≡ drop (kept .count + 2) ends
+  pub count-most : r .count ≤ kept .count + 2
+  pub used-most : r .used ≤ end

@@ -1,0 +1,122 @@
+// The open calls: their names and arguments are packed strings of buffer 2, outermost call first; the last string is what is being
+// collected. `stack` has three words for each call: the number of its first string, its depth of parentheses, whether it collected.
+use crate::packed;
+use crate::packed::Packed;
+ghost use mathlib.Core.Path.{_≡_};
+ghost use mathlib.Core.List.{List, _∷_};
+ghost use Prim.Native.Nat.{ℕ, suc, _+_, _-_, _≤_, _<_};
+ghost use lib.ListN.{length};
+ghost use Rattle.rules.specs.Bytes.{Bytes};
+ghost use Rattle.rules.specs.State.{Call};
+ghost use Rattle.rules.specs.Step.{openCall, collecting, nextArgument};
+ghost use Rattle.expander.specs.Calls.{CallsIn, SomeCalls, openStrings, bit};
+ghost use Rattle.expander.specs.Filled.{Filled};
+
+pub struct Calls {
+    pub strings: Packed,
+    pub opens: usize,
+}
+
+// A call is opened whose name, n bytes, was written behind the strings.
+pub(crate) fn opened(ends: &mut [u32], stack: &mut [u32], x: Calls, n: usize) -> Calls
+    requires { ⌜ SomeCalls (now ends) (now stack) x × (x .opens < 64) × (x .strings .count < x .opens + 256) × (n ≤ 65536) ⌝ }
+    ensures { λ r. ⌜ ((bytes after name : Bytes) (cs : List Call) → CallsIn bytes (now (ends .entry)) (now (stack .entry)) x cs → length name ≡ n → Filled bytes (x .strings .used) name after → CallsIn after (now (ends .exit)) (now (stack .exit)) r (openCall name ∷ cs)) ⌝ }
+{
+    let count = x.strings.count;
+    let opens = x.opens;
+    let used = x.strings.used + n;
+    ends[count] = used as u32;
+    ends[count + 1] = used as u32;
+    let top = 3 * opens;
+    stack[top] = count as u32;
+    stack[top + 1] = 0;
+    stack[top + 2] = 0;
+    let strings = Packed {
+        count: count + 2,
+        used,
+    };
+    Calls {
+        strings,
+        opens: opens + 1,
+    }
+}
+
+// n bytes that were written behind the strings belong to the argument being collected, whose depth is now `depth`.
+pub(crate) fn collected(
+    ends: &mut [u32],
+    stack: &mut [u32],
+    x: Calls,
+    n: usize,
+    depth: u32,
+) -> Calls
+    requires { ⌜ SomeCalls (now ends) (now stack) x × (0 < x .opens) × (n ≤ 65536) ⌝ }
+    ensures { λ r. ⌜ ((bytes after w : Bytes) (c : Call) (cs : List Call) → CallsIn bytes (now (ends .entry)) (now (stack .entry)) x (c ∷ cs) → length w ≡ n → Filled bytes (x .strings .used) w after → depth ≤ length (c .current) + n → CallsIn after (now (ends .exit)) (now (stack .exit)) r (collecting w depth c ∷ cs)) ⌝ }
+{
+    let count = x.strings.count;
+    let opens = x.opens;
+    let used = x.strings.used + n;
+    ends[count - 1] = used as u32;
+    let top = 3 * (opens - 1);
+    stack[top + 1] = depth;
+    stack[top + 2] = 1;
+    let strings = Packed { count, used };
+    Calls { strings, opens }
+}
+
+// The next argument begins.
+pub(crate) fn separated(ends: &mut [u32], stack: &mut [u32], x: Calls) -> Calls
+    requires { ⌜ SomeCalls (now ends) (now stack) x × (0 < x .opens) × (x .strings .count < x .opens + 256) ⌝ }
+    ensures { λ r. ⌜ ((bytes : Bytes) (c : Call) (cs : List Call) → CallsIn bytes (now (ends .entry)) (now (stack .entry)) x (c ∷ cs) → CallsIn bytes (now (ends .exit)) (now (stack .exit)) r (nextArgument c ∷ cs)) ⌝ }
+{
+    let count = x.strings.count;
+    let used = x.strings.used;
+    let opens = x.opens;
+    ends[count] = used as u32;
+    let top = 3 * (opens - 1);
+    stack[top + 1] = 0;
+    stack[top + 2] = 0;
+    let strings = Packed {
+        count: count + 1,
+        used,
+    };
+    Calls { strings, opens }
+}
+
+// The number of the innermost call's first string, its name.
+pub(crate) fn first_string(stack: &[u32], x: Calls) -> usize
+    requires { ⌜ (0 < x .opens) × (x .opens ≤ 64) × (length (now stack) ≡ 192) ⌝ }
+    ensures { λ r. ⌜ ((bytes : Bytes) (ends : List ℕ) (c : Call) (cs : List Call) → CallsIn bytes ends (now (stack .entry)) x (c ∷ cs) → r ≡ length (openStrings cs)) ⌝ }
+{
+    let top = 3 * (x.opens - 1);
+    stack[top] as usize
+}
+
+pub(crate) fn depth(stack: &[u32], x: Calls) -> u32
+    requires { ⌜ (0 < x .opens) × (x .opens ≤ 64) × (length (now stack) ≡ 192) ⌝ }
+    ensures { λ r. ⌜ ((bytes : Bytes) (ends : List ℕ) (c : Call) (cs : List Call) → CallsIn bytes ends (now (stack .entry)) x (c ∷ cs) → r ≡ c .depth) ⌝ }
+{
+    let top = 3 * (x.opens - 1);
+    stack[top + 1]
+}
+
+// 1 where the argument collected a token, else 0.
+pub(crate) fn has_collected(stack: &[u32], x: Calls) -> u32
+    requires { ⌜ (0 < x .opens) × (x .opens ≤ 64) × (length (now stack) ≡ 192) ⌝ }
+    ensures { λ r. ⌜ ((bytes : Bytes) (ends : List ℕ) (c : Call) (cs : List Call) → CallsIn bytes ends (now (stack .entry)) x (c ∷ cs) → r ≡ bit (c .collected)) ⌝ }
+{
+    let top = 3 * (x.opens - 1);
+    stack[top + 2]
+}
+
+// The innermost call is closed: its strings, from `first` on, go.
+pub(crate) fn closed(ends: &[u32], x: Calls, first: usize) -> Calls
+    requires { ⌜ (0 < x .opens) × (first ≤ length (now ends)) ⌝ }
+    ensures { λ r. ⌜ ((bytes : Bytes) (stack : List ℕ) (c : Call) (cs : List Call) → CallsIn bytes (now (ends .entry)) stack x (c ∷ cs) → first ≡ length (openStrings cs) → CallsIn bytes (now (ends .entry)) stack r cs) ⌝ }
+{
+    let used = packed::start(ends, first);
+    let strings = Packed { count: first, used };
+    Calls {
+        strings,
+        opens: x.opens - 1,
+    }
+}

@@ -1,0 +1,237 @@
+// Byte strings packed one after the other from the front of a lent buffer, the end of each in `ends` beside it.
+ghost use mathlib.Core.Path.{_≡_};
+ghost use mathlib.Core.List.{List, [], _∷_, _++_, map};
+ghost use Prim.Native.Nat.{ℕ, _+_, _-_, _^_, _≤_, _<_};
+ghost use lib.ListN.{length, take, drop, getD, set};
+ghost use Rattle.rules.specs.Bytes.{Bytes, sameBytes};
+ghost use Rattle.expander.specs.Packed.{Packs, Formed, startOf, lastMore, overlaid, rebased};
+
+// How many strings there are, and how many bytes they have.
+pub struct Packed {
+    pub count: usize,
+    pub used: usize,
+}
+
+// Where string k starts: where the one before it ends.
+pub(crate) fn start(ends: &[u32], k: usize) -> usize
+    requires { ⌜ k ≤ length (now ends) ⌝ }
+    ensures { λ r. ⌜ r ≡ startOf (now (ends .entry)) k ⌝ }
+{
+    if k == 0 {
+        return 0;
+    }
+    ends[k - 1] as usize
+}
+
+// String k.
+pub(crate) fn string<'a>(bytes: &'a [u8], ends: &[u32], p: Packed, k: usize) -> &'a [u8]
+    requires { ⌜ Formed (now ends) (p .count) (now bytes) (p .used) ⌝ }
+    requires { ⌜ k < p .count ⌝ }
+    ensures { λ r. ⌜ ((ss : List Bytes) → Packs (now (ends .entry)) (p .count) (now (bytes .entry)) (p .used) ss → now r ≡ getD ss k []) ⌝ }
+{
+    let a = start(ends, k);
+    let e = start(ends, k + 1);
+    &bytes[a..e]
+}
+
+// String k is s.
+pub(crate) fn is_string(bytes: &[u8], ends: &[u32], p: Packed, k: usize, s: &[u8]) -> bool
+    requires { ⌜ Formed (now ends) (p .count) (now bytes) (p .used) ⌝ }
+    requires { ⌜ k < p .count ⌝ }
+    ensures { λ r. ⌜ ((ss : List Bytes) → Packs (now (ends .entry)) (p .count) (now (bytes .entry)) (p .used) ss → r ≡ sameBytes (now (s .entry)) (getD ss k [])) ⌝ }
+{
+    ascii::same(s, string(bytes, ends, p, k))
+}
+
+// Strings j and k are the same.
+pub(crate) fn same_strings(bytes: &[u8], ends: &[u32], p: Packed, j: usize, k: usize) -> bool
+    requires { ⌜ Formed (now ends) (p .count) (now bytes) (p .used) ⌝ }
+    requires { ⌜ (j < p .count) × (k < p .count) ⌝ }
+    ensures { λ r. ⌜ ((ss : List Bytes) → Packs (now (ends .entry)) (p .count) (now (bytes .entry)) (p .used) ss → r ≡ sameBytes (getD ss j []) (getD ss k [])) ⌝ }
+{
+    ascii::same(string(bytes, ends, p, j), string(bytes, ends, p, k))
+}
+
+// A new string of no bytes.
+pub(crate) fn push_empty(ends: &mut [u32], p: Packed) -> Packed
+    requires { ⌜ (p .count < length (now ends)) × (p .used < 2 ^ 32) ⌝ }
+    ensures { λ r. ⌜ ((bytes : Bytes) (ss : List Bytes) → Packs (now (ends .entry)) (p .count) bytes (p .used) ss → Packs (now (ends .exit)) (r .count) bytes (r .used) (ss ++ ([] ∷ []))) ⌝ }
+    ensures { λ r. ⌜ (r .count ≡ p .count + 1) × (r .used ≡ p .used) ⌝ }
+{
+    let count = p.count;
+    let used = p.used;
+    let more = count + 1;
+    ends[count] = used as u32;
+    Packed { count: more, used }
+}
+
+// The n bytes behind the strings, which the caller has filled, join the last one.
+pub(crate) fn grow_last(ends: &mut [u32], p: Packed, n: usize) -> Packed
+    requires { ⌜ (0 < p .count) × (p .count ≤ length (now ends)) × (p .used + n < 2 ^ 32) ⌝ }
+    ensures { λ r. ⌜ ((before bytes : Bytes) (ss : List Bytes) (s : Bytes) → Packs (now (ends .entry)) (p .count) before (p .used) ss → length s ≡ n → take (p .used + n) bytes ≡ take (p .used) before ++ s → Packs (now (ends .exit)) (r .count) bytes (r .used) (lastMore ss s)) ⌝ }
+    ensures { λ r. ⌜ (r .count ≡ p .count) × (r .used ≡ p .used + n) ⌝ }
+{
+    let count = p.count;
+    let more = p.used + n;
+    ends[count - 1] = more as u32;
+    Packed { count, used: more }
+}
+
+// A byte at the end of the last string.
+pub(crate) fn push_byte(bytes: &mut [u8], ends: &mut [u32], p: Packed, b: u8) -> Packed
+    requires { ⌜ (0 < p .count) × (p .count ≤ length (now ends)) ⌝ }
+    requires { ⌜ (p .used < length (now bytes)) × (length (now bytes) < 2 ^ 32) ⌝ }
+    ensures { λ r. ⌜ ((ss : List Bytes) → Packs (now (ends .entry)) (p .count) (now (bytes .entry)) (p .used) ss → Packs (now (ends .exit)) (r .count) (now (bytes .exit)) (r .used) (lastMore ss (b ∷ []))) ⌝ }
+    ensures { λ r. ⌜ (r .count ≡ p .count) × (r .used ≡ p .used + 1) ⌝ }
+{
+    let used = p.used;
+    bytes[used] = b;
+    grow_last(ends, p, 1)
+}
+
+// A slice at the end of the last string.
+pub(crate) fn push_slice(bytes: &mut [u8], ends: &mut [u32], p: Packed, s: &[u8]) -> Packed
+    requires { ⌜ (0 < p .count) × (p .count ≤ length (now ends)) ⌝ }
+    requires { ⌜ (p .used + length (now s) ≤ length (now bytes)) × (length (now bytes) < 2 ^ 32) ⌝ }
+    ensures { λ r. ⌜ ((ss : List Bytes) → Packs (now (ends .entry)) (p .count) (now (bytes .entry)) (p .used) ss → Packs (now (ends .exit)) (r .count) (now (bytes .exit)) (r .used) (lastMore ss (now (s .entry)))) ⌝ }
+    ensures { λ r. ⌜ (r .count ≡ p .count) × (r .used ≡ p .used + length (now (s .entry))) ⌝ }
+{
+    let used = p.used;
+    let more = used + s.len();
+    ascii::copy(s, &mut bytes[used..more]);
+    grow_last(ends, p, s.len())
+}
+
+// A new string.
+pub(crate) fn push_string(bytes: &mut [u8], ends: &mut [u32], p: Packed, s: &[u8]) -> Packed
+    requires { ⌜ p .count < length (now ends) ⌝ }
+    requires { ⌜ (p .used + length (now s) ≤ length (now bytes)) × (length (now bytes) < 2 ^ 32) ⌝ }
+    ensures { λ r. ⌜ ((ss : List Bytes) → Packs (now (ends .entry)) (p .count) (now (bytes .entry)) (p .used) ss → Packs (now (ends .exit)) (r .count) (now (bytes .exit)) (r .used) (ss ++ (now (s .entry) ∷ []))) ⌝ }
+    ensures { λ r. ⌜ (r .count ≡ p .count + 1) × (r .used ≡ p .used + length (now (s .entry))) ⌝ }
+{
+    let more = push_empty(ends, p);
+    push_slice(bytes, ends, more, s)
+}
+
+// Without the last m strings.
+pub(crate) fn drop_last(ends: &[u32], p: Packed, m: usize) -> Packed
+    requires { ⌜ (m ≤ p .count) × (p .count ≤ length (now ends)) ⌝ }
+    ensures { λ r. ⌜ ((bytes : Bytes) (ss : List Bytes) → Packs (now (ends .entry)) (p .count) bytes (p .used) ss → Packs (now (ends .entry)) (r .count) bytes (r .used) (take (p .count - m) ss)) ⌝ }
+{
+    let left = p.count - m;
+    let used = start(ends, left);
+    Packed { count: left, used }
+}
+
+// Moves the bytes from `from` up to `end` down to the place `to`.
+fn move_down(bytes: &mut [u8], to: usize, from: usize, end: usize)
+    requires { ⌜ (to ≤ from) × (from ≤ end) × (end ≤ length (now bytes)) ⌝ }
+    ensures { λ _. ⌜ now (bytes .exit) ≡ overlaid to (drop from (take end (now (bytes .entry)))) (now (bytes .entry)) ⌝ }
+{
+    let n = end - from;
+    let mut j = 0;
+    while j < n {
+        bytes[to + j] = bytes[from + j];
+        j += 1;
+    }
+}
+
+// Moves the bytes from `from` up to `end` up to the place `to`, the last one first.
+fn move_up(bytes: &mut [u8], to: usize, from: usize, end: usize)
+    requires { ⌜ (from ≤ to) × (from ≤ end) × (to + (end - from) ≤ length (now bytes)) ⌝ }
+    ensures { λ _. ⌜ now (bytes .exit) ≡ overlaid to (drop from (take end (now (bytes .entry)))) (now (bytes .entry)) ⌝ }
+{
+    let mut j = end - from;
+    while 0 < j {
+        let i = j - 1;
+        bytes[to + i] = bytes[from + i];
+        j = i;
+    }
+}
+
+// Moves the bytes from `from` up to `end` to the place `to`.
+pub(crate) fn move_bytes(bytes: &mut [u8], to: usize, from: usize, end: usize)
+    requires { ⌜ (from ≤ end) × (end ≤ length (now bytes)) × (to + (end - from) ≤ length (now bytes)) ⌝ }
+    ensures { λ _. ⌜ now (bytes .exit) ≡ overlaid to (drop from (take end (now (bytes .entry)))) (now (bytes .entry)) ⌝ }
+{
+    if to < from {
+        move_down(bytes, to, from, end);
+        return;
+    }
+    if from < to {
+        move_up(bytes, to, from, end);
+    }
+}
+
+// Puts the ends from `from` up to `count` at the place `to`, each with `less` bytes before it taken out and `more` put in.
+fn rebase(ends: &mut [u32], to: usize, from: usize, count: usize, less: usize, more: usize)
+    requires { ⌜ (to ≤ from) × (from ≤ count) × (count ≤ length (now ends)) ⌝ }
+    requires { ⌜ ((j : ℕ) → from ≤ j → j < count → (less ≤ getD (now ends) j 0) × (rebased less more (getD (now ends) j 0) < 2 ^ 32)) ⌝ }
+    ensures { λ _. ⌜ now (ends .exit) ≡ overlaid to (map (rebased less more) (drop from (take count (now (ends .entry))))) (now (ends .entry)) ⌝ }
+{
+    let n = count - from;
+    let mut j = 0;
+    while j < n {
+        let e = ends[from + j] as usize;
+        let moved = e - less + more;
+        ends[to + j] = moved as u32;
+        j += 1;
+    }
+}
+
+// Without strings k and k + 1: what stands behind them moves down, and nothing where they are the last.
+pub(crate) fn remove_two(bytes: &mut [u8], ends: &mut [u32], p: Packed, k: usize) -> Packed
+    requires { ⌜ Formed (now ends) (p .count) (now bytes) (p .used) ⌝ }
+    requires { ⌜ (k + 2 ≤ p .count) × (length (now bytes) < 2 ^ 32) ⌝ }
+    ensures { λ r. ⌜ ((ss : List Bytes) → Packs (now (ends .entry)) (p .count) (now (bytes .entry)) (p .used) ss → Packs (now (ends .exit)) (r .count) (now (bytes .exit)) (r .used) (take k ss ++ drop (k + 2) ss)) ⌝ }
+{
+    let count = p.count;
+    let used = p.used;
+    let a = start(ends, k);
+    let e = start(ends, k + 2);
+    let n = e - a;
+    let fewer = count - 2;
+    let less = used - n;
+    move_bytes(bytes, a, e, used);
+    rebase(ends, k, k + 2, count, n, 0);
+    Packed {
+        count: fewer,
+        used: less,
+    }
+}
+
+// String k gets n bytes in its place, which the caller fills: what stands behind it moves by the difference.
+fn resize(bytes: &mut [u8], ends: &mut [u32], p: Packed, k: usize, n: usize) -> Packed
+    requires { ⌜ Formed (now ends) (p .count) (now bytes) (p .used) ⌝ }
+    requires { ⌜ (k < p .count) × (length (now bytes) < 2 ^ 32) ⌝ }
+    requires { ⌜ ((ss : List Bytes) → Packs (now ends) (p .count) (now bytes) (p .used) ss → p .used + n ≤ length (now bytes) + length (getD ss k [])) ⌝ }
+    ensures { λ r. ⌜ ((ss : List Bytes) (s : Bytes) → Packs (now (ends .entry)) (p .count) (now (bytes .entry)) (p .used) ss → length s ≡ n → Packs (now (ends .exit)) (r .count) (overlaid (startOf (now (ends .entry)) k) s (now (bytes .exit))) (r .used) (set ss k s)) ⌝ }
+{
+    let count = p.count;
+    let used = p.used;
+    let a = start(ends, k);
+    let e = start(ends, k + 1);
+    let old = e - a;
+    if old == n {
+        return p;
+    }
+    let to = a + n;
+    let sized = used - old + n;
+    move_bytes(bytes, to, e, used);
+    rebase(ends, k, k, count, old, n);
+    Packed { count, used: sized }
+}
+
+// String k becomes s, in its place.
+pub(crate) fn replace(bytes: &mut [u8], ends: &mut [u32], p: Packed, k: usize, s: &[u8]) -> Packed
+    requires { ⌜ Formed (now ends) (p .count) (now bytes) (p .used) ⌝ }
+    requires { ⌜ (k < p .count) × (length (now bytes) < 2 ^ 32) ⌝ }
+    requires { ⌜ ((ss : List Bytes) → Packs (now ends) (p .count) (now bytes) (p .used) ss → p .used + length (now s) ≤ length (now bytes) + length (getD ss k [])) ⌝ }
+    ensures { λ r. ⌜ ((ss : List Bytes) → Packs (now (ends .entry)) (p .count) (now (bytes .entry)) (p .used) ss → Packs (now (ends .exit)) (r .count) (now (bytes .exit)) (r .used) (set ss k (now (s .entry)))) ⌝ }
+{
+    let a = start(ends, k);
+    let sized = resize(bytes, ends, p, k, s.len());
+    let e = a + s.len();
+    ascii::copy(s, &mut bytes[a..e]);
+    sized
+}

@@ -1,0 +1,372 @@
+// The definitions in force: name and text by turns as packed strings of buffer 3, in order of arrival, and a mask with a bit for
+// each predefined name that keeps its own meaning.
+use crate::packed;
+use crate::packed::Packed;
+ghost use mathlib.Core.Path.{_≡_};
+ghost use mathlib.Core.List.{List, [], _∷_};
+ghost use Prim.Native.Nat.{ℕ, _+_, _^_, _≤_, _<_};
+ghost use lib.ListN.{length, take, drop, getD};
+ghost use Rattle.rules.specs.Bytes.{Bytes};
+ghost use Rattle.rules.specs.Table.{Definition, Table, predefinedNames, keepsOwn, ownMeaning, ownLost, newestPlace, meaningOf, text, pushed, defined, popped, without, undefined, tableCost};
+ghost use Rattle.expander.specs.Table.{NumberAmong, HasNumber, DefinitionsIn, SoundDefinitions, TableIn, placeOf, Finds, Sifted};
+
+// The place of a definition, in order of arrival.
+pub enum Found {
+    At(usize),
+    Nowhere,
+}
+
+// What a name means: the text of the definition at a place, or the predefined macro of a number.
+pub enum Meaning {
+    Text(usize),
+    Predefined(u8),
+    Undefined,
+}
+
+// A table: its packed strings and its mask.
+pub struct Definitions {
+    pub packed: Packed,
+    pub own: u32,
+}
+
+// The first byte, or 0.
+fn first_byte(s: &[u8]) -> u8
+    ensures { λ r. ⌜ r ≡ getD (now (s .entry)) 0 0 ⌝ }
+{
+    if s.len() == 0 {
+        return 0;
+    }
+    s[0]
+}
+
+// The number k for `first`, k + 1 for `second`, else 0.
+fn number_of_two(name: &[u8], first: &[u8], second: &[u8], k: u8) -> u8
+    requires { ⌜ (0 < k) × (k < 24) ⌝ }
+    ensures { λ r. ⌜ NumberAmong k (now (name .entry)) (now (first .entry) ∷ now (second .entry) ∷ []) r ⌝ }
+{
+    if ascii::same(name, first) {
+        return k;
+    }
+    if ascii::same(name, second) {
+        return k + 1;
+    }
+    0
+}
+
+// The number of a name that begins with d.
+fn number_d(name: &[u8]) -> u8
+    ensures { λ r. ⌜ NumberAmong 3 (now (name .entry)) (take 6 (drop 2 predefinedNames)) r ⌝ }
+{
+    let first = number_of_two(name, b"decr", b"define", 3);
+    if first != 0 {
+        return first;
+    }
+    let second = number_of_two(name, b"defn", b"divert", 5);
+    if second != 0 {
+        return second;
+    }
+    number_of_two(name, b"divnum", b"dnl", 7)
+}
+
+// The number of a name that begins with i.
+fn number_i(name: &[u8]) -> u8
+    ensures { λ r. ⌜ NumberAmong 11 (now (name .entry)) (take 4 (drop 10 predefinedNames)) r ⌝ }
+{
+    let first = number_of_two(name, b"ifdef", b"ifelse", 11);
+    if first != 0 {
+        return first;
+    }
+    number_of_two(name, b"incr", b"index", 13)
+}
+
+// The number k for `known`, else 0.
+fn number_of_one(name: &[u8], known: &[u8], k: u8) -> u8
+    requires { ⌜ (0 < k) × (k ≤ 24) ⌝ }
+    ensures { λ r. ⌜ NumberAmong k (now (name .entry)) (now (known .entry) ∷ []) r ⌝ }
+{
+    if ascii::same(name, known) { k } else { 0 }
+}
+
+// The number of a predefined name, else 0.
+pub(crate) fn predefined_number(name: &[u8]) -> u8
+    ensures { λ r. ⌜ HasNumber (now (name .entry)) r ⌝ }
+{
+    let first = first_byte(name);
+    match first {
+        b'c' => number_of_two(name, b"changecom", b"changequote", 1),
+        b'd' => number_d(name),
+        b'e' => number_of_two(name, b"errprint", b"eval", 9),
+        b'i' => number_i(name),
+        b'l' => number_of_one(name, b"len", 15),
+        b'm' => number_of_two(name, b"m4exit", b"m4wrap", 16),
+        b'p' => number_of_two(name, b"popdef", b"pushdef", 18),
+        b's' => number_of_two(name, b"shift", b"substr", 20),
+        b't' => number_of_one(name, b"translit", 22),
+        b'u' => number_of_two(name, b"undefine", b"undivert", 23),
+        _ => 0,
+    }
+}
+
+// The k-th predefined name keeps its own meaning.
+pub(crate) fn keeps_own(own: u32, k: u8) -> bool
+    requires { ⌜ (0 < k) × (k ≤ 32) ⌝ }
+    ensures { λ r. ⌜ r ≡ keepsOwn k own ⌝ }
+{
+    let bit = k - 1;
+    (own >> bit) % 2 == 1
+}
+
+// The mask once the name's own meaning is gone.
+pub(crate) fn own_lost(own: u32, name: &[u8]) -> u32
+    ensures { λ r. ⌜ r ≡ ownLost (now (name .entry)) own ⌝ }
+{
+    let k = predefined_number(name);
+    if k == 0 {
+        return own;
+    }
+    if keeps_own(own, k) {
+        let bit = k - 1;
+        return own - (1 << bit);
+    }
+    own
+}
+
+// The name's own meaning.
+fn own_meaning(own: u32, name: &[u8]) -> Meaning
+    ensures { λ r. ⌜ ((ds : List Definition) → Finds ds (ownMeaning (now (name .entry)) own) r) ⌝ }
+{
+    let k = predefined_number(name);
+    if k == 0 {
+        return Meaning::Undefined;
+    }
+    if keeps_own(own, k) {
+        Meaning::Predefined(k)
+    } else {
+        Meaning::Undefined
+    }
+}
+
+// The place of the newest definition of a name.
+pub(crate) fn newest(bytes: &[u8], ends: &[u32], p: Packed, name: &[u8]) -> Found
+    requires { ⌜ SoundDefinitions (now bytes) (now ends) p ⌝ }
+    ensures { λ r. ⌜ ((ds : List Definition) → DefinitionsIn (now (bytes .entry)) (now (ends .entry)) p ds → newestPlace (now (name .entry)) ds ≡ placeOf r) ⌝ }
+{
+    let n = p.count / 2;
+    let mut left = n;
+    while 0 < left {
+        let at = left - 1;
+        let k = 2 * at;
+        if packed::is_string(bytes, ends, p, k, name) {
+            return Found::At(at);
+        }
+        left -= 1;
+    }
+    Found::Nowhere
+}
+
+// What a name means: its newest definition, else its own meaning.
+pub(crate) fn look_up(bytes: &[u8], ends: &[u32], p: Packed, own: u32, name: &[u8]) -> Meaning
+    requires { ⌜ SoundDefinitions (now bytes) (now ends) p ⌝ }
+    ensures { λ r. ⌜ ((t : Table) → TableIn (now (bytes .entry)) (now (ends .entry)) p own t → Finds (t .definitions) (meaningOf (now (name .entry)) t) r) ⌝ }
+{
+    let place = newest(bytes, ends, p, name);
+    match place {
+        Found::At(i) => Meaning::Text(i),
+        Found::Nowhere => own_meaning(own, name),
+    }
+}
+
+// A new definition, which arrives last.
+pub(crate) fn push_definition(
+    bytes: &mut [u8],
+    ends: &mut [u32],
+    p: Packed,
+    name: &[u8],
+    body: &[u8],
+) -> Packed
+    requires { ⌜ SoundDefinitions (now bytes) (now ends) p ⌝ }
+    requires { ⌜ 0 < length (now name) ⌝ }
+    requires { ⌜ p .used + (length (now name) + length (now body)) ≤ length (now bytes) ⌝ }
+    ensures { λ r. ⌜ ((own : ℕ) (t : Table) → TableIn (now (bytes .entry)) (now (ends .entry)) p own t → TableIn (now (bytes .exit)) (now (ends .exit)) r own (pushed (now (name .entry)) (text (now (body .entry))) t)) ⌝ }
+{
+    let named = packed::push_string(bytes, ends, p, name);
+    packed::push_string(bytes, ends, named, body)
+}
+
+// How many bytes the definitions have once a name, whose newest definition is at `place`, means a text of n bytes.
+pub(crate) fn size_defined(
+    bytes: &[u8],
+    ends: &[u32],
+    p: Packed,
+    place: Found,
+    name: &[u8],
+    n: usize,
+) -> usize
+    requires { ⌜ SoundDefinitions (now bytes) (now ends) p ⌝ }
+    requires { ⌜ ((ds : List Definition) → DefinitionsIn (now bytes) (now ends) p ds → newestPlace (now name) ds ≡ placeOf place) ⌝ }
+    requires { ⌜ length (now name) + n < 2 ^ 32 ⌝ }
+    ensures { λ r. ⌜ ((t : Table) (x : Bytes) → DefinitionsIn (now (bytes .entry)) (now (ends .entry)) p (t .definitions) → length x ≡ n → r ≡ tableCost ((defined (now (name .entry)) (text x) t) .definitions)) ⌝ }
+{
+    let used = p.used;
+    match place {
+        Found::At(i) => {
+            let k = 2 * i + 1;
+            let old = packed::string(bytes, ends, p, k);
+            used - old.len() + n
+        }
+        Found::Nowhere => used + (name.len() + n),
+    }
+}
+
+// A name means another text: its newest definition, at `place`, keeps its place, else a new one arrives last.
+pub(crate) fn define_at(
+    bytes: &mut [u8],
+    ends: &mut [u32],
+    p: Packed,
+    own: u32,
+    place: Found,
+    name: &[u8],
+    body: &[u8],
+) -> Definitions
+    requires { ⌜ SoundDefinitions (now bytes) (now ends) p ⌝ }
+    requires { ⌜ ((ds : List Definition) → DefinitionsIn (now bytes) (now ends) p ds → newestPlace (now name) ds ≡ placeOf place) ⌝ }
+    requires { ⌜ 0 < length (now name) ⌝ }
+    requires { ⌜ ((t : Table) → DefinitionsIn (now bytes) (now ends) p (t .definitions) → tableCost ((defined (now name) (text (now body)) t) .definitions) ≤ length (now bytes)) ⌝ }
+    ensures { λ r. ⌜ ((t : Table) → TableIn (now (bytes .entry)) (now (ends .entry)) p own t → TableIn (now (bytes .exit)) (now (ends .exit)) (r .packed) (r .own) (defined (now (name .entry)) (text (now (body .entry))) t)) ⌝ }
+{
+    match place {
+        Found::At(i) => {
+            let k = 2 * i + 1;
+            let replaced = packed::replace(bytes, ends, p, k, body);
+            Definitions {
+                packed: replaced,
+                own,
+            }
+        }
+        Found::Nowhere => {
+            let lost = own_lost(own, name);
+            let more = push_definition(bytes, ends, p, name, body);
+            Definitions {
+                packed: more,
+                own: lost,
+            }
+        }
+    }
+}
+
+// The same, with the place looked for.
+pub(crate) fn define(
+    bytes: &mut [u8],
+    ends: &mut [u32],
+    p: Packed,
+    own: u32,
+    name: &[u8],
+    body: &[u8],
+) -> Definitions
+    requires { ⌜ SoundDefinitions (now bytes) (now ends) p ⌝ }
+    requires { ⌜ 0 < length (now name) ⌝ }
+    requires { ⌜ ((t : Table) → DefinitionsIn (now bytes) (now ends) p (t .definitions) → tableCost ((defined (now name) (text (now body)) t) .definitions) ≤ length (now bytes)) ⌝ }
+    ensures { λ r. ⌜ ((t : Table) → TableIn (now (bytes .entry)) (now (ends .entry)) p own t → TableIn (now (bytes .exit)) (now (ends .exit)) (r .packed) (r .own) (defined (now (name .entry)) (text (now (body .entry))) t)) ⌝ }
+{
+    let place = newest(bytes, ends, p, name);
+    define_at(bytes, ends, p, own, place, name, body)
+}
+
+// Without a name's newest definition, else without its own meaning.
+pub(crate) fn pop(
+    bytes: &mut [u8],
+    ends: &mut [u32],
+    p: Packed,
+    own: u32,
+    name: &[u8],
+) -> Definitions
+    requires { ⌜ SoundDefinitions (now bytes) (now ends) p ⌝ }
+    ensures { λ r. ⌜ ((t : Table) → TableIn (now (bytes .entry)) (now (ends .entry)) p own t → TableIn (now (bytes .exit)) (now (ends .exit)) (r .packed) (r .own) (popped (now (name .entry)) t)) ⌝ }
+{
+    let place = newest(bytes, ends, p, name);
+    match place {
+        Found::At(i) => {
+            let k = 2 * i;
+            let fewer = packed::remove_two(bytes, ends, p, k);
+            Definitions { packed: fewer, own }
+        }
+        Found::Nowhere => {
+            let lost = own_lost(own, name);
+            Definitions {
+                packed: p,
+                own: lost,
+            }
+        }
+    }
+}
+
+// A pass comes to a definition, whose name ends at `middle`: it is put behind those kept, unless it is of the name.
+fn sift(
+    bytes: &mut [u8],
+    ends: &mut [u32],
+    kept: Packed,
+    from: usize,
+    middle: usize,
+    end: usize,
+    name: &[u8],
+) -> Packed
+    requires { ⌜ (kept .used ≤ from) × (from ≤ middle) × (middle ≤ end) × (end ≤ length (now bytes)) ⌝ }
+    requires { ⌜ (kept .count + 2 ≤ length (now ends)) × (length (now bytes) < 2 ^ 32) ⌝ }
+    ensures { λ r. ⌜ Sifted (now (name .entry)) (now (bytes .entry)) (now (ends .entry)) kept from middle end (now (bytes .exit)) (now (ends .exit)) r ⌝ }
+{
+    if ascii::same(name, &bytes[from..middle]) {
+        return kept;
+    }
+    let at = kept.count;
+    let next = at + 1;
+    let count = at + 2;
+    let to = kept.used;
+    let name_end = to + (middle - from);
+    let text_end = to + (end - from);
+    packed::move_bytes(bytes, to, from, end);
+    ends[at] = name_end as u32;
+    ends[next] = text_end as u32;
+    Packed {
+        count,
+        used: text_end,
+    }
+}
+
+// Without the definitions of a name: one pass, in which what is kept moves down.
+fn drop_named(bytes: &mut [u8], ends: &mut [u32], p: Packed, name: &[u8]) -> Packed
+    requires { ⌜ SoundDefinitions (now bytes) (now ends) p ⌝ }
+    ensures { λ r. ⌜ ((ds : List Definition) → DefinitionsIn (now (bytes .entry)) (now (ends .entry)) p ds → DefinitionsIn (now (bytes .exit)) (now (ends .exit)) r (without (now (name .entry)) ds)) ⌝ }
+{
+    let count = p.count;
+    let mut kept = Packed { count: 0, used: 0 };
+    let mut k = 0;
+    let mut from = 0;
+    while k < count {
+        let next = k + 1;
+        let middle = ends[k] as usize;
+        let end = ends[next] as usize;
+        kept = sift(bytes, ends, kept, from, middle, end, name);
+        k += 2;
+        from = end;
+    }
+    kept
+}
+
+// Without all definitions of a name and without its own meaning.
+pub(crate) fn undefine(
+    bytes: &mut [u8],
+    ends: &mut [u32],
+    p: Packed,
+    own: u32,
+    name: &[u8],
+) -> Definitions
+    requires { ⌜ SoundDefinitions (now bytes) (now ends) p ⌝ }
+    ensures { λ r. ⌜ ((t : Table) → TableIn (now (bytes .entry)) (now (ends .entry)) p own t → TableIn (now (bytes .exit)) (now (ends .exit)) (r .packed) (r .own) (undefined (now (name .entry)) t)) ⌝ }
+{
+    let fewer = drop_named(bytes, ends, p, name);
+    let lost = own_lost(own, name);
+    Definitions {
+        packed: fewer,
+        own: lost,
+    }
+}

@@ -1,0 +1,208 @@
+// Reading a token off the text ahead, which is two slices (module `ahead`).
+use super::ahead::ahead_length;
+use super::ahead::byte_ahead;
+use super::ahead::next_either;
+use rules::Mark;
+use rules::Marks;
+use rules::Reading;
+use rules::Token;
+ghost use mathlib.Core.Path.{_≡_};
+ghost use mathlib.Core.List.{_++_};
+ghost use Prim.Native.Nat.{_≤_};
+ghost use lib.ListN.{length, drop, getD};
+ghost use Rattle.rules.specs.Bytes.{nameLength};
+ghost use Rattle.rules.specs.Marks.{markText, markTexts};
+ghost use Rattle.rules.specs.Tokens.{beginsWith, atMark, readToken};
+ghost use Rattle.expander.specs.Tokens.{FullMark, GoodMarks, MarkLength, FirstByte, metAt, commentFrom, quotedFrom, Inside, Passed, plainRead, Within};
+
+// The first of two marks stands at a place, or else the second, or neither.
+enum Met {
+    First,
+    Second,
+    Neither,
+}
+
+// So many quotes are open at a place.
+struct Open {
+    depth: usize,
+    place: usize,
+}
+
+fn mark_length(m: Mark) -> usize
+    requires { ⌜ m .len ≤ 5 ⌝ }
+    ensures { λ r. ⌜ MarkLength m r ⌝ }
+{
+    m.len as usize
+}
+
+fn first_byte(m: Mark) -> u8
+    requires { ⌜ FullMark m ⌝ }
+    ensures { λ r. ⌜ FirstByte m r ⌝ }
+{
+    m.bytes[0]
+}
+
+// The mark stands at the place i.
+fn mark_at(m: Mark, front: &[u8], rest: &[u8], i: usize) -> bool
+    requires { ⌜ (m .len ≤ 5) × (i ≤ length (now front ++ now rest)) ⌝ }
+    ensures { λ r. ⌜ r ≡ beginsWith (markText m) (drop i (now (front .entry) ++ now (rest .entry))) ⌝ }
+{
+    let len = mark_length(m);
+    if ahead_length(front, rest) - i < len {
+        return false;
+    }
+    let mut k = 0;
+    while k < len {
+        let at = i + k;
+        let x = byte_ahead(front, rest, at);
+        if m.bytes[k] != x {
+            return false;
+        }
+        k += 1;
+    }
+    true
+}
+
+// The mark is not empty and stands at the place i. The byte there is x, which settles most cases.
+fn stands(m: Mark, x: u8, front: &[u8], rest: &[u8], i: usize) -> bool
+    requires { ⌜ (m .len ≤ 5) × (i ≤ length (now front ++ now rest)) × (x ≡ getD (now front ++ now rest) i 0) ⌝ }
+    ensures { λ r. ⌜ r ≡ atMark (markText m) (drop i (now (front .entry) ++ now (rest .entry))) ⌝ }
+{
+    if m.len == 0 {
+        return false;
+    }
+    if m.bytes[0] != x {
+        return false;
+    }
+    mark_at(m, front, rest, i)
+}
+
+// Which of two marks stands at the place i.
+fn which(first: Mark, second: Mark, front: &[u8], rest: &[u8], i: usize) -> Met
+    requires { ⌜ (first .len ≤ 5) × (second .len ≤ 5) × (i ≤ length (now front ++ now rest)) ⌝ }
+    ensures { λ r. ⌜ r ≡ metAt (markText first) (markText second) (drop i (now (front .entry) ++ now (rest .entry))) ⌝ }
+{
+    let x = byte_ahead(front, rest, i);
+    if stands(first, x, front, rest, i) {
+        return Met::First;
+    }
+    if stands(second, x, front, rest, i) {
+        return Met::Second;
+    }
+    Met::Neither
+}
+
+// What is open behind the mark or the byte at i. The end mark is tried first, then the begin mark, which nests.
+fn passed(begin: Mark, end: Mark, front: &[u8], rest: &[u8], i: usize, depth: usize) -> Open
+    requires { ⌜ Inside begin end (now front ++ now rest) i depth ⌝ }
+    ensures { λ r. ⌜ Passed (markText begin) (markText end) (now (front .entry) ++ now (rest .entry)) i depth r ⌝ }
+{
+    let met = which(end, begin, front, rest, i);
+    match met {
+        Met::First => {
+            let less = depth - 1;
+            let place = i + mark_length(end);
+            Open { depth: less, place }
+        }
+        Met::Second => {
+            let more = depth + 1;
+            let place = i + mark_length(begin);
+            Open { depth: more, place }
+        }
+        Met::Neither => {
+            let place = i + 1;
+            Open { depth, place }
+        }
+    }
+}
+
+// A quoted text, whose begin mark stands ahead.
+fn read_quoted(begin: Mark, end: Mark, front: &[u8], rest: &[u8]) -> Reading
+    requires { ⌜ FullMark begin × FullMark end ⌝ }
+    ensures { λ r. ⌜ r ≡ quotedFrom (markText begin) (markText end) (now (front .entry) ++ now (rest .entry)) 1 (length (markText begin)) ⌝ }
+{
+    let n = ahead_length(front, rest);
+    let a = first_byte(begin);
+    let b = first_byte(end);
+    let text = mark_length(begin);
+    let mut depth: usize = 1;
+    let mut i = text;
+    while i < n {
+        let at = next_either(front, rest, i, a, b);
+        let open = passed(begin, end, front, rest, at, depth);
+        depth = open.depth;
+        i = open.place;
+        if depth == 0 {
+            let text_end = i - mark_length(end);
+            return Reading::Is(Token::Quoted {
+                text,
+                text_end,
+                end: i,
+            });
+        }
+    }
+    Reading::OpenQuote(depth)
+}
+
+// A comment, whose begin mark stands ahead.
+fn read_comment(begin: Mark, end: Mark, front: &[u8], rest: &[u8]) -> Reading
+    requires { ⌜ (begin .len ≤ 5) × FullMark end ⌝ }
+    ensures { λ r. ⌜ r ≡ commentFrom (markText end) (now (front .entry) ++ now (rest .entry)) (length (markText begin)) ⌝ }
+{
+    let n = ahead_length(front, rest);
+    let a = first_byte(end);
+    let mut i = mark_length(begin);
+    while i < n {
+        let at = next_either(front, rest, i, a, a);
+        if mark_at(end, front, rest, at) {
+            let behind = at + mark_length(end);
+            return Reading::Is(Token::Comment { end: behind });
+        }
+        i = at + 1;
+    }
+    Reading::OpenComment
+}
+
+// How many bytes ahead go on with a name.
+fn name_length(front: &[u8], rest: &[u8]) -> usize
+    ensures { λ r. ⌜ r ≡ nameLength (now (front .entry) ++ now (rest .entry)) ⌝ }
+{
+    let n = ascii::name_length(front);
+    if n < front.len() {
+        return n;
+    }
+    n + ascii::name_length(rest)
+}
+
+// A name or a single byte.
+fn read_plain(front: &[u8], rest: &[u8]) -> Reading
+    ensures { λ r. ⌜ r ≡ plainRead (now (front .entry) ++ now (rest .entry)) ⌝ }
+{
+    let x = byte_ahead(front, rest, 0);
+    if ascii::begins_name(x) {
+        let end = name_length(front, rest);
+        return Reading::Is(Token::Name { end });
+    }
+    Reading::Is(Token::Byte(x))
+}
+
+// The token ahead: the end, a comment, a quoted text, a name or a single byte, tried in this order.
+pub(crate) fn read_token(marks: Marks, front: &[u8], rest: &[u8]) -> Reading
+    requires { ⌜ GoodMarks marks ⌝ }
+    ensures read { λ r. ⌜ r ≡ readToken (markTexts marks) (now (front .entry) ++ now (rest .entry)) ⌝ }
+    ensures within { λ r. ⌜ Within (now (front .entry) ++ now (rest .entry)) r ⌝ }
+{
+    if ahead_length(front, rest) == 0 {
+        return Reading::Is(Token::End);
+    }
+    let begin_comment = marks.begin_comment;
+    let end_comment = marks.end_comment;
+    let begin_quote = marks.begin_quote;
+    let end_quote = marks.end_quote;
+    let met = which(begin_comment, begin_quote, front, rest, 0);
+    match met {
+        Met::First => read_comment(begin_comment, end_comment, front, rest),
+        Met::Second => read_quoted(begin_quote, end_quote, front, rest),
+        Met::Neither => read_plain(front, rest),
+    }
+}

@@ -1,0 +1,226 @@
+-- Laws of digits that are read, and of the limits on what they write. Assumes nothing.
+use Prim.Native.Nat.{ℕ, zero, suc, _+_, _-_, _*_, _%_, _^_, _≤_, _<_}
+use native.Mathlib.Omega.{arith}
+use native.Mathlib.Nat.{le-of-eq, mul-le-mul, mul-le-mul-left}
+use native.Mathlib.Numerals.{add-one}
+use mathlib.Core.Path.{_≡_, refl, sym, _∙_}
+use mathlib.Core.List.{[], _∷_}
+use mathlib.Core.Bool.{Bool, true, false, _&&_}
+use mathlib.Core.Option.{Option, none, some}
+use lib.Dec.{leb, ltb}
+use lib.IntN.{ℤ, pos, negℤ}
+use lib.ListN.{length, take, drop, getD, drop-of-length-le, length-drop}
+use lib.Seq.{drop-cons, take-all}
+use borrow.Author.Tests.{le-leb, lt-leb, leb-true, leb-false, lt-ltb, le-ltb, ltb-true, ltb-false, eq-eqb, ne-eqb}
+use Rattle.rules.specs.Bytes.{Bytes, ranging, isDigit, isLower, isUpper}
+use Rattle.rules.specs.Words.{wrapped}
+use Rattle.rules.specs.Numerals.{digitWorth, behind, natural, upTo, asSigned, number}
+use Rattle.numerals.specs.declared.Natural.{Natural}
+use Rattle.numerals.specs.declared.Natural.the-variants as found
+use Rattle.numerals.specs.declared.Decimal.the-variants as read
+use Rattle.numerals.specs.Answers.{naturalOf, foundIn, decimalOf}
+
+-- a byte of a range
+at-least : (first final x : ℕ) → ranging first final x ≡ true → first ≤ x
+unfolding ranging
+at-least first final x e = go (leb first x) refl e
+  where
+    go : (t : Bool) → leb first x ≡ t → t && leb x final ≡ true → first ≤ x
+    go true f g = leb-true first x f
+    go false f g = let z : _≡_ {A = ℕ} 0 1 = cc in absurd (omega arith)
+
+-- what a byte of each class is worth
+module _ (x : ℕ) where
+  pub digit-worth : isDigit x ≡ true → (48 ≤ x) × (x - 48 ≡ digitWorth x)
+  unfolding isDigit digitWorth
+  digit-worth e = (at-least 48 57 x e, rw e)
+
+  module _ (n : isDigit x ≡ false) where
+    pub lower-worth : isLower x ≡ true → (97 ≤ x) × (x - 87 ≡ digitWorth x)
+    unfolding isLower digitWorth
+    lower-worth e = (at-least 97 122 x e, rw (n, e))
+
+    module _ (l : isLower x ≡ false) where
+      pub upper-worth : isUpper x ≡ true → (65 ≤ x) × (x - 55 ≡ digitWorth x)
+      unfolding isUpper digitWorth
+      upper-worth e = (at-least 65 90 x e, rw (n, l, e))
+
+      pub other-worth : isUpper x ≡ false → 36 ≡ digitWorth x
+      unfolding digitWorth
+      other-worth e = rw (n, l, e)
+
+-- a number on either side of a limit
+within-limit : (l n : ℕ) → n ≤ l → upTo l (some n) ≡ some n
+unfolding upTo
+within-limit l n h = rw (le-leb n l h, upTo)
+
+beyond-limit : (l n : ℕ) → l < n → upTo l (some n) ≡ none
+unfolding upTo
+beyond-limit l n h = rw (lt-leb n l h, upTo)
+
+-- a limit on what has a wider one
+narrowed : (l w : ℕ) → l ≤ w → (o : Option ℕ) → upTo l (upTo w o) ≡ upTo l o
+unfolding upTo
+narrowed l w h none = refl
+narrowed l w h (some n) = go (leb n w) refl
+  where
+    go : (t : Bool) → leb n w ≡ t → upTo l (elim t [ true ↦ some n | false ↦ none ]) ≡ upTo l (some n)
+    go true e = refl
+    go false e = let f = leb-false n w e in sym (beyond-limit l n (omega arith))
+
+found-of : (o : Option ℕ) → foundIn (naturalOf o) ≡ o
+unfolding foundIn naturalOf
+found-of none = refl
+found-of (some n) = refl
+
+pub limited : (l : ℕ) {n : Natural} (o : Option ℕ) → l ≤ 4294967295 → n ≡ naturalOf (upTo 4294967295 o) → upTo l (foundIn n) ≡ upTo l o
+limited l o h e = rw (e, found-of (upTo 4294967295 o)) (narrowed l 4294967295 h o)
+
+module _ (radix v x : ℕ) (xs : Bytes) where
+  digit-on : digitWorth x < radix → behind radix v (x ∷ xs) ≡ behind radix (v * radix + digitWorth x) xs
+  unfolding behind
+  digit-on h = rw (lt-ltb (digitWorth x) radix h, behind)
+
+  digit-off : radix ≤ digitWorth x → behind radix v (x ∷ xs) ≡ none
+  unfolding behind
+  digit-off h = rw (le-ltb (digitWorth x) radix h, behind)
+
+-- what is beyond the limit stays there
+stays-beyond : (l radix v : ℕ) (xs : Bytes) → l < v → upTo l (behind radix v xs) ≡ none
+unfolding behind upTo
+stays-beyond l radix v [] h = beyond-limit l v h
+stays-beyond l radix v (x ∷ xs) h = go (ltb (digitWorth x) radix) refl (stays-beyond l radix (v * radix + digitWorth x) xs)
+  where
+    go : (t : Bool) → ltb (digitWorth x) radix ≡ t → (l < v * radix + digitWorth x → upTo l (behind radix (v * radix + digitWorth x) xs) ≡ none)
+        → upTo l (behind radix v (x ∷ xs)) ≡ none
+    go true e f =
+        let d = ltb-true (digitWorth x) radix e in
+        let m : v * 1 ≤ v * radix = mul-le-mul-left v (omega arith) in
+        rw (digit-on radix v x xs d) (f (omega arith))
+    go false e f = rw (digit-off radix v x xs (ltb-false (digitWorth x) radix e))
+
+-- a product and a digit fit 64 bits
+pub fits-wide : {v radix d : ℕ} → v < 2 ^ 32 → radix < 2 ^ 32 → d < 2 ^ 32 → v * radix + d < 2 ^ 64
+fits-wide {v} {radix} {d} hv hr hd =
+    let a : v ≤ 4294967295 = omega arith in
+    let b : radix ≤ 4294967295 = omega arith in
+    let m : v * radix ≤ 4294967295 * 4294967295 = mul-le-mul a b in
+    omega arith
+
+-- one digit d, the worth of x, behind those of v
+module _ (radix v x d : ℕ) (e : d ≡ digitWorth x) where
+  pub no-digit : radix ≤ d → found.NoNumber ≡ naturalOf (upTo 4294967295 (behind radix v (x ∷ [])))
+  unfolding naturalOf upTo
+  no-digit h = rw (digit-off radix v x [] (omega arith))
+
+  module _ (h : d < radix) where
+    pub one-digit : v * radix + d ≤ 4294967295 → found.Number (v * radix + d) ≡ naturalOf (upTo 4294967295 (behind radix v (x ∷ [])))
+    unfolding naturalOf behind
+    one-digit k = rw (digit-on radix v x [] (omega arith), ← e, within-limit 4294967295 (v * radix + d) k)
+
+    pub one-beyond : 4294967295 < v * radix + d → found.NoNumber ≡ naturalOf (upTo 4294967295 (behind radix v (x ∷ [])))
+    unfolding naturalOf behind
+    one-beyond k = rw (digit-on radix v x [] (omega arith), ← e, beyond-limit 4294967295 (v * radix + d) k)
+
+-- go on with what was found
+then-on : Option ℕ → (ℕ → Option ℕ) → Option ℕ
+then-on none f = none
+then-on (some n) f = f n
+
+module _ (l radix v x : ℕ) (xs : Bytes) where
+  -- what digits write up to a limit: of the first, and then of the others behind it
+  by-digits : upTo l (behind radix v (x ∷ xs)) ≡ then-on (upTo l (behind radix v (x ∷ []))) (λ n. upTo l (behind radix n xs))
+  unfolding then-on upTo behind
+  by-digits = go (ltb (digitWorth x) radix) refl
+    where
+      n : ℕ
+      n = v * radix + digitWorth x
+
+      on : (t : Bool) → leb n l ≡ t → upTo l (behind radix n xs) ≡ then-on (upTo l (some n)) (λ m. upTo l (behind radix m xs))
+      on true e = rw (within-limit l n (leb-true n l e))
+      on false e = rw (beyond-limit l n (leb-false n l e)) (stays-beyond l radix n xs (leb-false n l e))
+
+      go : (t : Bool) → ltb (digitWorth x) radix ≡ t → upTo l (behind radix v (x ∷ xs)) ≡ then-on (upTo l (behind radix v (x ∷ []))) (λ m. upTo l (behind radix m xs))
+      go true e =
+          let h = ltb-true (digitWorth x) radix e in
+          rw (digit-on radix v x xs h, digit-on radix v x [] h) (on (leb n l) refl)
+      go false e =
+          let h = ltb-false (digitWorth x) radix e in
+          rw (digit-off radix v x xs h, digit-off radix v x [] h)
+
+-- what the loop of `read_natural` keeps: the whole is what the rest writes behind v
+abbrev pub Reads : ℕ → Bytes → ℕ → ℕ → Type 0
+Reads radix s v i = upTo 4294967295 (behind radix v (drop i s)) ≡ upTo 4294967295 (natural radix s)
+
+pub reads-first : (radix : ℕ) (s : Bytes) → (length s ≡ 0 → ⊥) → Reads radix s 0 0
+unfolding natural
+reads-first radix [] h = absurd (h refl)
+reads-first radix (x ∷ xs) h = refl
+
+pub reads-none : (radix : ℕ) (s : Bytes) → length s ≡ 0 → found.NoNumber ≡ naturalOf (upTo 4294967295 (natural radix s))
+unfolding naturalOf upTo natural
+reads-none radix [] h = refl
+reads-none radix (x ∷ xs) h = absurd (omega arith)
+
+module _ (radix : ℕ) (s : Bytes) (v i : ℕ) (w : Reads radix s v i) where
+  pub reads-end : length s ≤ i → v ≤ 4294967295 → found.Number v ≡ naturalOf (upTo 4294967295 (natural radix s))
+  unfolding naturalOf behind
+  reads-end h k = rw (← w, drop-of-length-le s h, within-limit 4294967295 v k)
+
+  module _ (h : i < length s) {r : Natural} (e : r ≡ naturalOf (upTo 4294967295 (behind radix v (getD s i 0 ∷ [])))) where
+    reads-more : upTo 4294967295 (natural radix s) ≡ then-on (foundIn r) (λ n. upTo 4294967295 (behind radix n (drop (i + 1) s)))
+    reads-more =
+        rw (← w, drop-cons s i 0 h, add-one i, e, found-of (upTo 4294967295 (behind radix v (getD s i 0 ∷ []))))
+        (by-digits 4294967295 radix v (getD s i 0) (drop (suc i) s))
+
+    pub reads-on : {n : ℕ} → r ≡ found.Number n → Reads radix s n (i + 1)
+    unfolding then-on foundIn
+    reads-on f = sym (reads-more ∙ rw f)
+
+    pub reads-off : r ≡ found.NoNumber → found.NoNumber ≡ naturalOf (upTo 4294967295 (natural radix s))
+    unfolding then-on foundIn naturalOf
+    reads-off f = rw (reads-more, f)
+
+-- a number read, with its sign, up to a limit
+module _ (f : ℕ → ℤ) (l : ℕ) where
+  pub no-number : {n : Natural} → n ≡ found.NoNumber → read.NoNumber ≡ decimalOf (asSigned f (upTo l (foundIn n)))
+  unfolding decimalOf asSigned upTo foundIn
+  no-number e = rw e
+
+  module _ {n : Natural} (m : ℕ) (e : n ≡ found.Number m) where
+    pub one-number : (w : ℕ) → m ≤ l → w ≡ wrapped (f m) → read.Number w ≡ decimalOf (asSigned f (upTo l (foundIn n)))
+    unfolding decimalOf asSigned foundIn
+    one-number w h k = rw (e, within-limit l m h, k)
+
+    pub number-beyond : l < m → read.NoNumber ≡ decimalOf (asSigned f (upTo l (foundIn n)))
+    unfolding decimalOf asSigned foundIn
+    number-beyond h = rw (e, beyond-limit l m h)
+
+pub wrapped-pos : (m : ℕ) → m ≤ 2147483647 → m ≡ wrapped (pos m)
+unfolding wrapped
+wrapped-pos m h = omega arith
+
+pub wrapped-neg : (m w : ℕ) → m ≤ 2147483648 → w ≡ (2 ^ 32 - m) % 2 ^ 32 → w ≡ wrapped (negℤ (pos m))
+unfolding wrapped
+wrapped-neg zero w h e = omega arith
+wrapped-neg (suc m) w h e = omega arith
+
+-- a decimal argument, by its first byte
+pub number-empty : (s : Bytes) → length s ≡ 0 → read.NoNumber ≡ decimalOf (number s)
+unfolding decimalOf number
+number-empty [] h = refl
+number-empty (x ∷ xs) h = absurd (omega arith)
+
+pub number-minus : (s : Bytes) → (length s ≡ 0 → ⊥) → getD s 0 0 ≡ 45 → number s ≡ asSigned (λ n. negℤ (pos n)) (upTo 2147483648 (natural 10 (drop 1 s)))
+unfolding number
+number-minus [] h e = absurd (h refl)
+number-minus (x ∷ xs) h e = rw (eq-eqb x 45 e, number)
+
+pub number-plain : (s : Bytes) → (length s ≡ 0 → ⊥) → (getD s 0 0 ≡ 45 → ⊥) → number s ≡ asSigned pos (upTo 2147483647 (natural 10 s))
+unfolding number
+number-plain [] h e = absurd (h refl)
+number-plain (x ∷ xs) h e = rw (ne-eqb x 45 e, number)
+
+-- `&s[1..]`, as the logic has it
+pub behind-first : (s : Bytes) → take (length s - 1) (drop 1 s) ≡ drop 1 s
+behind-first s = take-all (length s - 1) (drop 1 s) (le-of-eq (length-drop 1 s))
