@@ -28,7 +28,7 @@ arguments-counted [] = refl
 arguments-counted (c ∷ cs) =
     omega (arith, arguments-counted cs, length-append (openStrings cs) (callStrings c), length-append (c .finished) (c .current ∷ []))
 
-joined-total : (ws : List Bytes) → length (joined ws) ≡ totalLength ws
+pub joined-total : (ws : List Bytes) → length (joined ws) ≡ totalLength ws
 unfolding totalLength joined
 joined-total [] = refl
 joined-total (w ∷ ws) = length-append w (joined ws) ∙ omega (arith, joined-total ws)

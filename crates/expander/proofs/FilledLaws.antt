@@ -1,9 +1,9 @@
 -- A text written into a buffer at a place.
 use Prim.Native.Nat.{ℕ, _+_, _-_, _≤_}
-use mathlib.Core.Path.{_≡_, refl, sym, ap, _∙_}
+use mathlib.Core.Path.{_≡_, refl, sym, ap, subst, _∙_}
 use mathlib.Core.List.{List, [], _∷_, _++_, append-assoc}
 use native.Mathlib.Omega.{arith}
-use lib.ListN.{length, take, drop, set, length-append, length-take, length-drop}
+use lib.ListN.{length, take, drop, set, length-append, length-take, length-drop, take-append-drop}
 use lib.Seq.{take-at, length-take-le, drop-drop, set-split}
 use borrow.Rule.Slice.PartMut.{putMid}
 use native.Mathlib.Numerals.{add-one}
@@ -11,6 +11,8 @@ use Rattle.rules.specs.Bytes.{Bytes}
 use mathlib.Core.Bool.{Bool}
 use Rattle.ascii.specs.Copied.{Copied}
 use Rattle.expander.specs.Filled.{Filled}
+use Rattle.expander.specs.Packed.{overlaid}
+use Rattle.expander.proofs.Moving.{drop-overlaid}
 use Rattle.expander.proofs.Parts.{copied-whole}
 
 module _ {before : Bytes} {at : ℕ} {w after : Bytes} (f : Filled before at w after) where
@@ -28,6 +30,37 @@ module _ {before : Bytes} {at : ℕ} {w after : Bytes} (f : Filled before at w a
       ap length (f .is ∙ sym (append-assoc (take at before) w (drop (at + length w) before)))
       ∙ length-append (take at before ++ w) (drop (at + length w) before)
       ∙ omega (arith, front-long, length-drop (at + length w) before, f .fits)
+
+  -- and what stands behind it is as it was
+  pub filled-behind : (n : ℕ) → at + length w ≤ n → drop n after ≡ drop n before
+  unfolding overlaid
+  filled-behind n h = ap (drop n) (f .is) ∙ drop-overlaid at w before n (f .fits) h
+
+-- as the functions that write over a list leave it
+pub overlaid-fills : (d w : Bytes) (a : ℕ) {after : Bytes} → a + length w ≤ length d → after ≡ overlaid a w d → Filled d a w after
+unfolding overlaid
+overlaid-fills d w a h e = record { fits = h; is = e }
+
+pub filled-nothing : (d : Bytes) (a : ℕ) → a ≤ length d → Filled d a [] d
+filled-nothing d a h =
+    let e : a + 0 ≡ a = omega arith in
+    record { fits = omega arith; is = rw (e, take-append-drop) }
+
+-- a text, and another right behind it
+pub filled-then : {a v b w c : Bytes} {i : ℕ} → Filled a i v b → Filled b (i + length v) w c → Filled a i (v ++ w) c
+filled-then {a} {v} {b} {w} {c} {i} f g =
+    let e : i + length v + length w ≡ i + length (v ++ w) = omega (arith, length-append v w) in
+    record {
+      fits = omega (arith, g .fits, filled-long f);
+      is =
+          g .is
+          ∙ rw (filled-front f, filled-behind f (i + length v + length w) (omega arith), e)
+          (append-assoc (take i a) v (w ++ drop (i + length (v ++ w)) a) ∙ ap (λ (l : Bytes). take i a ++ l) (sym (append-assoc v w (drop (i + length (v ++ w)) a))));
+    }
+
+-- the same where the place behind the first is known by an equation
+pub filled-next : {a v b w c : Bytes} {i j : ℕ} → Filled a i v b → j ≡ i + length v → Filled b j w c → Filled a i (v ++ w) c
+filled-next {b = b} {w = w} {c = c} f e g = filled-then f (subst (λ (k : ℕ). Filled b k w c) e g)
 
 -- a part of a slice that a function filled
 pub part-fills : (d w : Bytes) (a n : ℕ) → length w ≡ n → a + n ≤ length d → Filled d a w (putMid a (a + n - a) d w)

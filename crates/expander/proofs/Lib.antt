@@ -1,8 +1,17 @@
+pub mod ArgumentLaws
 pub mod Border
 pub mod CallsLaws
 pub mod Changing
 pub mod Comments
+pub mod CutLaws
+pub mod DefiningLaws
+pub mod DefnLaws
+pub mod DeliveringLaws
+pub mod DivertingLaws
+pub mod FigureLaws
 pub mod FilledLaws
+pub mod GivingLaws
+pub mod ListLaws
 pub mod MachineLaws
 pub mod MarkLaws
 pub mod Marks
@@ -18,6 +27,7 @@ pub mod Passes
 pub mod Placing
 pub mod Quotes
 pub mod Reading
+pub mod RemarkingLaws
 pub mod Rows
 pub mod Runs
 pub mod Scans
@@ -25,7 +35,11 @@ pub mod Sifting
 pub mod SinksLaws
 pub mod SourceLaws
 pub mod Splicing
+pub mod SubstitutionLaws
+pub mod TextLaws
 pub mod Totals
+pub mod TurnLaws
+pub mod Turns
 pub mod VerdictLaws
 pub mod Waiting
 pub mod Within

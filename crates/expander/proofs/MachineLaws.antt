@@ -26,7 +26,7 @@ use Rattle.expander.proofs.Changing.{cost-used}
 use Rattle.expander.proofs.Totals.{used-is}
 use Rattle.expander.proofs.VerdictLaws.{verdict-next, verdict-stop, verdict-room, verdict-stop-room, verdict-refused, fits-then, overflows}
 
-front-long : {buffer : Bytes} {n : ℕ} {w : Bytes} → Front buffer n w → length w ≡ n
+pub front-long : {buffer : Bytes} {n : ℕ} {w : Bytes} → Front buffer n w → length w ≡ n
 front-long {buffer} {n} f = sym (ap length (f .text-is)) ∙ length-take-le n buffer (f .inside)
 
 -- ---- what each buffer holds
@@ -136,3 +136,8 @@ module _ {a : Setting} {b : Memory} where
       {m : Machine} (t : State) (k : ℕ) → overfull (held t) (lengths a) ≡ some k → Gives a (next t) b (record { went = went.Refused (answer.Room (k + 1)); machine = m })
   unfolding Came
   gives-room t k e = record { came = rw (verdict-room (lengths a) t k e) (ap (λ (n : ℕ). went.Refused (answer.Room n)) (omega arith)) }
+
+  pub gives-stop-room :
+      {m : Machine} (e : Ending) (t : State) (k : ℕ) → overfull (held t) (lengths a) ≡ some k → Gives a (stop e t) b (record { went = went.Refused (answer.Room (k + 1)); machine = m })
+  unfolding Came
+  gives-stop-room e t k q = record { came = rw (verdict-stop-room (lengths a) e t k q) (ap (λ (n : ℕ). went.Refused (answer.Room n)) (omega arith)) }

@@ -67,11 +67,11 @@ module _ {streams : Bytes} {owners : List ℕ} {output : Bytes} {k : Sinks} {n :
 
 -- ---- the current stream by its bits
 
-small-is : (c : ℕ) → c ≤ 9 → signedValue c ≡ pos c
+pub small-is : (c : ℕ) → c ≤ 9 → signedValue c ≡ pos c
 unfolding signedValue
 small-is c h = rw (lt-ltb c 2147483648 (omega arith))
 
-lost-is : (c : ℕ) → 9 < c → discards (signedValue c) ≡ true
+pub lost-is : (c : ℕ) → 9 < c → discards (signedValue c) ≡ true
 unfolding signedValue discards
 lost-is c h = go (ltb c 2147483648)
   where

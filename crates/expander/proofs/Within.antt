@@ -66,6 +66,9 @@ first-in m (x ∷ xs) = go (beginsWith m (x ∷ xs)) refl (first-in m xs)
     go true e h = rw (first-here m (x ∷ xs) e) (omega (arith, begins-long m (x ∷ xs) e))
     go false e h = rw (first-later m x xs e) (later-in (length m) (length xs) (firstPlace m xs) h)
 
+pub first-within : (m s : Bytes) (n : ℕ) → firstPlace m s ≡ some n → n + length m ≤ length s
+first-within m s n e = subst (PlaceIn (length m) (length s)) e (first-in m s)
+
 abbrev EndIn : ℕ → ℕ → QuoteEnd → Type 0
 EndIn n l (leftOpen d) = Unit {0}
 EndIn n l (closesAt k) = k + n ≤ l

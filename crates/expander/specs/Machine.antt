@@ -1,5 +1,5 @@
 -- What the buffers, the links and the by-value machine mean: one state. And what a step has to give.
-use Prim.Native.Nat.{ℕ, _≤_}
+use Prim.Native.Nat.{ℕ, _+_, _-_, _≤_}
 use mathlib.Core.Path.{_≡_}
 use mathlib.Core.List.{List}
 use lib.ListN.{length}
@@ -14,6 +14,7 @@ use Rattle.expander.specs.declared.sinks.Sinks.{Sinks}
 use Rattle.expander.specs.declared.source.Position.{Position}
 use Rattle.expander.specs.declared.table.Definitions.{Definitions}
 use Rattle.expander.specs.declared.machine.Turn.{Turn}
+use Rattle.expander.specs.declared.machine.Went.{Went}
 use Rattle.expander.specs.declared.machine.Went.the-variants as went
 use Rattle.expander.specs.Source.{SourceIn}
 use Rattle.expander.specs.Calls.{CallsIn}
@@ -56,6 +57,39 @@ memory text pending calls callEnds stack definitions tableEnds streams owners wr
       errors = errors;
       output = output;
     }
+
+-- the memory with some of its parts replaced: a function is lent these, and its promise holds whatever the others hold
+abbrev pub textAt : Bytes → Memory → Memory
+textAt text b =
+    memory text (b .pending) (b .calls) (b .callEnds) (b .stack) (b .definitions) (b .tableEnds) (b .streams) (b .owners) (b .wrap) (b .errors) (b .output)
+
+abbrev pub pendingAt : Bytes → Memory → Memory
+pendingAt pending b =
+    memory (b .text) pending (b .calls) (b .callEnds) (b .stack) (b .definitions) (b .tableEnds) (b .streams) (b .owners) (b .wrap) (b .errors) (b .output)
+
+abbrev pub stringsAt : Bytes → List ℕ → Memory → Memory
+stringsAt calls callEnds b =
+    memory (b .text) (b .pending) calls callEnds (b .stack) (b .definitions) (b .tableEnds) (b .streams) (b .owners) (b .wrap) (b .errors) (b .output)
+
+abbrev pub callsAt : Bytes → List ℕ → List ℕ → Memory → Memory
+callsAt calls callEnds stack b =
+    memory (b .text) (b .pending) calls callEnds stack (b .definitions) (b .tableEnds) (b .streams) (b .owners) (b .wrap) (b .errors) (b .output)
+
+abbrev pub definitionsAt : Bytes → List ℕ → Memory → Memory
+definitionsAt definitions tableEnds b =
+    memory (b .text) (b .pending) (b .calls) (b .callEnds) (b .stack) definitions tableEnds (b .streams) (b .owners) (b .wrap) (b .errors) (b .output)
+
+abbrev pub sinksAt : Bytes → List ℕ → Bytes → Memory → Memory
+sinksAt streams owners output b =
+    memory (b .text) (b .pending) (b .calls) (b .callEnds) (b .stack) (b .definitions) (b .tableEnds) streams owners (b .wrap) (b .errors) output
+
+abbrev pub wrapAt : Bytes → Memory → Memory
+wrapAt wrap b =
+    memory (b .text) (b .pending) (b .calls) (b .callEnds) (b .stack) (b .definitions) (b .tableEnds) (b .streams) (b .owners) wrap (b .errors) (b .output)
+
+abbrev pub errorsAt : Bytes → Memory → Memory
+errorsAt errors b =
+    memory (b .text) (b .pending) (b .calls) (b .callEnds) (b .stack) (b .definitions) (b .tableEnds) (b .streams) (b .owners) (b .wrap) errors (b .output)
 
 -- how much is lent, and how long the links are
 pub record Limits (a : Setting) (b : Memory) : Type 0 where
@@ -119,11 +153,25 @@ abbrev pub errorsSet : ℕ → Machine → Machine
 errorsSet x m =
     record { marks = m .marks; source = m .source; calls = m .calls; table = m .table; sinks = m .sinks; wrap = m .wrap; errors = x }
 
--- some state is meant: what a function of the step asks
-pub record Sound (b : Memory) (m : Machine) : Type 0 where
+-- what a step gives, of its parts
+abbrev pub turned : Went → Machine → Turn
+turned w m = record { went = w; machine = m }
+
+-- some state is meant, whatever the parts of the memory hold that are not lent: what a function of the step asks
+pub record Sound (lent : Memory → Memory) (m : Machine) : Type 0 where
+  pub others : Memory
   pub setting : Setting
   pub state : State
-  pub means : Means setting b m state
+  pub means : Means setting (lent others) m state
+
+-- how many bytes are ahead of a position
+abbrev pub aheadOf : Bytes → Bytes → Position → ℕ
+aheadOf text pending p = (length pending - p .from) + (length text - p .taken)
+
+-- n bytes from `start` on, and `width` bytes, are ahead
+pub record Reach (text pending : Bytes) (p : Position) (start n width : ℕ) : Type 0 where
+  pub some : start + n ≤ aheadOf text pending p
+  pub whole : width ≤ aheadOf text pending p
 
 -- what a function leaves whose outcome is o, once room is judged
 unfoldable pub Came : Setting → Memory → Turn → Verdict → Type 0

@@ -1,14 +1,26 @@
-// The expander: the run of a text in lent memory.
+// The expander.
 mod ahead;
+mod arguments;
 mod calls;
 mod collect;
+mod cuts;
+mod defining;
+mod defn;
+mod delivering;
+mod diverting;
+mod figures;
 mod fill;
+mod giving;
+mod lists;
 mod machine;
 mod marking;
 mod packed;
 mod pending;
+mod remarking;
 mod sinks;
 mod source;
 mod streams;
+mod substitution;
 mod table;
+mod texts;
 mod tokens;

@@ -6,7 +6,8 @@ use crate::table::Definitions;
 use rules::Answer;
 use rules::Marks;
 ghost use mathlib.Core.Path.{_≡_};
-ghost use Rattle.expander.specs.Machine.{sourceSet, marksSet, callsSet, tableSet, sinksSet, wrapSet, errorsSet};
+ghost use Rattle.expander.specs.Machine.{sourceSet, marksSet, callsSet, tableSet, sinksSet, wrapSet, errorsSet, turned};
+ghost use Rattle.expander.specs.declared.machine.Went.the-variants as went;
 
 // The marks in force; where the text ahead, the open calls, the definitions and the streams stand; how many bytes wait in the wrap text
 // and are written to the error text.
@@ -81,5 +82,35 @@ impl Machine {
     {
         self.errors = errors;
         self
+    }
+
+    // The run goes on from here.
+    pub(crate) fn on(self) -> Turn
+        ensures { λ r. ⌜ r ≡ turned went.On self ⌝ }
+    {
+        Turn {
+            went: Went::On,
+            machine: self,
+        }
+    }
+
+    // The run ends here.
+    pub(crate) fn ended(self, answer: Answer) -> Turn
+        ensures { λ r. ⌜ r ≡ turned (went.Ended answer) self ⌝ }
+    {
+        Turn {
+            went: Went::Ended(answer),
+            machine: self,
+        }
+    }
+
+    // The step is refused.
+    pub(crate) fn refused(self, answer: Answer) -> Turn
+        ensures { λ r. ⌜ r ≡ turned (went.Refused answer) self ⌝ }
+    {
+        Turn {
+            went: Went::Refused(answer),
+            machine: self,
+        }
     }
 }

@@ -1,0 +1,170 @@
+-- Laws of the arguments of a closed call: where one stands, and what number it is. Assumes nothing.
+use Prim.Native.Nat.{ℕ, zero, suc, _+_, _-_, _%_, _^_, _≤_, _<_}
+use native.Mathlib.Omega.{arith}
+use mathlib.Core.Path.{_≡_, refl, sym, ap, subst, _∙_}
+use mathlib.Core.Bool.{Bool, true, false}
+use mathlib.Core.List.{List, [], _∷_}
+use mathlib.Core.Option.{Option, none, some}
+use lib.Dec.{leb, eqb}
+use lib.IntN.{ℤ, pos, negsuc, negℤ}
+use lib.ListN.{length, getD, length-drop, drop-of-length-le, List·getD-eq-default}
+use lib.Seq.{drop-cons, getD-drop}
+use borrow.Author.Tests.{le-leb, lt-leb, leb-true, leb-false, lt-ltb, le-ltb}
+use Rattle.numerals.specs.declared.Decimal.{Decimal}
+use Rattle.numerals.specs.declared.Decimal.the-variants as read
+use Rattle.numerals.specs.declared.Natural.the-variants as found
+use Rattle.numerals.specs.Answers.{decimalOf, naturalOf}
+use Rattle.rules.specs.Bytes.{Bytes}
+use Rattle.rules.specs.Words.{signedValue, wrapped}
+use Rattle.rules.specs.Numerals.{natural, upTo, asSigned, number}
+use Rattle.rules.specs.Arguments.{arg, numberOr, bounded}
+use Rattle.expander.specs.declared.arguments.Arguments.{Arguments}
+use Rattle.expander.specs.Packed.{startOf}
+use Rattle.expander.specs.Arguments.{ArgumentsIn, SpanIs, bitsWithin}
+use Rattle.expander.proofs.Packing.{count-is, lies}
+
+pub arg-absent : (n : ℕ) (args : List Bytes) → length args ≤ n - 1 → arg n args ≡ []
+unfolding arg
+arg-absent n args le = List·getD-eq-default args [] le
+
+module _ {bytes : Bytes} {ends : List ℕ} {x : Arguments} {args : List Bytes} (h : ArgumentsIn bytes ends x args) where
+  -- how many there are
+  pub arguments-counted : x .strings .count - x .base ≡ length args
+  arguments-counted = omega (arith, ap length (h .are), length-drop (x .base) (h .strings), count-is (h .packs))
+
+  -- where the n-th stands, and where it does not
+  pub span-there :
+      (n start end : ℕ) → x .base + (n - 1) < x .strings .count → start ≡ startOf ends (x .base + (n - 1)) → end ≡ startOf ends (x .base + (n - 1) + 1)
+      → SpanIs bytes (record { start = start; end = end }) (arg n args)
+  unfolding arg
+  span-there n start end lt es ee =
+      let l = lies (h .packs) (x .base + (n - 1)) start end lt es ee in
+      record {
+        is = l .is ∙ sym (ap (λ (a : List Bytes). getD a (n - 1) []) (h .are) ∙ getD-drop (x .base) (h .strings) (n - 1) []);
+        ordered = l .ordered;
+        inside = l .within;
+      }
+
+  pub span-absent : (n : ℕ) → x .strings .count ≤ x .base + (n - 1) → SpanIs bytes (record { start = 0; end = 0 }) (arg n args)
+  span-absent n le = record { is = sym (arg-absent n args (omega (arith, arguments-counted))); ordered = omega arith; inside = omega arith }
+
+-- a number of 32 bits: from -2 ^ 31, which is `negsuc 2147483647`, to 2 ^ 31 - 1
+abbrev pub Signed : ℤ → Type 0
+Signed (pos n) = n ≤ 2147483647
+Signed (negsuc n) = n ≤ 2147483647
+
+signed-neg : (n : ℕ) → n ≤ 2147483648 → Signed (negℤ (pos n))
+signed-neg zero h = omega arith
+signed-neg (suc n) h = omega arith
+
+-- its bits stand for it
+pub signed-bits : (z : ℤ) → Signed z → signedValue (wrapped z) ≡ z
+unfolding signedValue wrapped
+signed-bits (pos n) h =
+    let e : n % 2 ^ 32 ≡ n = omega arith in
+    rw (e, lt-ltb n 2147483648 (omega arith))
+signed-bits (negsuc n) h =
+    let e : n % 2 ^ 32 ≡ n = omega arith in
+    let f : 4294967295 - (4294967295 - n) ≡ n = omega arith in
+    rw (e, le-ltb (4294967295 - n) 2147483648 (omega arith), f)
+
+-- what a text writes within a limit
+limited : (f : ℕ → ℤ) (l : ℕ) → ((n : ℕ) → n ≤ l → Signed (f n)) → (o : Option ℕ) (z : ℤ) → asSigned f (upTo l o) ≡ some z → Signed z
+unfolding asSigned upTo
+limited f l g none z e = let w : _≡_ {A = ℕ} 0 1 = cc in absurd (omega arith)
+limited f l g (some n) z e = go (leb n l) refl e
+  where
+    go : (t : Bool) → leb n l ≡ t → asSigned f (elim t [ true ↦ some n | false ↦ none ]) ≡ some z → Signed z
+    go true q k = let m : f n ≡ z = cc in subst Signed m (g n (leb-true n l q))
+    go false q k = let w : _≡_ {A = ℕ} 0 1 = cc in absurd (omega arith)
+
+pub number-range : (w : Bytes) (z : ℤ) → number w ≡ some z → Signed z
+unfolding number
+number-range [] z e = let w : _≡_ {A = ℕ} 0 1 = cc in absurd (omega arith)
+number-range (x ∷ xs) z e = go (eqb x 45) e
+  where
+    go : (t : Bool)
+        → elim t [ true ↦ asSigned (λ n. negℤ (pos n)) (upTo 2147483648 (natural 10 xs)) | false ↦ asSigned pos (upTo 2147483647 (natural 10 (x ∷ xs))) ] ≡ some z
+        → Signed z
+    go true q = limited (λ n. negℤ (pos n)) 2147483648 signed-neg (natural 10 xs) z q
+    go false q = limited pos 2147483647 (λ n h. h) (natural 10 (x ∷ xs)) z q
+
+pub number-bits : (w : Bytes) (z : ℤ) → number w ≡ some z → signedValue (wrapped z) ≡ z
+number-bits w z e = signed-bits z (number-range w z e)
+
+-- the same with a default
+module _ (d n : ℕ) (args : List Bytes) where
+  pub or-absent : length args ≤ n - 1 → numberOr (pos d) n args ≡ some (pos d)
+  unfolding numberOr
+  or-absent h = rw (drop-of-length-le args h, numberOr)
+
+  pub or-there : n - 1 < length args → numberOr (pos d) n args ≡ number (arg n args)
+  unfolding numberOr arg
+  or-there h = rw (drop-cons args (n - 1) [] h, numberOr)
+
+  pub number-or-range : (z : ℤ) → d ≤ 2147483647 → numberOr (pos d) n args ≡ some z → Signed z
+  number-or-range z h e = go (leb (length args) (n - 1)) refl
+    where
+      go : (t : Bool) → leb (length args) (n - 1) ≡ t → Signed z
+      go true q = let k : some (pos d) ≡ some z = sym (or-absent (leb-true _ _ q)) ∙ e in let m : pos d ≡ z = cc in subst Signed m h
+      go false q = number-range (arg n args) z (sym (or-there (leb-false _ _ q)) ∙ e)
+
+  pub number-or-bits : (z : ℤ) → d ≤ 2147483647 → numberOr (pos d) n args ≡ some z → signedValue (wrapped z) ≡ z
+  number-or-bits z h e = signed-bits z (number-or-range z h e)
+
+-- the bits of a default
+pub default-bits : (d : ℕ) → d ≤ 2147483647 → read.Number d ≡ decimalOf (some (pos d))
+unfolding decimalOf wrapped
+default-bits d h = ap read.Number (omega arith)
+
+-- a number from `low` to `high`, by its bits
+module _ (low high : ℕ) where
+  pub no-bits : {d : Decimal} → d ≡ read.NoNumber → found.NoNumber ≡ bitsWithin low high d
+  unfolding bitsWithin
+  no-bits e = rw e
+
+  module _ (b : ℕ) where
+    too-low : b < low → bitsWithin low high (read.Number b) ≡ found.NoNumber
+    unfolding bitsWithin
+    too-low h = rw (lt-leb low b h, bitsWithin)
+
+    too-high : high < b → bitsWithin low high (read.Number b) ≡ found.NoNumber
+    unfolding bitsWithin
+    too-high h = go (leb low b)
+      where
+        go : (t : Bool) → elim t [ true ↦ elim (leb b high) [ true ↦ found.Number b | false ↦ found.NoNumber ] | false ↦ found.NoNumber ] ≡ found.NoNumber
+        go true = rw (lt-leb b high h)
+        go false = refl
+
+    in-range : low ≤ b → b ≤ high → bitsWithin low high (read.Number b) ≡ found.Number b
+    unfolding bitsWithin
+    in-range h k = rw (le-leb low b h, le-leb b high k, bitsWithin)
+
+    module _ {d : Decimal} (e : d ≡ read.Number b) where
+      pub bits-low : b < low → found.NoNumber ≡ bitsWithin low high d
+      bits-low h = sym (too-low h) ∙ ap (bitsWithin low high) (sym e)
+
+      pub bits-high : high < b → found.NoNumber ≡ bitsWithin low high d
+      bits-high h = sym (too-high h) ∙ ap (bitsWithin low high) (sym e)
+
+      pub bits-in : low ≤ b → b ≤ high → found.Number b ≡ bitsWithin low high d
+      bits-in h k = sym (in-range h k) ∙ ap (bitsWithin low high) (sym e)
+
+  -- the bits of a negative number lie beyond every bound
+  pub within-bits : (o : Option ℤ) → high ≤ 2147483647 → ((z : ℤ) → o ≡ some z → Signed z) → bitsWithin low high (decimalOf o) ≡ naturalOf (bounded low high o)
+  unfolding bitsWithin decimalOf naturalOf bounded wrapped
+  within-bits none h g = refl
+  within-bits (some (negsuc n)) h g = let k : n ≤ 2147483647 = g (negsuc n) refl in too-high (4294967295 - n % 2 ^ 32) (omega arith)
+  within-bits (some (pos n)) h g =
+      let k : n ≤ 2147483647 = g (pos n) refl in
+      let e : n % 2 ^ 32 ≡ n = omega arith in
+      rw e (go (leb low n))
+    where
+      go : (t : Bool) → elim t [ true ↦ elim (leb n high) [ true ↦ found.Number n | false ↦ found.NoNumber ] | false ↦ found.NoNumber ]
+          ≡ naturalOf (elim t [ true ↦ elim (leb n high) [ true ↦ some n | false ↦ none ] | false ↦ none ])
+      go false = refl
+      go true = on (leb n high)
+        where
+          on : (u : Bool) → elim u [ true ↦ found.Number n | false ↦ found.NoNumber ] ≡ naturalOf (elim u [ true ↦ some n | false ↦ none ])
+          on true = refl
+          on false = refl

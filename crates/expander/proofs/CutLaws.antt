@@ -1,0 +1,235 @@
+-- Laws of the macros whose result is a part of an argument. Assumes nothing.
+use Prim.Native.Nat.{ℕ, zero, suc, _+_, _-_, _≤_, _<_, min}
+use native.Mathlib.Nat.{add-zero, le-trans, le-add-right}
+use native.Mathlib.Omega.{arith}
+use mathlib.Core.Path.{_≡_, refl, sym, ap, _∙_}
+use mathlib.Core.Logic.{_⊎_, inl, inr}
+use mathlib.Core.Bool.{Bool, true, false}
+use mathlib.Core.List.{List, [], _∷_}
+use denote.Enum.Declared.{tagOf}
+use lib.IntN.{pos}
+use lib.ListN.{length, take, drop, getD, length-drop}
+use lib.Seq.{take-nil, drop-nil, drop-drop, getD-drop}
+use Rattle.numerals.specs.Answers.{naturalOf}
+use Rattle.numerals.specs.declared.Natural.{Natural}
+use Rattle.numerals.specs.declared.Natural.the-variants as found
+use Rattle.rules.specs.Bytes.{Bytes, sameBytes}
+use Rattle.rules.specs.Numerals.{number}
+use Rattle.rules.specs.Table.{Table, Definition, meaningOf, isDefined}
+use Rattle.rules.specs.Arguments.{arg, numberOr, bounded}
+use Rattle.rules.specs.Results.{Result, yields, needing, ifdefResult, chosen, ifelseResult, substrResult}
+use Rattle.expander.specs.declared.arguments.Arguments.{Arguments}
+use Rattle.expander.specs.declared.arguments.Span.{Span}
+use Rattle.expander.specs.declared.cuts.Cut.{Cut}
+use Rattle.expander.specs.declared.cuts.Cut.the-variants as cut
+use Rattle.expander.specs.declared.table.Meaning.{Meaning as Looked}
+use Rattle.expander.specs.declared.table.Meaning.the-variants as looked
+use Rattle.expander.specs.Arguments.{ArgumentsIn, SomeArguments, ArgumentLinks, SpanIs}
+use Rattle.expander.specs.Table.{rows, meaningFor, Finds}
+use Rattle.expander.specs.Results.{cutResult, CutInside, Cuts}
+use Rattle.expander.proofs.table.Meaning.{the-type}
+use Rattle.expander.proofs.Packing.{count-is, same-of}
+use Rattle.expander.proofs.Parts.{part-long}
+use Rattle.expander.proofs.FigureLaws.{reads-none, reads-some}
+
+pub cuts-same : {bytes : Bytes} {v w : Result} {c : Cut} → w ≡ v → Cuts bytes v c → Cuts bytes w c
+cuts-same e h = record { is = e ∙ h .is; inside = h .inside }
+
+-- a whole part, and the empty one
+pub cuts-span : {bytes : Bytes} {p : Span} {w : Bytes} → SpanIs bytes p w → Cuts bytes (yields w) (cut.Part (p .start) (p .end))
+unfolding cutResult CutInside
+cuts-span h = record { is = ap yields (sym (h .is)); inside = (h .ordered, h .inside) }
+
+pub cuts-nothing : (bytes : Bytes) → Cuts bytes (yields []) (cut.Part 0 0)
+unfolding cutResult CutInside
+cuts-nothing bytes = record { is = refl; inside = (omega arith, omega arith) }
+
+pub argument-links : {bytes : Bytes} {ends : List ℕ} {x : Arguments} → SomeArguments bytes ends x → ArgumentLinks ends x
+argument-links {bytes} h = record { bytes = bytes; args = h .args; holds = h .holds }
+
+-- ---- ifdef
+
+is-defined : (ds : List Definition) (r : Looked) → (tagOf the-type r ≡ 0) ⊎ (tagOf the-type r ≡ 1) → (w : Bytes) (t : Table) → meaningOf w t ≡ meaningFor (rows ds) r → isDefined w t ≡ true
+unfolding isDefined meaningFor
+is-defined ds looked.Undefined (inl k) w t e = absurd (omega arith)
+is-defined ds looked.Undefined (inr k) w t e = absurd (omega arith)
+is-defined ds (looked.Text i) k w t e = rw (e, isDefined)
+is-defined ds (looked.Predefined n) k w t e = rw (e, isDefined)
+
+module _ (args : List Bytes) (t : Table) {w : Bytes} (e : w ≡ arg 1 args) {ds : List Definition} {r : Looked} (f : Finds ds (meaningOf w t) r) where
+  pub ifdef-none : r ≡ looked.Undefined → ifdefResult t args ≡ yields (arg 3 args)
+  unfolding ifdefResult isDefined meaningFor
+  ifdef-none k =
+      let m : isDefined w t ≡ false = rw (f .is ∙ ap (meaningFor (rows ds)) k, isDefined) in
+      rw (← e, m)
+
+  -- by what the default arm of the `match` tells
+  pub ifdef-some : (tagOf the-type r ≡ 0) ⊎ (tagOf the-type r ≡ 1) → ifdefResult t args ≡ yields (arg 2 args)
+  unfolding ifdefResult
+  ifdef-some k = rw (← e, is-defined ds r k w t (f .is))
+
+-- ---- ifelse
+
+pub few-arguments : {bytes : Bytes} {ends : List ℕ} {x : Arguments} {args : List Bytes} → ArgumentsIn bytes ends x args → length args ≤ 320
+few-arguments {x = x} h = omega (arith, ap length (h .are), length-drop (x .base) (h .strings), count-is (h .packs), h .few)
+
+-- the strings that are left, by how many they are and whether the first two are the same
+same-left : (l : List Bytes) → 3 ≤ length l → sameBytes (getD l 0 []) (getD l 1 []) ≡ true → chosen l ≡ getD l 2 []
+unfolding chosen
+same-left [] h e = absurd (omega arith)
+same-left (a ∷ []) h e = absurd (omega arith)
+same-left (a ∷ b ∷ []) h e = absurd (omega arith)
+same-left (a ∷ b ∷ c ∷ []) h e = rw e
+same-left (a ∷ b ∷ c ∷ d ∷ []) h e = rw e
+same-left (a ∷ b ∷ c ∷ d ∷ f ∷ []) h e = rw e
+same-left (a ∷ b ∷ c ∷ d ∷ f ∷ g ∷ l) h e = ap (λ (t : Bool). elim t [ true ↦ c | false ↦ chosen (d ∷ f ∷ g ∷ l) ]) e
+
+last-left : (l : List Bytes) → 3 ≤ length l → length l ≤ 5 → sameBytes (getD l 0 []) (getD l 1 []) ≡ false → chosen l ≡ getD l 3 []
+unfolding chosen
+last-left [] h k e = absurd (omega arith)
+last-left (a ∷ []) h k e = absurd (omega arith)
+last-left (a ∷ b ∷ []) h k e = absurd (omega arith)
+last-left (a ∷ b ∷ c ∷ []) h k e = rw e
+last-left (a ∷ b ∷ c ∷ d ∷ []) h k e = rw e
+last-left (a ∷ b ∷ c ∷ d ∷ f ∷ []) h k e = rw e
+last-left (a ∷ b ∷ c ∷ d ∷ f ∷ g ∷ l) h k e = absurd (omega arith)
+
+more-left : (l : List Bytes) → 5 < length l → sameBytes (getD l 0 []) (getD l 1 []) ≡ false → chosen (drop 3 l) ≡ chosen l
+unfolding chosen
+more-left [] h e = absurd (omega arith)
+more-left (a ∷ []) h e = absurd (omega arith)
+more-left (a ∷ b ∷ []) h e = absurd (omega arith)
+more-left (a ∷ b ∷ c ∷ []) h e = absurd (omega arith)
+more-left (a ∷ b ∷ c ∷ d ∷ []) h e = absurd (omega arith)
+more-left (a ∷ b ∷ c ∷ d ∷ f ∷ []) h e = absurd (omega arith)
+more-left (a ∷ b ∷ c ∷ d ∷ f ∷ g ∷ l) h e = sym (ap (λ (t : Bool). elim t [ true ↦ c | false ↦ chosen (d ∷ f ∷ g ∷ l) ]) e)
+
+few-left : (l : List Bytes) → length l < 3 → chosen l ≡ []
+unfolding chosen
+few-left [] h = refl
+few-left (a ∷ []) h = refl
+few-left (a ∷ b ∷ []) h = refl
+few-left (a ∷ b ∷ c ∷ l) h = absurd (omega arith)
+
+-- what the loop of `ifelse` keeps: the arguments from k on give what all give
+pub record Choosing (bytes : Bytes) (ends : List ℕ) (x : Arguments) (k : ℕ) : Type 0 where
+  pub low : 1 ≤ k
+  pub high : k ≤ 321
+  pub same : (args : List Bytes) → ArgumentsIn bytes ends x args → chosen (drop (k - 1) args) ≡ chosen args
+
+pub choosing-begins : (bytes : Bytes) (ends : List ℕ) (x : Arguments) → Choosing bytes ends x 1
+choosing-begins bytes ends x = record { low = omega arith; high = omega arith; same = λ args h. refl }
+
+-- argument j of those from k on
+left-at : (args : List Bytes) (k j : ℕ) → 1 ≤ k → getD (drop (k - 1) args) j [] ≡ arg (k + j) args
+unfolding arg
+left-at args k j h = getD-drop (k - 1) args j [] ∙ ap (λ (n : ℕ). getD args n []) (let e : k - 1 + j ≡ k + j - 1 = omega arith in e)
+
+module _ {bytes : Bytes} {ends : List ℕ} {x : Arguments} {k : ℕ} (c : Choosing bytes ends x k) {args : List Bytes} (h : ArgumentsIn bytes ends x args) {have : ℕ} (n : have ≡ length args) where
+  left-long : length (drop (k - 1) args) ≡ have - (k - 1)
+  left-long = length-drop (k - 1) args ∙ ap (λ (m : ℕ). m - (k - 1)) (sym n)
+
+  pub none-left : have < k + 2 → ifelseResult args ≡ yields []
+  unfolding ifelseResult
+  none-left l = ap yields (sym (c .same args h) ∙ few-left (drop (k - 1) args) (omega (arith, left-long, c .low)))
+
+  module _ (l : k + 2 ≤ have) {r : Bool} (e : r ≡ sameBytes (arg k args) (arg (k + 1) args)) where
+    alike-left : sameBytes (getD (drop (k - 1) args) 0 []) (getD (drop (k - 1) args) 1 []) ≡ r
+    alike-left = same-of (left-at args k 0 (c .low) ∙ ap (λ (i : ℕ). arg i args) (add-zero k)) (left-at args k 1 (c .low)) ∙ sym e
+
+    pub taken-left : r ≡ true → ifelseResult args ≡ yields (arg (k + 2) args)
+    unfolding ifelseResult
+    taken-left t = ap yields (sym (c .same args h) ∙ same-left (drop (k - 1) args) (omega (arith, left-long, c .low)) (alike-left ∙ t) ∙ left-at args k 2 (c .low))
+
+    pub other-left : r ≡ false → have ≤ k + 4 → ifelseResult args ≡ yields (arg (k + 3) args)
+    unfolding ifelseResult
+    other-left t m =
+        ap yields (sym (c .same args h) ∙ last-left (drop (k - 1) args) (omega (arith, left-long, c .low)) (omega (arith, left-long, c .low)) (alike-left ∙ t) ∙ left-at args k 3 (c .low))
+
+    next-left : r ≡ false → k + 4 < have → chosen (drop (k + 3 - 1) args) ≡ chosen args
+    next-left t m =
+        let e : k - 1 + 3 ≡ k + 3 - 1 = omega (arith, c .low) in
+        ap (λ (i : ℕ). chosen (drop i args)) (sym e)
+        ∙ ap chosen (sym (drop-drop 3 (k - 1) args))
+        ∙ more-left (drop (k - 1) args) (omega (arith, left-long, c .low)) (alike-left ∙ t)
+        ∙ c .same args h
+
+pub choosing-on : {bytes : Bytes} {ends : List ℕ} {x : Arguments} {k : ℕ} → Choosing bytes ends x k → SomeArguments bytes ends x
+    → {have : ℕ} → ((args : List Bytes) → ArgumentsIn bytes ends x args → have ≡ length args)
+    → {r : Bool} → ((args : List Bytes) → ArgumentsIn bytes ends x args → r ≡ sameBytes (arg k args) (arg (k + 1) args)) → r ≡ false → k + 4 < have
+    → Choosing bytes ends x (k + 3)
+choosing-on c p n e t m = record {
+  low = omega arith;
+  high = omega (arith, n (p .args) (p .holds), few-arguments (p .holds));
+  same = λ args h. next-left c h (n args h) (omega arith) (e args h) t m;
+}
+
+-- ---- substr
+
+-- a part of a part
+take-both : (m n : ℕ) (l : Bytes) → take m (take n l) ≡ take (min m n) l
+take-both zero n l = let e : 0 ≡ min 0 n = omega arith in ap (λ (i : ℕ). take i l) e
+take-both (suc m) zero l = let e : 0 ≡ min (suc m) 0 = omega arith in ap (λ (i : ℕ). take i l) e
+take-both (suc m) (suc n) [] = sym (take-nil (min (suc m) (suc n)))
+take-both (suc m) (suc n) (x ∷ l) =
+    let e : min (suc m) (suc n) ≡ suc (min m n) = omega arith in
+    ap (λ (r : Bytes). x ∷ r) (take-both m n l) ∙ ap (λ (i : ℕ). take i (x ∷ l)) (sym e)
+
+part-of-part : (from count n : ℕ) (l : Bytes) → take count (drop from (take n l)) ≡ take (min count (n - from)) (drop (min from n) l)
+part-of-part zero count n l =
+    let e : min 0 n ≡ 0 = omega arith in
+    let d : n - 0 ≡ n = omega arith in
+    rw (e, d) (take-both count n l)
+part-of-part (suc f) count zero l =
+    let e : min count (0 - suc f) ≡ 0 = omega arith in
+    take-nil count ∙ ap (λ (i : ℕ). take i (drop (min (suc f) 0) l)) (sym e)
+part-of-part (suc f) count (suc n) [] = take-nil count ∙ sym (ap (take (min count (suc n - suc f))) (drop-nil (min (suc f) (suc n))) ∙ take-nil (min count (suc n - suc f)))
+part-of-part (suc f) count (suc n) (x ∷ l) =
+    let e : min (suc f) (suc n) ≡ suc (min f n) = omega arith in
+    let d : suc n - suc f ≡ n - f = omega arith in
+    rw (e, d) (part-of-part f count n l)
+
+-- how long it is
+left-over : (s e from a : ℕ) → s ≤ e → a ≡ min from (e - s) → e - (s + a) ≡ e - s - from
+left-over s e from a h k = omega arith
+
+behind-itself : (n m : ℕ) → n + m - n ≡ m
+behind-itself n m = omega arith
+
+end-in : (s e from a count b : ℕ) → s ≤ e → a ≡ min from (e - s) → b ≡ min count (e - (s + a)) → s + a + b ≤ e
+end-in s e from a count b h k l = omega arith
+
+pub cuts-part : {bytes : Bytes} {p : Span} {w : Bytes} → SpanIs bytes p w → (from count a b : ℕ) → a ≡ min from (p .end - p .start) → b ≡ min count (p .end - (p .start + a))
+    → Cuts bytes (yields (take count (drop from w))) (cut.Part (p .start + a) (p .start + a + b))
+unfolding cutResult CutInside
+cuts-part {bytes} {p} {w} h from count a b ea eb =
+    let s = p .start in
+    let n = p .end - p .start in
+    let size : s + a + b - (s + a) ≡ min count (n - from) = behind-itself (s + a) b ∙ eb ∙ ap (min count) (left-over s (p .end) from a (h .ordered) ea) in
+    let in-span = end-in s (p .end) from a count b (h .ordered) ea eb in
+    record {
+      is =
+          ap yields
+          (ap (λ (u : Bytes). take count (drop from u)) (sym (h .is))
+          ∙ part-of-part from count n (drop s bytes)
+          ∙ ap (take (min count (n - from))) (ap (λ (i : ℕ). drop i (drop s bytes)) (sym ea) ∙ drop-drop a s bytes)
+          ∙ ap (λ (i : ℕ). take i (drop (s + a) bytes)) (sym size));
+      inside = (le-add-right (s + a) b, le-trans in-span (h .inside));
+    }
+
+pub span-long : {bytes : Bytes} {p : Span} {w : Bytes} → SpanIs bytes p w → p .end - p .start ≡ length w
+span-long {bytes} {p} h = sym (part-long bytes (p .start) (p .end) (h .inside)) ∙ ap length (h .is)
+
+pub no-start : (bytes : Bytes) (args : List Bytes) {n : Natural} → n ≡ naturalOf (bounded 0 2147483647 (number (arg 2 args))) → n ≡ found.NoNumber → Cuts bytes (substrResult args) cut.NoNumber
+unfolding substrResult needing cutResult CutInside
+no-start bytes args e k = record { is = rw (reads-none e k); inside = tt }
+
+module _ (args : List Bytes) (from : ℕ) {n : Natural} (e : n ≡ naturalOf (bounded 0 2147483647 (number (arg 2 args)))) (k : n ≡ found.Number from)
+    {size : ℕ} (s : size ≡ length (arg 1 args)) {m : Natural} (f : m ≡ naturalOf (bounded 0 2147483647 (numberOr (pos size) 3 args))) where
+  pub no-count : (bytes : Bytes) → m ≡ found.NoNumber → Cuts bytes (substrResult args) cut.NoNumber
+  unfolding substrResult needing cutResult CutInside
+  no-count bytes l = record { is = rw (reads-some e from k, ← s, reads-none f l); inside = tt }
+
+  pub start-and-count : (count : ℕ) → m ≡ found.Number count → substrResult args ≡ yields (take count (drop from (arg 1 args)))
+  unfolding substrResult needing
+  start-and-count count l = rw (reads-some e from k, ← s, reads-some f count l)

@@ -1,0 +1,168 @@
+-- define, pushdef, popdef and undefine: a table that is changed once, or in turn by each argument.
+use Prim.Native.Nat.{ℕ, zero, suc, _+_, _-_, _≤_, _<_}
+use mathlib.Core.Path.{_≡_, refl, sym, ap, subst, _∙_}
+use mathlib.Core.Bool.{Bool, true, false, not}
+use mathlib.Core.List.{List, [], _∷_, _++_}
+use native.Mathlib.Numerals.{add-one}
+use native.Mathlib.Omega.{arith}
+use borrow.Author.Tests.{not-true, not-false}
+use lib.ListN.{length, drop, getD, length-append, length-drop, drop-of-length-le}
+use lib.Seq.{drop-cons, getD-drop}
+use Rattle.rules.specs.declared.Answer.the-variants as answer
+use Rattle.rules.specs.Answers.{noName, faultAnswer}
+use Rattle.rules.specs.Arguments.{arg}
+use Rattle.rules.specs.Bytes.{Bytes, isName}
+use Rattle.rules.specs.Macros.{naming, callDefine, callPopdef, callPushdef, callUndefine}
+use Rattle.rules.specs.Run.{Setting}
+use Rattle.rules.specs.State.{State, Outcome, next, withTable}
+use Rattle.rules.specs.Streams.{joined}
+use Rattle.rules.specs.Table.{Meaning, text, Definition, Table, pushed, defined, popped, undefined, inTurn, meaningCost, tableCost}
+use Rattle.expander.specs.declared.arguments.Arguments.{Arguments}
+use Rattle.expander.specs.declared.machine.Machine.{Machine}
+use Rattle.expander.specs.declared.machine.Turn.{Turn}
+use Rattle.expander.specs.declared.machine.Went.the-variants as went
+use Rattle.expander.specs.declared.packed.Packed.{Packed}
+use Rattle.expander.specs.declared.table.Definitions.{Definitions}
+use Rattle.expander.specs.Arguments.{ArgumentsIn}
+use Rattle.expander.specs.Machine.{memory, Means, Gives, tableSet, turned}
+use Rattle.expander.specs.Table.{DefinitionsIn, TableIn}
+use Rattle.expander.proofs.Changing.{cost-used}
+use Rattle.expander.proofs.MachineLaws.{pending-fits, calls-fit, over-table}
+use Rattle.expander.proofs.Packing.{count-is, used-is}
+use Rattle.expander.proofs.Parted.{with-table}
+use Rattle.expander.proofs.TurnLaws.{turned-on, turned-refused, turned-full}
+
+-- ---- the arguments are few and short
+
+short-of : (ws : List Bytes) (i : ℕ) → length (getD ws i []) ≤ length (joined ws)
+unfolding joined
+short-of [] i = omega arith
+short-of (w ∷ ws) zero = omega (arith, length-append w (joined ws))
+short-of (w ∷ ws) (suc i) = omega (arith, short-of ws i, length-append w (joined ws))
+
+module _ {bytes : Bytes} {ends : List ℕ} {x : Arguments} {args : List Bytes} (h : ArgumentsIn bytes ends x args) where
+  pub argument-short : (n : ℕ) → length (arg n args) ≤ 65536
+  unfolding arg
+  argument-short n =
+      let e : getD args (n - 1) [] ≡ getD (h .strings) (x .base + (n - 1)) [] =
+      ap (λ (l : List Bytes). getD l (n - 1) []) (h .are) ∙ getD-drop (x .base) (h .strings) (n - 1) [] in
+      omega (arith, ap length e, short-of (h .strings) (x .base + (n - 1)), used-is (h .packs), h .packs .used-in, h .short)
+
+  pub arguments-few : length args ≤ 320
+  arguments-few = omega (arith, ap length (h .are), length-drop (x .base) (h .strings), count-is (h .packs), h .few)
+
+-- ---- a name
+
+name-some : (w : Bytes) → isName w ≡ true → 0 < length w
+unfolding isName
+name-some [] e = absurd (let z : _≡_ {A = ℕ} 0 1 = cc in omega arith)
+name-some (x ∷ w) e = omega arith
+
+pub name-long : (w : Bytes) {q : Bool} → q ≡ isName w → not q ≡ false → 0 < length w
+name-long w {q} e n = name-some w (sym e ∙ not-false q n)
+
+-- ---- what the definitions cost with one more
+
+cost-more : (ds : List Definition) (w x : Bytes) → tableCost (ds ++ (record { name = w; meaning = text x } ∷ [])) ≡ tableCost ds + (length w + length x)
+unfolding tableCost meaningCost
+cost-more [] w x = omega arith
+cost-more (d ∷ ds) w x = omega (arith, cost-more ds w x)
+
+pub cost-pushed : {bytes : Bytes} {ends : List ℕ} {p : Packed} (t : Table) → DefinitionsIn bytes ends p (t .definitions) → (w x : Bytes)
+    → tableCost ((pushed w (text x) t) .definitions) ≡ p .used + (length w + length x)
+unfolding pushed
+cost-pushed t h w x = cost-more (t .definitions) w x ∙ ap (λ (n : ℕ). n + (length w + length x)) (cost-used h)
+
+-- ---- a name gets a meaning
+
+pub define-is : (args : List Bytes) (s : State) → callDefine args s ≡ naming defined args s
+unfolding callDefine
+define-is args s = refl
+
+pub pushdef-is : (args : List Bytes) (s : State) → callPushdef args s ≡ naming pushed args s
+unfolding callPushdef
+pushdef-is args s = refl
+
+naming-is : (f : Bytes → Meaning → Table → Table) (args : List Bytes) (s : State) {o : Outcome} → o ≡ naming f args s → {w : Bytes} → w ≡ arg 1 args → {q : Bool} → q ≡ isName w → {x : Bytes}
+    → x ≡ arg 2 args → not q ≡ false → o ≡ next (withTable (f w (text x) (s .table)) s)
+unfolding naming
+naming-is f args s is e {q} i l n =
+    let h : isName (arg 1 args) ≡ true = ap isName (sym e) ∙ sym i ∙ not-false q n in
+    is ∙ rw (h, naming, e, l)
+
+module _
+    {a : Setting} {text′ pending calls : Bytes} {callEnds stack : List ℕ} {definitions : Bytes} {tableEnds : List ℕ} {streams : Bytes} {owners : List ℕ}
+    {wrap errors output : Bytes} {m : Machine} {s : State}
+    (r : Means a (memory text′ pending calls callEnds stack definitions tableEnds streams owners wrap errors output) m s) (args : List Bytes) {t : Turn}
+  where
+    module _ (f : Bytes → Meaning → Table → Table) {o : Outcome} (is : o ≡ naming f args s) {w : Bytes} (e : w ≡ arg 1 args) {q : Bool} (i : q ≡ isName w) where
+      pub unnamed :
+          not q ≡ true → t ≡ turned (went.Refused answer.Name) m
+          → Gives a o (memory text′ pending calls callEnds stack definitions tableEnds streams owners wrap errors output) t
+      unfolding naming faultAnswer
+      unnamed n g =
+          let h : isName (arg 1 args) ≡ false = ap isName (sym e) ∙ sym i ∙ not-true q n in
+          turned-refused {m = m} noName (is ∙ rw (h, naming)) g
+
+      module _ {x : Bytes} (l : x ≡ arg 2 args) (n : not q ≡ false) where
+        pub overfilled :
+            length definitions < tableCost ((f w (text x) (s .table)) .definitions) → t ≡ turned (went.Refused (answer.Room 3)) m
+            → Gives a o (memory text′ pending calls callEnds stack definitions tableEnds streams owners wrap errors output) t
+        unfolding withTable
+        overfilled h g =
+            let u = withTable (f w (text x) (s .table)) s in
+            turned-full u 2 (over-table a u (pending-fits r) (calls-fit r) (omega (arith, h, r .limits .definitions))) (naming-is f args s is e i l n) g
+
+        pub named :
+            {definitions′ : Bytes} {tableEnds′ : List ℕ} {d : Definitions} {m′ : Machine} → TableIn definitions′ tableEnds′ (d .packed) (d .own) (f w (text x) (s .table))
+            → length definitions′ ≡ length definitions → length tableEnds′ ≡ length tableEnds → m′ ≡ tableSet d m → t ≡ turned went.On m′
+            → Gives a o (memory text′ pending calls callEnds stack definitions′ tableEnds′ streams owners wrap errors output) t
+        named h j k y g = turned-on (with-table r h j k) (naming-is f args s is e i l n) (g ∙ ap (turned went.On) y)
+
+    -- each argument's definition has gone in turn
+    pub removed :
+        (f : Bytes → Table → Table) {o : Outcome} → o ≡ next (withTable (inTurn f args (s .table)) s)
+        → {definitions′ : Bytes} {tableEnds′ : List ℕ} {d : Definitions} {m′ : Machine} → TableIn definitions′ tableEnds′ (d .packed) (d .own) (inTurn f args (s .table))
+        → length definitions′ ≡ length definitions → length tableEnds′ ≡ length tableEnds → m′ ≡ tableSet d m → t ≡ turned went.On m′
+        → Gives a o (memory text′ pending calls callEnds stack definitions′ tableEnds′ streams owners wrap errors output) t
+    removed f is h j k y g = turned-on (with-table r h j k) is (g ∙ ap (turned went.On) y)
+
+pub popdef-is : (args : List Bytes) (s : State) → callPopdef args s ≡ next (withTable (inTurn popped args (s .table)) s)
+unfolding callPopdef
+popdef-is args s = refl
+
+pub undefine-is : (args : List Bytes) (s : State) → callUndefine args s ≡ next (withTable (inTurn undefined args (s .table)) s)
+unfolding callUndefine
+undefine-is args s = refl
+
+-- ---- a loop over the arguments: k of them have changed the table u; what the buffers hold now goes on to what u comes to
+
+pub record InTurn (f : Bytes → Table → Table) (args : List Bytes) (u : Table) (bytes : Bytes) (ends : List ℕ) (d : Definitions) (k : ℕ) : Type 0 where
+  pub table : Table
+  pub holds : TableIn bytes ends (d .packed) (d .own) table
+  pub same : inTurn f (drop k args) table ≡ inTurn f args u
+
+pub turns-begin : (f : Bytes → Table → Table) (args : List Bytes) {u : Table} {bytes : Bytes} {ends : List ℕ} {d : Definitions}
+    → TableIn bytes ends (d .packed) (d .own) u → InTurn f args u bytes ends d 0
+turns-begin f args {u} h = record { table = u; holds = h; same = refl }
+
+module _ {f : Bytes → Table → Table} {args : List Bytes} {u : Table} {bytes : Bytes} {ends : List ℕ} {d : Definitions} {k : ℕ} (h : InTurn f args u bytes ends d k) where
+  -- the next argument's turn
+  pub turns-on :
+      {bytes′ : Bytes} {ends′ : List ℕ} {d′ : Definitions} (w : Bytes) → k < length args → w ≡ arg (k + 1) args
+      → ((v : Table) → TableIn bytes ends (d .packed) (d .own) v → TableIn bytes′ ends′ (d′ .packed) (d′ .own) (f w v)) → InTurn f args u bytes′ ends′ d′ (k + 1)
+  unfolding inTurn arg
+  turns-on w l e g =
+      let n : k + 1 - 1 ≡ k = omega arith in
+      let c : drop k args ≡ w ∷ drop (k + 1) args =
+      rw add-one (drop-cons args k [] l ∙ ap (λ (z : Bytes). z ∷ drop (suc k) args) (sym (e ∙ ap (λ (j : ℕ). getD args j []) n))) in
+      record {
+        table = f w (h .table);
+        holds = g (h .table) (h .holds);
+        same = sym (ap (λ (l : List Bytes). inTurn f l (h .table)) c) ∙ h .same;
+      }
+
+  -- all have had their turn
+  pub turns-end : length args ≤ k → TableIn bytes ends (d .packed) (d .own) (inTurn f args u)
+  unfolding inTurn
+  turns-end l = subst (TableIn bytes ends (d .packed) (d .own)) (sym (ap (λ (l : List Bytes). inTurn f l (h .table)) (drop-of-length-le args {i = k} l)) ∙ h .same) (h .holds)

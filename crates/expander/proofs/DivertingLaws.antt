@@ -1,0 +1,421 @@
+-- Laws of the macros that change the streams, and of the end of the run. Assumes nothing.
+use Prim.Native.Nat.{ℕ, zero, suc, _+_, _-_, _≤_, _<_}
+use mathlib.Core.Path.{_≡_, refl, sym, ap, ap₂, subst, _∙_}
+use mathlib.Core.Logic.{_⊎_, inl, inr, ⊎-elim}
+use mathlib.Core.Bool.{Bool, true, false}
+use mathlib.Core.List.{List, [], _∷_, _++_, append-nil}
+use mathlib.Core.Option.{Option, none, some}
+use native.Mathlib.Decide.{ℕ-discrete}
+use native.Mathlib.Omega.{arith}
+use borrow.Rule.Slice.PartMut.{putMid}
+use borrow.Author.Tests.{leb-true, leb-false, lt-ltb}
+use lib.Dec.{leb}
+use lib.IntN.{ℤ, pos, negsuc}
+use lib.ListN.{length, take, drop, getD, set, replicate, length-append, length-drop, length-set, length-replicate, getD-replicate}
+use lib.Seq.{getD-drop, getD-set-same, getD-set-other}
+use Rattle.numerals.specs.declared.Decimal.the-variants as decimal
+use Rattle.numerals.specs.Answers.{decimalOf}
+use Rattle.rules.specs.declared.Answer.the-variants as answer
+use Rattle.rules.specs.Bytes.{Bytes}
+use Rattle.rules.specs.Words.{signedValue, wrapped}
+use Rattle.rules.specs.Answers.{done, endingAnswer, noNumber, faultAnswer}
+use Rattle.rules.specs.Arguments.{numberOr}
+use Rattle.rules.specs.Streams.{Streams, totalLength, moved, movedInTurn, joined, finishedStreams, diverted}
+use Rattle.rules.specs.Macros.{callDivert, callUndivert}
+use Rattle.rules.specs.State.{State, Outcome, next, stop, refused, withSource, withStreams}
+use Rattle.rules.specs.Run.{Setting}
+use Rattle.expander.specs.declared.sinks.Sinks.{Sinks}
+use Rattle.expander.specs.declared.diverting.Moved.{Moved}
+use Rattle.expander.specs.declared.machine.Machine.{Machine}
+use Rattle.expander.specs.declared.machine.Went.the-variants as went
+use Rattle.expander.specs.Streams.{IsStream, StreamsIn, ownedBy, ownedCount, behindStream, discards}
+use Rattle.expander.specs.Sinks.{SinksIn}
+use Rattle.expander.specs.Filled.{Filled}
+use Rattle.expander.specs.Front.{Front}
+use Rattle.expander.specs.Diverting.{allNamed, turns, Spilled, Moves, Idle, Seen}
+use Rattle.expander.specs.Machine.{Memory, Means, Gives, turned, sinksSet, sinksAt}
+use Rattle.expander.proofs.ArgumentLaws.{number-or-bits}
+use Rattle.expander.proofs.CallsLaws.{joined-total}
+use Rattle.expander.proofs.Waiting.{none-held, text-of, length-of, nothing-out, nothing-moved}
+use Rattle.expander.proofs.FilledLaws.{filled-front, filled-long, part-fills}
+use Rattle.expander.proofs.SinksLaws.{small-is, lost-is}
+use Rattle.expander.proofs.Moved.{moved-same, moved-to, moved-out, moved-lost, moved-current, turn-on, turns-end}
+use Rattle.expander.proofs.Parted.{with-sinks}
+use Rattle.expander.proofs.Totals.{used-is}
+use Rattle.expander.proofs.Turns.{undivert-named, undivert-unnamed}
+use Rattle.expander.proofs.MachineLaws.{front-long, pending-fits, streams-fit, gives-next, gives-stop, gives-refused, gives-room, gives-stop-room}
+use Rattle.expander.proofs.DeliveringLaws.{total-set, output-over}
+
+-- ---- what a move makes of the streams, by the current one
+
+module _
+    (P : Streams → Type 0) (i : ℕ) (h : IsStream i) (u : Streams) (same : u .current ≡ pos i → P u)
+    (to : (j : ℕ) → u .current ≡ pos j → IsStream j → (i ≡ j → ⊥) → P (record { output = u .output; waiting = behindStream i j (u .waiting); current = u .current }))
+    (out : P (record { output = u .output ++ getD (u .waiting) (i - 1) []; waiting = set (u .waiting) (i - 1) []; current = u .current }))
+    (lost : P (record { output = u .output; waiting = set (u .waiting) (i - 1) []; current = u .current }))
+  where
+    moved-any : P (moved i u)
+    unfolding discards
+    moved-any = go (u .current) refl
+      where
+        high : (j : ℕ) (t : Bool) → leb (suc j) 9 ≡ t → u .current ≡ pos (suc j) → P (moved i u)
+        high j true q e = on (ℕ-discrete i (suc j))
+          where
+            on : Dec (i ≡ suc j) → P (moved i u)
+            on (yes d) = subst P (sym (moved-same i u (e ∙ ap pos (sym d)))) (same (e ∙ ap pos (sym d)))
+            on (no d) =
+                let k : IsStream (suc j) = record { low = omega arith; high = leb-true (suc j) 9 q } in
+                subst P (sym (moved-to i h u (suc j) e k d)) (to (suc j) e k d)
+        high j false q e = subst P (sym (moved-lost i h u (ap discards e ∙ lt-ltb 9 (suc j) (leb-false (suc j) 9 q)))) lost
+
+        go : (c : ℤ) → u .current ≡ c → P (moved i u)
+        go (pos zero) e = subst P (sym (moved-out i h u e)) out
+        go (pos (suc j)) e = high j (leb (suc j) 9) refl e
+        go (negsuc n) e = subst P (sym (moved-lost i h u (ap discards e))) lost
+
+-- ---- what waits is no more then, the output no less, and there are nine streams
+
+total-less : (ws : List Bytes) (k : ℕ) → totalLength (set ws k []) ≤ totalLength ws
+unfolding totalLength
+total-less [] k = omega arith
+total-less (w ∷ ws) zero = omega arith
+total-less (w ∷ ws) (suc k) = omega (arith, total-less ws k)
+
+total-behind : (i j : ℕ) (ws : List Bytes) → IsStream i → IsStream j → (i ≡ j → ⊥) → length ws ≡ 9 → totalLength (behindStream i j ws) ≡ totalLength ws
+unfolding behindStream
+total-behind i j ws h k d n =
+    let vs = set ws (i - 1) [] in
+    let e : getD vs (j - 1) [] ≡ getD ws (j - 1) [] = getD-set-other ws (i - 1) (j - 1) [] [] (λ q. d (omega (arith, h .low, k .low))) in
+    omega (
+      arith,
+      ap length e,
+      total-set ws (i - 1) [] (omega (arith, h .low, h .high)),
+      total-set vs (j - 1) (getD ws (j - 1) [] ++ getD ws (i - 1) []) (omega (arith, k .low, k .high, length-set ws (i - 1) [])),
+      length-append (getD ws (j - 1) []) (getD ws (i - 1) []),
+    )
+
+module _ (i : ℕ) (h : IsStream i) (u : Streams) (n : length (u .waiting) ≡ 9) where
+  moved-nine : length (moved i u .waiting) ≡ 9
+  unfolding behindStream
+  moved-nine =
+      moved-any (λ (x : Streams). length (x .waiting) ≡ 9) i h u (λ e. n)
+      (λ j e k d. length-set (set (u .waiting) (i - 1) []) (j - 1) (getD (u .waiting) (j - 1) [] ++ getD (u .waiting) (i - 1) []) ∙ length-set (u .waiting) (i - 1) [] ∙ n)
+      (length-set (u .waiting) (i - 1) [] ∙ n) (length-set (u .waiting) (i - 1) [] ∙ n)
+
+  moved-less : totalLength (moved i u .waiting) ≤ totalLength (u .waiting)
+  moved-less =
+      moved-any (λ (x : Streams). totalLength (x .waiting) ≤ totalLength (u .waiting)) i h u (λ e. omega arith) (λ j e k d. omega (arith, total-behind i j (u .waiting) h k d n))
+      (total-less (u .waiting) (i - 1)) (total-less (u .waiting) (i - 1))
+
+  moved-more : length (u .output) ≤ length (moved i u .output)
+  moved-more =
+      moved-any (λ (x : Streams). length (u .output) ≤ length (x .output)) i h u (λ e. omega arith) (λ j e k d. omega arith)
+      (omega (arith, length-append (u .output) (getD (u .waiting) (i - 1) []))) (omega arith)
+
+turns-spill :
+    (ns : List ℕ) → ((k : ℕ) → k < length ns → IsStream (getD ns k 0)) → (u : Streams) → length (u .waiting) ≡ 9
+    → (totalLength (movedInTurn ns u .waiting) ≤ totalLength (u .waiting)) × (length (u .output) ≤ length (movedInTurn ns u .output))
+unfolding movedInTurn
+turns-spill [] f u n = (omega arith, omega arith)
+turns-spill (i ∷ ns) f u n =
+    let h : IsStream i = f 0 (omega arith) in
+    let r = turns-spill ns (λ k l. f (suc k) (omega arith)) (moved i u) (moved-nine i h u n) in
+    (omega (arith, r .0, moved-less i h u n), omega (arith, r .1, moved-more i h u n))
+
+-- ---- streams that a move leaves alone
+
+still-empty : (ws : List Bytes) (n k : ℕ) → getD ws k [] ≡ [] → getD (set ws n []) k [] ≡ []
+still-empty [] n k e = e
+still-empty (w ∷ ws) zero zero e = refl
+still-empty (w ∷ ws) zero (suc k) e = e
+still-empty (w ∷ ws) (suc n) zero e = e
+still-empty (w ∷ ws) (suc n) (suc k) e = still-empty ws n k e
+
+module _ (i : ℕ) (h : IsStream i) (u : Streams) where
+  empty-same : getD (u .waiting) (i - 1) [] ≡ [] → moved i u ≡ u
+  empty-same e =
+      let l : length (getD (u .waiting) (i - 1) []) ≡ 0 = ap length e in
+      moved-any (λ (x : Streams). x ≡ u) i h u (λ c. refl)
+      (λ j c k d. ap {B = Streams} (λ (ws : List Bytes). record { output = u .output; waiting = ws; current = u .current }) (nothing-moved (u .waiting) i j l))
+      (ap₂ {C = Streams} (λ (o : Bytes) (ws : List Bytes). record { output = o; waiting = ws; current = u .current }) (ap (λ (w : Bytes). u .output ++ w) e ∙ append-nil (u .output)) (nothing-out (u .waiting) i l))
+      (ap {B = Streams} (λ (ws : List Bytes). record { output = u .output; waiting = ws; current = u .current }) (nothing-out (u .waiting) i l))
+
+  idle-same : Idle i u → moved i u ≡ u
+  unfolding Idle
+  idle-same d = ⊎-elim (moved-same i u) empty-same d
+
+  idle-after : length (u .waiting) ≡ 9 → Idle i (moved i u)
+  unfolding Idle behindStream
+  idle-after n =
+      let e : getD (set (u .waiting) (i - 1) []) (i - 1) [] ≡ [] = getD-set-same (u .waiting) (i - 1) [] [] (omega (arith, h .low, h .high)) in
+      moved-any (λ (x : Streams). (x .current ≡ pos i) ⊎ (getD (x .waiting) (i - 1) [] ≡ [])) i h u inl
+      (λ j c k d. inr (getD-set-other (set (u .waiting) (i - 1) []) (j - 1) (i - 1) (getD (u .waiting) (j - 1) [] ++ getD (u .waiting) (i - 1) []) [] (λ q. d (omega (arith, h .low, k .low))) ∙ e))
+      (inr e) (inr e)
+
+  idle-stays : (k : ℕ) → IsStream k → Idle k u → Idle k (moved i u)
+  unfolding Idle behindStream
+  idle-stays k l d = ⊎-elim (λ c. inl (moved-current i u ∙ c)) stays d
+    where
+      stays : getD (u .waiting) (k - 1) [] ≡ [] → (moved i u .current ≡ pos k) ⊎ (getD (moved i u .waiting) (k - 1) [] ≡ [])
+      stays e =
+          let g : getD (set (u .waiting) (i - 1) []) (k - 1) [] ≡ [] = still-empty (u .waiting) (i - 1) (k - 1) e in
+          moved-any (λ (x : Streams). (x .current ≡ pos k) ⊎ (getD (x .waiting) (k - 1) [] ≡ [])) i h u (λ c. inr e) (λ j c m n. to j c m g (ℕ-discrete k j)) (inr g) (inr g)
+        where
+          to : (j : ℕ) → u .current ≡ pos j → IsStream j → getD (set (u .waiting) (i - 1) []) (k - 1) [] ≡ [] → Dec (k ≡ j)
+              → (u .current ≡ pos k) ⊎ (getD (set (set (u .waiting) (i - 1) []) (j - 1) (getD (u .waiting) (j - 1) [] ++ getD (u .waiting) (i - 1) [])) (k - 1) [] ≡ [])
+          to j c m g (yes q) = inl (c ∙ ap pos (sym q))
+          to j c m g (no q) =
+              inr (getD-set-other (set (u .waiting) (i - 1) []) (j - 1) (k - 1) (getD (u .waiting) (j - 1) [] ++ getD (u .waiting) (i - 1) []) [] (λ o. q (omega (arith, l .low, m .low))) ∙ g)
+
+-- ---- the streams that are marked
+
+pub none-seen : (u : Streams) (seen : List ℕ) → seen ≡ replicate 10 0 → Seen seen u
+none-seen u seen e =
+    record {
+      ten = ap length e ∙ length-replicate {A = ℕ} 10 0;
+      idle = λ i h f. absurd (f (ap (λ (l : List ℕ). getD l i 0) e ∙ getD-replicate 10 i 0 0 (omega (arith, h .high))));
+    }
+
+module _ {seen : List ℕ} {u : Streams} (s : Seen seen u) (i : ℕ) (h : IsStream i) where
+  -- a marked one moves nothing
+  seen-same : (getD seen i 0 ≡ 0 → ⊥) → moved i u ≡ u
+  seen-same f = idle-same i h u (s .idle i h f)
+
+  pub seen-more : length (u .waiting) ≡ 9 → Seen (set seen i 1) (moved i u)
+  seen-more n = record { ten = length-set seen i 1 ∙ s .ten; idle = λ k l f. go k l f (ℕ-discrete k i) }
+    where
+      go : (k : ℕ) → IsStream k → (getD (set seen i 1) k 0 ≡ 0 → ⊥) → Dec (k ≡ i) → Idle k (moved i u)
+      go k l f (yes q) = subst (λ (j : ℕ). Idle j (moved i u)) (sym q) (idle-after i h u n)
+      go k l f (no q) = idle-stays i h u k l (s .idle k l (λ z. f (getD-set-other seen i k 1 0 q ∙ z)))
+
+-- ---- a move in the buffers
+
+-- w is written behind a text
+written-more :
+    {output : Bytes} {at : ℕ} {t : Bytes} → Front output at t → (w v : Bytes) (n : ℕ) → w ≡ v → length w ≡ n → n ≤ length output - at
+    → Front (putMid at (at + n - at) output w) (at + n) (t ++ v) × (length (putMid at (at + n - at) output w) ≡ length output)
+written-more {output} {at} h w v n e l r =
+    let after = putMid at (at + n - at) output w in
+    let f : Filled output at w after = part-fills output w at n l (omega (arith, h .inside)) in (
+      record {
+        text-is = ap (λ (j : ℕ). take (at + j) after) (sym l) ∙ filled-front f ∙ ap₂ (λ (x y : Bytes). x ++ y) (h .text-is) e;
+        inside = omega (arith, filled-long f, f .fits);
+      },
+      filled-long f,
+    )
+
+module _ {streams : Bytes} {owners : List ℕ} {output : Bytes} {u w : Streams} where
+  pub moves-fit : {k : Sinks} → SinksIn streams owners output k w → Moves streams owners output (record { sinks = k; fits = true }) u w
+  moves-fit h = record { fitting = λ e. h; spilling = λ e. let z : _≡_ {A = ℕ} 0 1 = cc in absurd (omega arith) }
+
+  pub moves-spill : {k : Sinks} → Spilled output u w → Moves streams owners output (record { sinks = k; fits = false }) u w
+  moves-spill h = record { fitting = λ e. let z : _≡_ {A = ℕ} 0 1 = cc in absurd (omega arith); spilling = λ e. h }
+
+module _ {streams : Bytes} {owners : List ℕ} {output : Bytes} {k : Sinks} {u : Streams} (m : SinksIn streams owners output k u) (i : ℕ) (h : IsStream i) where
+  -- to the output
+  module _ (e : k .current ≡ 0) (n : ℕ) (en : n ≡ ownedCount i (take (k .waiting) owners)) where
+    is-out : u .current ≡ pos 0
+    is-out = m .current ∙ ap signedValue e ∙ small-is 0 (omega arith)
+
+    pub out-spills : length output - k .output < n → Spilled output u (moved i u)
+    out-spills l =
+        subst (λ (x : Streams). Spilled output u x) (sym (moved-out i h u is-out))
+        (record {
+          over = omega (arith, length-append (u .output) (getD (u .waiting) (i - 1) []), length-of (m .waiting) i h, en, front-long (m .written), m .written .inside);
+          less = total-less (u .waiting) (i - 1);
+        })
+
+    pub out-moves :
+        {streams′ : Bytes} {owners′ : List ℕ} {kept : ℕ} (w : Bytes) → w ≡ ownedBy i (take (k .waiting) owners) (take (k .waiting) streams) → n ≤ length output - k .output
+        → StreamsIn streams′ owners′ kept (set (u .waiting) (i - 1) [])
+        → SinksIn streams′ owners′ (putMid (k .output) (k .output + n - k .output) output w) (record { current = k .current; waiting = kept; output = k .output + n }) (moved i u)
+    out-moves {streams′} {owners′} {kept} w ew l g =
+        let e-text : w ≡ getD (u .waiting) (i - 1) [] = ew ∙ sym (text-of (m .waiting) i h) in
+        let e-long : length w ≡ n = ap length e-text ∙ length-of (m .waiting) i h ∙ sym en in
+        let after = putMid (k .output) (k .output + n - k .output) output w in
+        subst (λ (x : Streams). SinksIn streams′ owners′ after (record { current = k .current; waiting = kept; output = k .output + n }) x) (sym (moved-out i h u is-out))
+        (record {
+          waiting = g;
+          written = written-more (m .written) w (getD (u .waiting) (i - 1) []) n e-text e-long l .0;
+          current = m .current;
+        })
+
+  -- nowhere
+  pub lost-moves :
+      {streams′ : Bytes} {owners′ : List ℕ} {kept : ℕ} → 9 < k .current → StreamsIn streams′ owners′ kept (set (u .waiting) (i - 1) [])
+      → SinksIn streams′ owners′ output (record { current = k .current; waiting = kept; output = k .output }) (moved i u)
+  lost-moves {streams′} {owners′} {kept} l g =
+      subst (λ (x : Streams). SinksIn streams′ owners′ output (record { current = k .current; waiting = kept; output = k .output }) x)
+      (sym (moved-lost i h u (ap discards (m .current) ∙ lost-is (k .current) l))) (record { waiting = g; written = m .written; current = m .current })
+
+  -- behind the current stream, which is another or the same
+  module _ (f : k .current ≡ 0 → ⊥) (l : k .current ≤ 9) where
+    pub stream-moves :
+        {streams′ : Bytes} {owners′ : List ℕ} → (i ≡ k .current → ⊥)
+        → (IsStream i → IsStream (k .current) → (i ≡ k .current → ⊥) → StreamsIn streams′ owners′ (k .waiting) (behindStream i (k .current) (u .waiting)))
+        → SinksIn streams′ owners′ output k (moved i u)
+    stream-moves {streams′} {owners′} d g =
+        let j : IsStream (k .current) = record { low = omega arith; high = l } in
+        subst (λ (x : Streams). SinksIn streams′ owners′ output k x) (sym (moved-to i h u (k .current) (m .current ∙ small-is (k .current) l) j d))
+        (record { waiting = g h j d; written = m .written; current = m .current })
+
+    pub same-moves : i ≡ k .current → SinksIn streams owners output k (moved i u)
+    same-moves d =
+        subst (λ (x : Streams). SinksIn streams owners output k x) (sym (moved-same i u (m .current ∙ small-is (k .current) l ∙ ap pos (sym d)))) m
+
+-- a stream that was moved before
+pub seen-moves :
+    {streams : Bytes} {owners : List ℕ} {output : Bytes} {k : Sinks} {u : Streams} {seen : List ℕ} → SinksIn streams owners output k u → Seen seen u → (i : ℕ) → IsStream i
+    → (getD seen i 0 ≡ 0 → ⊥) → Moves streams owners output (record { sinks = k; fits = true }) u (moved i u) × Seen seen (moved i u)
+seen-moves {seen = seen} m s i h f = let e = seen-same s i h f in (moves-fit (rw e m), rw e s)
+
+-- ---- moves in turn: what those before j made of u
+
+pub record Turning (streams : Bytes) (owners : List ℕ) (output : Bytes) (k : Sinks) (seen ns : List ℕ) (j : ℕ) (u : Streams) : Type 0 where
+  pub held : Streams
+  pub are : SinksIn streams owners output k held
+  pub marked : Seen seen held
+  pub left : movedInTurn (drop j ns) held ≡ movedInTurn ns u
+  pub less : totalLength (held .waiting) ≤ totalLength (u .waiting)
+
+pub turning-begins :
+    {streams : Bytes} {owners : List ℕ} {output : Bytes} {k : Sinks} {u : Streams} (seen ns : List ℕ) → SinksIn streams owners output k u → seen ≡ replicate 10 0
+    → Turning streams owners output k seen ns 0 u
+turning-begins {u = u} seen ns m e = record { held = u; are = m; marked = none-seen u seen e; left = refl; less = omega arith }
+
+module _
+    {streams : Bytes} {owners : List ℕ} {output : Bytes} {k : Sinks} {seen ns : List ℕ} {j : ℕ} {u : Streams} (t : Turning streams owners output k seen ns j u)
+    (each : (k : ℕ) → k < length ns → IsStream (getD ns k 0))
+  where
+    pub turning-ends : length ns ≤ j → Moves streams owners output (record { sinks = k; fits = true }) u (movedInTurn ns u)
+    turning-ends h = moves-fit (subst (λ (x : Streams). SinksIn streams owners output k x) (turns-end ns j (t .held) (movedInTurn ns u) (t .left) h) (t .are))
+
+    module _
+        {streams′ : Bytes} {owners′ : List ℕ} {output′ : Bytes} {seen′ : List ℕ} {r : Moved} (h : j < length ns) (i : ℕ) (e : i ≡ getD ns j 0)
+        (g : Moves streams′ owners′ output′ r (t .held) (moved i (t .held)) × Seen seen′ (moved i (t .held)))
+      where
+        here : IsStream i
+        here = subst IsStream (sym e) (each j h)
+
+        then-left : movedInTurn (drop (j + 1) ns) (moved i (t .held)) ≡ movedInTurn ns u
+        then-left = ap (λ (n : ℕ). movedInTurn (drop (j + 1) ns) (moved n (t .held))) e ∙ turn-on ns j (t .held) (movedInTurn ns u) (t .left) h
+
+        pub turning-on : r .fits ≡ true → Turning streams′ owners′ output′ (r .sinks) seen′ ns (j + 1) u
+        turning-on q =
+            record {
+              held = moved i (t .held);
+              are = g .0 .fitting q;
+              marked = g .1;
+              left = then-left;
+              less = omega (arith, t .less, moved-less i here (t .held) (t .are .waiting .nine));
+            }
+
+        pub turning-spills : r .fits ≡ false → Moves streams′ owners′ output′ r u (movedInTurn ns u)
+        turning-spills q =
+            let s = turns-spill (drop (j + 1) ns) (λ n l. subst IsStream (sym (getD-drop (j + 1) ns n 0)) (each (j + 1 + n) (omega (arith, length-drop (j + 1) ns)))) (moved i (t .held)) (moved-nine i here (t .held) (t .are .waiting .nine)) in
+            let p = g .0 .spilling q in
+            let w : totalLength (movedInTurn (drop (j + 1) ns) (moved i (t .held)) .waiting) ≡ totalLength (movedInTurn ns u .waiting) = ap (λ (x : Streams). totalLength (x .waiting)) then-left in
+            let o : length (movedInTurn (drop (j + 1) ns) (moved i (t .held)) .output) ≡ length (movedInTurn ns u .output) = ap (λ (x : Streams). length (x .output)) then-left in
+            record {
+              fitting = λ z. let y : true ≡ false = sym z ∙ q in let x : _≡_ {A = ℕ} 0 1 = cc in absurd (omega arith);
+              spilling = λ z. record { over = omega (arith, p .over, s .1, o); less = omega (arith, p .less, s .0, t .less, w) };
+            }
+
+-- ---- divert
+
+module _ (args : List Bytes) (s : State) where
+  divert-none : numberOr (pos 0) 1 args ≡ none → callDivert args s ≡ refused noNumber
+  unfolding callDivert
+  divert-none e = rw (e, callDivert)
+
+  divert-some : (z : ℤ) → numberOr (pos 0) 1 args ≡ some z → callDivert args s ≡ next (withStreams (diverted z (s .streams)) s)
+  unfolding callDivert
+  divert-some z e = rw (e, callDivert)
+
+refuses-number : {a : Setting} {b : Memory} {m : Machine} {o : Outcome} → o ≡ refused noNumber → Gives a o b (turned (went.Refused answer.Number) m)
+unfolding faultAnswer
+refuses-number e = rw e (gives-refused noNumber)
+
+module _ {a : Setting} {b : Memory} {m : Machine} {s : State} (r : Means a b m s) (args : List Bytes) where
+  pub divert-unread : {b′ : Memory} → decimalOf (numberOr (pos 0) 1 args) ≡ decimal.NoNumber → Gives a (callDivert args s) b′ (turned (went.Refused answer.Number) m)
+  unfolding decimalOf
+  divert-unread {b′} e = go (numberOr (pos 0) 1 args) refl e
+    where
+      go : (o : Option ℤ) → numberOr (pos 0) 1 args ≡ o → decimalOf o ≡ decimal.NoNumber → Gives a (callDivert args s) b′ (turned (went.Refused answer.Number) m)
+      go none p q = refuses-number (divert-none args s p)
+      go (some z) p q = let y : _≡_ {A = ℕ} 0 1 = cc in absurd (omega arith)
+
+  pub divert-read :
+      (bits : ℕ) → decimalOf (numberOr (pos 0) 1 args) ≡ decimal.Number bits
+      → Gives a (callDivert args s) b (turned went.On (sinksSet (record { current = bits; waiting = m .sinks .waiting; output = m .sinks .output }) m))
+  unfolding decimalOf diverted
+  divert-read bits e = go (numberOr (pos 0) 1 args) refl e
+    where
+      go : (o : Option ℤ) → numberOr (pos 0) 1 args ≡ o → decimalOf o ≡ decimal.Number bits
+          → Gives a (callDivert args s) b (turned went.On (sinksSet (record { current = bits; waiting = m .sinks .waiting; output = m .sinks .output }) m))
+      go none p q = let y : _≡_ {A = ℕ} 0 1 = cc in absurd (omega arith)
+      go (some z) p q =
+          let w : wrapped z ≡ bits = cc in
+          rw (divert-some args s z p)
+          (gives-next
+          (with-sinks r
+          (record {
+            waiting = r .sinks .waiting;
+            written = r .sinks .written;
+            current = sym (number-or-bits 0 1 args z (omega arith) p) ∙ ap signedValue w;
+          })
+          refl refl refl))
+
+-- ---- undivert
+
+module _ (args : List Bytes) (s : State) where
+  undivert-none : allNamed args ≡ false → callUndivert args s ≡ refused noNumber
+  unfolding callUndivert
+  undivert-none e = rw (undivert-unnamed args e, callUndivert)
+
+  undivert-some : allNamed args ≡ true → callUndivert args s ≡ next (withStreams (movedInTurn (turns args) (s .streams)) s)
+  unfolding callUndivert
+  undivert-some e = rw (undivert-named args e, callUndivert)
+
+module _ {a : Setting} {b : Memory} {m : Machine} {s : State} (r : Means a b m s) (args : List Bytes) where
+  pub undivert-bad : {b′ : Memory} → allNamed args ≡ false → Gives a (callUndivert args s) b′ (turned (went.Refused answer.Number) m)
+  undivert-bad e = refuses-number (undivert-none args s e)
+
+  module _ {streams′ : Bytes} {owners′ : List ℕ} {output′ : Bytes} {k : Moved} (e : allNamed args ≡ true) (g : Moves streams′ owners′ output′ k (s .streams) (movedInTurn (turns args) (s .streams))) where
+    pub undivert-full : {b′ : Memory} → length output′ ≡ length (b .output) → k .fits ≡ false → Gives a (callUndivert args s) b′ (turned (went.Refused (answer.Room 7)) m)
+    unfolding withSource
+    undivert-full l f =
+        let p = g .spilling f in
+        rw (undivert-some args s e)
+        (gives-room (withStreams (movedInTurn (turns args) (s .streams)) s) 6
+        (output-over r (s .source) (pending-fits r) (movedInTurn (turns args) (s .streams)) (omega (arith, p .less, streams-fit r)) (omega (arith, p .over, l, r .limits .output))))
+
+    pub undivert-on :
+        length streams′ ≡ length (b .streams) → length owners′ ≡ length (b .owners) → length output′ ≡ length (b .output) → k .fits ≡ true
+        → Gives a (callUndivert args s) (sinksAt streams′ owners′ output′ b) (turned went.On (sinksSet (k .sinks) m))
+    undivert-on e-streams e-owners e-output f = rw (undivert-some args s e) (gives-next (with-sinks r (g .fitting f) e-streams e-owners e-output))
+
+-- ---- the end
+
+module _ {a : Setting} {b : Memory} {m : Machine} {s : State} (r : Means a b m s) where
+  finished-long : length (finishedStreams (s .streams) .output) ≡ m .sinks .output + m .sinks .waiting
+  unfolding finishedStreams
+  finished-long =
+      omega (arith, length-append (s .streams .output) (joined (s .streams .waiting)), front-long (r .sinks .written), joined-total (s .streams .waiting), used-is (r .sinks .waiting))
+
+  pub finish-full : {b′ : Memory} → length (b .output) - m .sinks .output < m .sinks .waiting → Gives a (stop done (withStreams (finishedStreams (s .streams)) s)) b′ (turned (went.Refused (answer.Room 7)) m)
+  unfolding finishedStreams totalLength withSource
+  finish-full h =
+      gives-stop-room done (withStreams (finishedStreams (s .streams)) s) 6
+      (output-over r (s .source) (pending-fits r) (finishedStreams (s .streams)) (omega arith) (omega (arith, finished-long, r .sinks .written .inside, r .limits .output)))
+
+  pub finish-ends :
+      (w : Bytes) → w ≡ joined (s .streams .waiting) → m .sinks .waiting ≤ length (b .output) - m .sinks .output
+      → Gives a (stop done (withStreams (finishedStreams (s .streams)) s))
+      (sinksAt (b .streams) (b .owners) (putMid (m .sinks .output) (m .sinks .output + m .sinks .waiting - m .sinks .output) (b .output) w) b)
+      (turned (went.Ended answer.Done) (sinksSet (record { current = m .sinks .current; waiting = 0; output = m .sinks .output + m .sinks .waiting }) m))
+  unfolding finishedStreams endingAnswer
+  finish-ends w e h =
+      let l : length w ≡ m .sinks .waiting = ap length e ∙ joined-total (s .streams .waiting) ∙ used-is (r .sinks .waiting) in
+      let f = written-more (r .sinks .written) w (joined (s .streams .waiting)) (m .sinks .waiting) e l h in
+      gives-stop done (with-sinks r (record { waiting = none-held (b .streams) (b .owners); written = f .0; current = r .sinks .current }) refl refl (f .1))

@@ -1,0 +1,239 @@
+-- Results in front of the text ahead: refused where buffer 1 lacks room, else written just before the pending text.
+use Prim.Native.Nat.{ℕ, _+_, _-_, _≤_, _<_}
+use mathlib.Core.Path.{_≡_, refl, sym, ap, _∙_}
+use mathlib.Core.Bool.{Bool, true}
+use mathlib.Core.List.{List, [], _∷_, _++_}
+use mathlib.Core.Option.{Option, none, some}
+use native.Mathlib.Omega.{arith}
+use lib.ListN.{length, take, drop, getD, length-append}
+use lib.Seq.{drop-at, length-take-le}
+use borrow.Author.Tests.{eq-eqb}
+use borrow.Rule.Slice.PartMut.{putMid, same-len-mid}
+use Rattle.rules.specs.declared.Answer.the-variants as answer
+use Rattle.rules.specs.Bytes.{Bytes}
+use Rattle.rules.specs.Answers.{Fault, faultAnswer, noNumber, noText}
+use Rattle.rules.specs.Marks.{MarkTexts, quoted}
+use Rattle.rules.specs.Source.{pushBack}
+use Rattle.rules.specs.State.{State, Outcome, next, refused, resulting, withSource}
+use Rattle.rules.specs.Run.{Setting}
+use Rattle.rules.specs.Table.{Definition, Meaning, text, predefined, Table, meaningOf}
+use Rattle.rules.specs.Words.{signedValue}
+use Rattle.rules.specs.Numerals.{writtenIn}
+use Rattle.rules.specs.Arguments.{arg, commas, quotedEach, substituted}
+use Rattle.rules.specs.Results.{Result, yields, fails, inFront, defnResult, shiftResult, transliterated, translitResult}
+use Rattle.rules.specs.Macros.{giving, callDefn, callShift, callTranslit}
+use Rattle.numerals.specs.Answers.{isRadix, lengthOf, Written}
+use Rattle.numerals.specs.declared.Length.{Length}
+use Rattle.numerals.specs.declared.Length.the-variants as measured
+use Rattle.expander.specs.declared.cuts.Cut.{Cut}
+use Rattle.expander.specs.declared.cuts.Cut.the-variants as cut
+use Rattle.expander.specs.declared.defn.DefnLength.the-variants as defnLength
+use Rattle.expander.specs.declared.figures.Figure.{Figure}
+use Rattle.expander.specs.declared.figures.Figure.the-variants as figure
+use Rattle.expander.specs.declared.machine.Machine.{Machine}
+use Rattle.expander.specs.declared.machine.Turn.{Turn}
+use Rattle.expander.specs.declared.machine.Went.the-variants as went
+use Rattle.expander.specs.declared.packed.Packed.{Packed}
+use Rattle.expander.specs.Defn.{measuredAs}
+use Rattle.expander.specs.Filled.{Filled}
+use Rattle.expander.specs.Machine.{Memory, memory, Means, Gives, sourceSet, turned}
+use Rattle.expander.specs.Results.{figureResult, FigureRadix, Shows, cutResult, CutInside, Cuts}
+use Rattle.expander.specs.Table.{rows, DefinitionsIn}
+use Rattle.expander.proofs.FilledLaws.{filled-long}
+use Rattle.expander.proofs.MachineLaws.{over-pending, gives-next, gives-refused, gives-room}
+use Rattle.expander.proofs.Packing.{string-fits}
+use Rattle.expander.proofs.Parted.{with-source}
+use Rattle.expander.proofs.Parts.{part-front, part-long}
+use Rattle.expander.proofs.SourceLaws.{pending-long, pushed-back}
+
+-- ---- what a step gives, by its outcome and by what it answers
+
+pub gives-by : {a : Setting} {o o′ : Outcome} {b : Memory} {t t′ : Turn} → o ≡ o′ → t ≡ t′ → Gives a o′ b t′ → Gives a o b t
+gives-by {a} {o} {b} {t} e f g = rw (e, f) g
+
+pub gives-fault : {a : Setting} {b : Memory} {m : Machine} {o : Outcome} {t : Turn} (f : Fault) → o ≡ refused f → t ≡ turned (went.Refused (faultAnswer f)) m → Gives a o b t
+gives-fault f e k = gives-by e k (gives-refused f)
+
+-- ---- a text of n bytes in front of the text ahead
+
+-- the part of a buffer that it is written into
+pub gap-long : (d : Bytes) (from n : ℕ) → n ≤ from → from ≤ length d → length (take (from - (from - n)) (drop (from - n) d)) ≡ n
+gap-long d from n h k = omega (arith, part-long d (from - n) from k)
+
+module _
+    {a : Setting} {text pending calls : Bytes} {callEnds stack : List ℕ} {definitions : Bytes} {tableEnds : List ℕ} {streams : Bytes} {owners : List ℕ}
+    {wrap errors output : Bytes} {m : Machine} {s : State}
+    (r : Means a (memory text pending calls callEnds stack definitions tableEnds streams owners wrap errors output) m s)
+    (w : Bytes) (n : ℕ) (e : length w ≡ n)
+  where
+    resulting-long : length ((resulting w s) .source .pending) ≡ n + (length pending - m .source .from)
+    unfolding resulting withSource pushBack
+    resulting-long = length-append w (s .source .pending) ∙ omega (arith, pending-long (r .source))
+
+    -- there is no room for it
+    pub giving-room :
+        m .source .from < n
+        → Gives a (next (resulting w s)) (memory text pending calls callEnds stack definitions tableEnds streams owners wrap errors output)
+        (turned (went.Refused (answer.Room 1)) m)
+    giving-room h =
+        gives-room (resulting w s) 0 (over-pending a (resulting w s) (omega (arith, resulting-long, r .limits .pending, r .source .from-in)))
+
+    module _ (fits : n ≤ m .source .from) where
+      -- it stands there
+      pub giving-front :
+          {pending′ : Bytes} {at : ℕ} → at ≡ m .source .from - n → length pending′ ≡ length pending → drop at pending′ ≡ w ++ drop (m .source .from) pending
+          → Gives a (next (resulting w s)) (memory text pending′ calls callEnds stack definitions tableEnds streams owners wrap errors output)
+          (turned went.On (sourceSet (record { from = at; taken = m .source .taken }) m))
+      unfolding resulting
+      giving-front {at} i l k = gives-next (with-source r (pushed-back w at (r .source) (omega (arith, r .source .from-in)) k) l)
+
+      -- it was written there, into the buffer
+      pub giving-filled :
+          {pending′ : Bytes} → Filled pending (m .source .from - n) w pending′
+          → Gives a (next (resulting w s)) (memory text pending′ calls callEnds stack definitions tableEnds streams owners wrap errors output)
+          (turned went.On (sourceSet (record { from = m .source .from - n; taken = m .source .taken }) m))
+      giving-filled f =
+          let at = m .source .from - n in
+          let k : at + length w ≡ m .source .from = omega arith in
+          giving-front refl (filled-long f)
+          (ap (drop at) (f .is)
+          ∙ drop-at (take at pending) (w ++ drop (at + length w) pending) at (length-take-le at pending (omega (arith, r .source .from-in)))
+          ∙ ap (λ (i : ℕ). w ++ drop i pending) k)
+
+      -- or into the part of it that ends before the pending text
+      pub giving-part :
+          {y : Bytes} → y ≡ w
+          → Gives a (next (resulting w s))
+          (memory text (putMid (m .source .from - n) (m .source .from - (m .source .from - n)) pending y) calls callEnds stack definitions tableEnds streams owners wrap errors output)
+          (turned went.On (sourceSet (record { from = m .source .from - n; taken = m .source .taken }) m))
+      giving-part {y} f =
+          let from = m .source .from in
+          let at = from - n in
+          let k = ap length f ∙ e ∙ sym (gap-long pending from n fits (r .source .from-in)) in
+          giving-front refl (same-len-mid at (from - at) pending y k) (part-front pending y w at from (omega arith) (r .source .from-in) f)
+
+-- ---- what a result comes to
+
+pub giving-yields : {v : Result} {w : Bytes} (s : State) → v ≡ yields w → giving v s ≡ next (resulting w s)
+unfolding giving
+giving-yields s e = rw e refl
+
+pub giving-fails : {v : Result} {f : Fault} (s : State) → v ≡ fails f → giving v s ≡ refused f
+unfolding giving
+giving-fails s e = rw e refl
+
+-- ---- a number
+
+module _ (radix : ℕ) (w : Bytes) {l : Length} (e : l ≡ lengthOf radix w) (g : isRadix radix ≡ true) where
+  measured-good : l ≡ measured.Bytes (length w)
+  unfolding lengthOf
+  measured-good = rw (g, lengthOf) at e
+
+  -- in a good radix it has a length
+  pub number-long : {n : ℕ} → l ≡ measured.Bytes n → length w ≡ n
+  number-long h = cc measured-good
+
+  pub number-measured : l ≡ measured.BadRadix → ⊥
+  number-measured h = let z : _≡_ {A = ℕ} 0 1 = cc measured-good in omega arith
+
+-- written into a slice of its length
+pub number-written : {good r : Bool} {w before after : Bytes} → Written good w before r after → good ≡ true → length w ≡ length before → after ≡ w
+number-written {w} {before} k g l = rw (g, eq-eqb (length w) (length before) l) at (k .written)
+
+-- the result that it stands for
+pub figure-fails : {v : Result} {f g : Figure} {x : Fault} → Shows v f → f ≡ g → figureResult g ≡ fails x → v ≡ fails x
+figure-fails h e k = h .is ∙ ap figureResult e ∙ k
+
+pub figure-yields : {v : Result} {f : Figure} {bits radix least : ℕ} → Shows v f → f ≡ figure.Number bits radix least → v ≡ yields (writtenIn radix least (signedValue bits))
+unfolding figureResult
+figure-yields h e = h .is ∙ ap figureResult e
+
+pub figure-radix : {v : Result} {f : Figure} {bits radix least : ℕ} → Shows v f → f ≡ figure.Number bits radix least → isRadix radix ≡ true
+unfolding FigureRadix
+figure-radix h e = rw e at (h .radix)
+
+-- ---- a part of a buffer
+
+pub cut-inside : (bytes : Bytes) {c : Cut} {start end : ℕ} → CutInside bytes c → c ≡ cut.Part start end → (start ≤ end) × (end ≤ length bytes)
+unfolding CutInside
+cut-inside bytes h e = rw e at h
+
+pub cut-yields : {bytes : Bytes} {v : Result} {c : Cut} {start end : ℕ} → Cuts bytes v c → c ≡ cut.Part start end → v ≡ yields (take (end - start) (drop start bytes))
+unfolding cutResult
+cut-yields {bytes} h e = h .is ∙ ap (cutResult bytes) e
+
+pub cut-fails : {bytes : Bytes} {v : Result} {c : Cut} → Cuts bytes v c → c ≡ cut.NoNumber → v ≡ fails noNumber
+unfolding cutResult
+cut-fails {bytes} h e = h .is ∙ ap (cutResult bytes) e
+
+-- ---- the macros
+
+module _ (s : State) (args : List Bytes) where
+  pub translit-gives : {x y z : Bytes} → x ≡ arg 1 args → y ≡ arg 2 args → z ≡ arg 3 args → callTranslit args s ≡ next (resulting (transliterated y z x) s)
+  unfolding callTranslit translitResult giving
+  translit-gives e f g = rw (e, f, g) refl
+
+  module _ {k : MarkTexts} (e : s .marks ≡ k) where
+    pub shift-gives : callShift args s ≡ next (resulting (commas (quotedEach k (drop 1 args))) s)
+    unfolding callShift shiftResult giving
+    shift-gives = rw e refl
+
+    pub text-gives : (name : Bytes) {x y : Bytes} → y ≡ x → giving (yields (substituted name args (s .marks) x)) s ≡ next (resulting (substituted name args k y) s)
+    unfolding giving
+    text-gives name f = rw (e, f) refl
+
+    pub defn-gives : {w : Bytes} → defnResult k (s .table) args ≡ yields w → callDefn args s ≡ next (resulting w s)
+    unfolding callDefn
+    defn-gives h = giving-yields s (ap (λ (x : MarkTexts). defnResult x (s .table) args) e ∙ h)
+
+    pub defn-refused : defnResult k (s .table) args ≡ fails noText → callDefn args s ≡ refused noText
+    unfolding callDefn
+    defn-refused h = giving-fails s (ap (λ (x : MarkTexts). defnResult x (s .table) args) e ∙ h)
+
+-- the text of a definition is no longer than its buffer
+pub text-short :
+    {bytes : Bytes} {ends : List ℕ} {p : Packed} {ds : List Definition} → DefinitionsIn bytes ends p ds → (k : ℕ) → k < p .count → {y : Bytes} → y ≡ getD (rows ds) k []
+    → length y ≤ 65536
+text-short h k l e = omega (arith, ap length e, string-fits (h .packs) k l, h .packs .used-in, h .bytes-most)
+
+-- ---- a result of defn by its length
+
+pub record Measured (v : Result) (n : ℕ) : Type 0 where
+  pub text : Bytes
+  pub is : v ≡ yields text
+  pub long : length text ≡ n
+
+pub defn-measured : (v : Result) (n : ℕ) → measuredAs v ≡ defnLength.Bytes n → Measured v n
+unfolding measuredAs
+defn-measured (yields w) n e = record { text = w; is = refl; long = cc }
+defn-measured (fails f) n e = let z : _≡_ {A = ℕ} 0 1 = cc in absurd (omega arith)
+
+pub defn-text : {v : Result} {n : ℕ} {y : Bytes} (q : Measured v n) → v ≡ yields y → y ≡ q .text
+defn-text q e = cc (q .is)
+
+front-fails : (w : Bytes) (v : Result) → (measuredAs v ≡ defnLength.NoText → v ≡ fails noText) → measuredAs (inFront w v) ≡ defnLength.NoText → inFront w v ≡ fails noText
+unfolding measuredAs inFront
+front-fails w (yields x) h e = let z : _≡_ {A = ℕ} 0 1 = cc in absurd (omega arith)
+front-fails w (fails f) h e = h e
+
+-- what the first argument's meaning makes of the result v of the others
+unfoldable defnFront : MarkTexts → Option Meaning → Result → Result
+defnFront k o v = elim o [ none ↦ v | some (text x) ↦ inFront (quoted k x) v | some (predefined i) ↦ fails noText ]
+
+defn-front : (k : MarkTexts) (t : Table) (w : Bytes) (ws : List Bytes) → defnResult k t (w ∷ ws) ≡ defnFront k (meaningOf w t) (defnResult k t ws)
+unfolding defnResult defnFront
+defn-front k t w ws = refl
+
+meaning-fails :
+    (k : MarkTexts) (o : Option Meaning) (v : Result) → (measuredAs v ≡ defnLength.NoText → v ≡ fails noText) → measuredAs (defnFront k o v) ≡ defnLength.NoText
+    → defnFront k o v ≡ fails noText
+unfolding defnFront
+meaning-fails k none v h e = h e
+meaning-fails k (some (text x)) v h e = front-fails (quoted k x) v h e
+meaning-fails k (some (predefined i)) v h e = refl
+
+pub defn-fails : (k : MarkTexts) (t : Table) (args : List Bytes) → measuredAs (defnResult k t args) ≡ defnLength.NoText → defnResult k t args ≡ fails noText
+unfolding defnResult measuredAs
+defn-fails k t [] e = let z : _≡_ {A = ℕ} 0 1 = cc in absurd (omega arith)
+defn-fails k t (w ∷ ws) e =
+    defn-front k t w ws ∙ meaning-fails k (meaningOf w t) (defnResult k t ws) (defn-fails k t ws) (sym (ap measuredAs (defn-front k t w ws)) ∙ e)

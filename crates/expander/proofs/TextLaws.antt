@@ -1,0 +1,141 @@
+-- dnl and m4exit, and the macros that set text aside.
+use Prim.Native.Nat.{ℕ, _+_, _-_, _≤_, _<_}
+use mathlib.Core.Path.{_≡_, refl, sym, ap, ap₂, subst, _∙_}
+use mathlib.Core.List.{List, [], _++_}
+use mathlib.Core.Option.{Option, none, some}
+use native.Mathlib.Omega.{arith}
+use lib.IntN.{pos}
+use lib.ListN.{length, take, drop, length-append, length-drop}
+use lib.Seq.{take-all}
+use Rattle.numerals.specs.Answers.{naturalOf}
+use Rattle.numerals.specs.declared.Natural.{Natural}
+use Rattle.numerals.specs.declared.Natural.the-variants as natural
+use Rattle.rules.specs.declared.Answer.the-variants as answer
+use Rattle.rules.specs.Answers.{exit, noNumber, faultAnswer, endingAnswer}
+use Rattle.rules.specs.Arguments.{arg, bounded, numberOr, separated}
+use Rattle.rules.specs.Bytes.{Bytes}
+use Rattle.rules.specs.Macros.{callDnl, callErrprint, callM4exit, callM4wrap}
+use Rattle.rules.specs.Run.{Setting}
+use Rattle.rules.specs.Source.{Source, ahead, advance}
+use Rattle.rules.specs.State.{State, next, withWrap, withErrors, taking}
+use Rattle.rules.specs.Streams.{droppedStreams}
+use Rattle.expander.specs.declared.machine.Machine.{Machine}
+use Rattle.expander.specs.declared.machine.Turn.{Turn}
+use Rattle.expander.specs.declared.machine.Went.the-variants as went
+use Rattle.expander.specs.declared.source.Position.{Position}
+use Rattle.expander.specs.Ahead.{LineEnd}
+use Rattle.expander.specs.Filled.{Filled}
+use Rattle.expander.specs.Front.{Front}
+use Rattle.expander.specs.Machine.{memory, Means, Gives, sourceSet, sinksSet, wrapSet, errorsSet, turned}
+use Rattle.expander.specs.Sinks.{SinksIn}
+use Rattle.expander.specs.Source.{SourceIn}
+use Rattle.expander.proofs.FilledLaws.{filled-front, filled-long}
+use Rattle.expander.proofs.MachineLaws.{front-long, pending-fits, calls-fit, table-fits, streams-fit, wrap-fits, over-wrap, over-errors, gives-stop}
+use Rattle.expander.proofs.Parted.{with-source, with-sinks, with-wrap, with-errors}
+use Rattle.expander.proofs.SourceLaws.{ahead-is, ahead-long}
+use Rattle.expander.proofs.TurnLaws.{turned-on, turned-refused, turned-full}
+use Rattle.expander.proofs.Waiting.{none-held}
+
+-- ---- dnl: the line ahead is taken
+
+module _ {text pending : Bytes} {p : Position} {x : Source} (h : SourceIn text pending p x) where
+  -- the two slices that the code reads are what is ahead
+  parts-ahead : take (length pending - p .from) (drop (p .from) pending) ++ take (length text - p .taken) (drop (p .taken) text) ≡ ahead x
+  parts-ahead =
+      ap₂ (λ (u v : Bytes). u ++ v) (take-all (length pending - p .from) (drop (p .from) pending) (omega (arith, length-drop (p .from) pending)))
+      (take-all (length text - p .taken) (drop (p .taken) text) (omega (arith, length-drop (p .taken) text)))
+      ∙ sym (ahead-is h)
+
+  pub line-ahead : {n : ℕ} → LineEnd (take (length pending - p .from) (drop (p .from) pending) ++ take (length text - p .taken) (drop (p .taken) text)) n → LineEnd (ahead x) n
+  line-ahead {n} l = subst (λ (w : Bytes). LineEnd w n) parts-ahead l
+
+  pub line-most : {n : ℕ} → LineEnd (ahead x) n → length text ≤ 65536 → length pending ≤ 65536 → n ≤ 131072
+  line-most l s t = omega (arith, l .within, ahead-long h)
+
+-- ---- a text goes behind the one at a buffer's front
+
+front-more : {buffer after : Bytes} {n : ℕ} {w x : Bytes} → Front buffer n w → Filled buffer n x after → Front after (n + length x) (w ++ x)
+front-more {x = x} f g =
+    record { text-is = filled-front g ∙ ap (λ (l : Bytes). l ++ x) (f .text-is); inside = omega (arith, filled-long g, g .fits) }
+
+front-over : {buffer : Bytes} {n : ℕ} {w : Bytes} (x : Bytes) → Front buffer n w → length buffer - n < length x → length buffer < length (w ++ x)
+front-over {w = w} x f h = omega (arith, length-append w x, front-long f, f .inside)
+
+-- the answer to a number that is read: the number, or none
+number-some : (o : Option ℕ) (n : ℕ) → natural.Number n ≡ naturalOf o → o ≡ some n
+unfolding naturalOf
+number-some none n e = absurd (let z : _≡_ {A = ℕ} 0 1 = cc in omega arith)
+number-some (some k) n e = ap some (cc)
+
+number-none : (o : Option ℕ) → natural.NoNumber ≡ naturalOf o → o ≡ none
+unfolding naturalOf
+number-none none e = refl
+number-none (some k) e = absurd (let z : _≡_ {A = ℕ} 0 1 = cc in omega arith)
+
+module _
+    {a : Setting} {text pending calls : Bytes} {callEnds stack : List ℕ} {definitions : Bytes} {tableEnds : List ℕ} {streams : Bytes} {owners : List ℕ}
+    {wrap errors output : Bytes} {m : Machine} {s : State}
+    (r : Means a (memory text pending calls callEnds stack definitions tableEnds streams owners wrap errors output) m s) (args : List Bytes) {t : Turn}
+  where
+    pub line-taken :
+        {p : Position} {m′ : Machine} {n : ℕ} → LineEnd (ahead (s .source)) n → (n ≤ length (ahead (s .source)) → SourceIn text pending p (advance n (s .source)))
+        → m′ ≡ sourceSet p m → t ≡ turned went.On m′ → Gives a (callDnl args s) (memory text pending calls callEnds stack definitions tableEnds streams owners wrap errors output) t
+    unfolding callDnl taking
+    line-taken l f k e = turned-on (with-source r (f (l .within)) refl) (ap (λ (n : ℕ). next (taking n s)) (sym (l .line))) (e ∙ ap (turned went.On) k)
+
+    module _ {x : Bytes} (e : x ≡ arg 1 args) where
+      pub wrap-full :
+          length wrap - m .wrap < length x → t ≡ turned (went.Refused (answer.Room 5)) m
+          → Gives a (callM4wrap args s) (memory text pending calls callEnds stack definitions tableEnds streams owners wrap errors output) t
+      unfolding callM4wrap withWrap
+      wrap-full h f =
+          let u = withWrap (s .wrap ++ x) s in
+          turned-full u 4
+          (over-wrap a u (pending-fits r) (calls-fit r) (table-fits r) (streams-fit r) (omega (arith, front-over x (r .wrap) h, r .limits .wrap)))
+          (rw e) f
+
+      pub wrap-more :
+          {wrap′ : Bytes} {m′ : Machine} → Filled wrap (m .wrap) x wrap′ → m′ ≡ wrapSet (m .wrap + length x) m → t ≡ turned went.On m′
+          → Gives a (callM4wrap args s) (memory text pending calls callEnds stack definitions tableEnds streams owners wrap′ errors output) t
+      unfolding callM4wrap
+      wrap-more g k f = turned-on (with-wrap r (front-more (r .wrap) g) (filled-long g)) (rw e) (f ∙ ap (turned went.On) k)
+
+    module _ {x : Bytes} (e : x ≡ separated 32 args) {n : ℕ} (l : n ≡ length x) where
+      pub errors-full :
+          length errors - m .errors < n → t ≡ turned (went.Refused (answer.Room 6)) m
+          → Gives a (callErrprint args s) (memory text pending calls callEnds stack definitions tableEnds streams owners wrap errors output) t
+      unfolding callErrprint withErrors
+      errors-full h f =
+          let u = withErrors (s .errors ++ x) s in
+          turned-full u 5
+          (over-errors a u (pending-fits r) (calls-fit r) (table-fits r) (streams-fit r) (wrap-fits r) (omega (arith, front-over x (r .errors) (omega (arith, l, h)), r .limits .errors)))
+          (rw e) f
+
+      pub errors-more :
+          {errors′ : Bytes} {m′ : Machine} → Filled errors (m .errors) x errors′ → m′ ≡ errorsSet (m .errors + n) m → t ≡ turned went.On m′
+          → Gives a (callErrprint args s) (memory text pending calls callEnds stack definitions tableEnds streams owners wrap errors′ output) t
+      unfolding callErrprint
+      errors-more g k f =
+          turned-on (with-errors r (front-more (r .errors) g) (filled-long g)) (rw e)
+          (f ∙ ap (turned went.On) (k ∙ ap (λ (i : ℕ). errorsSet (m .errors + i) m) l))
+
+    module _ {c : Natural} (e : c ≡ naturalOf (bounded 0 255 (numberOr (pos 0) 1 args))) where
+      pub exit-refused :
+          c ≡ natural.NoNumber → t ≡ turned (went.Refused answer.Number) m
+          → Gives a (callM4exit args s) (memory text pending calls callEnds stack definitions tableEnds streams owners wrap errors output) t
+      unfolding callM4exit faultAnswer
+      exit-refused h f =
+          let q : bounded 0 255 (numberOr (pos 0) 1 args) ≡ none = number-none (bounded 0 255 (numberOr (pos 0) 1 args)) (sym h ∙ e) in
+          turned-refused {m = m} noNumber (rw (q, callM4exit)) f
+
+      pub exited :
+          {m′ m″ : Machine} (code : ℕ) → c ≡ natural.Number code → m′ ≡ sinksSet (record { current = m .sinks .current; waiting = 0; output = m .sinks .output }) m
+          → m″ ≡ wrapSet 0 m′ → t ≡ turned (went.Ended (answer.Exit code)) m″
+          → Gives a (callM4exit args s) (memory text pending calls callEnds stack definitions tableEnds streams owners wrap errors output) t
+      unfolding callM4exit endingAnswer droppedStreams
+      exited code h j k f =
+          let q : bounded 0 255 (numberOr (pos 0) 1 args) ≡ some code = number-some (bounded 0 255 (numberOr (pos 0) 1 args)) code (sym h ∙ e) in
+          let z : SinksIn streams owners output (record { current = m .sinks .current; waiting = 0; output = m .sinks .output }) (droppedStreams (s .streams)) =
+          record { waiting = none-held streams owners; written = r .sinks .written; current = r .sinks .current } in
+          let w : Front wrap 0 [] = record { text-is = refl; inside = omega arith } in
+          rw (q, callM4exit, f, k, j) (gives-stop (exit code) (with-wrap (with-sinks r z refl refl refl) w refl))

@@ -1,0 +1,27 @@
+-- What a step gives, as the code hands it back: the run goes on, or the step is refused.
+use Prim.Native.Nat.{ℕ, _+_}
+use mathlib.Core.Path.{_≡_}
+use mathlib.Core.Option.{some}
+use Rattle.rules.specs.declared.Answer.the-variants as answer
+use Rattle.rules.specs.Answers.{Fault, faultAnswer}
+use Rattle.rules.specs.State.{State, Outcome, next, refused}
+use Rattle.rules.specs.Run.{Setting, lengths, held, overfull}
+use Rattle.expander.specs.declared.machine.Machine.{Machine}
+use Rattle.expander.specs.declared.machine.Turn.{Turn}
+use Rattle.expander.specs.declared.machine.Went.the-variants as went
+use Rattle.expander.specs.Machine.{Memory, Means, Gives, turned}
+use Rattle.expander.proofs.MachineLaws.{gives-next, gives-refused, gives-room}
+
+-- another way to say the outcome
+pub gives-by : {a : Setting} {b : Memory} {t : Turn} {o p : Outcome} → o ≡ p → Gives a p b t → Gives a o b t
+gives-by e g = rw e g
+
+module _ {a : Setting} {b : Memory} {m : Machine} {o : Outcome} {t : Turn} where
+  pub turned-on : {u : State} → Means a b m u → o ≡ next u → t ≡ turned went.On m → Gives a o b t
+  turned-on r e f = rw (e, f) (gives-next r)
+
+  pub turned-refused : (f : Fault) → o ≡ refused f → t ≡ turned (went.Refused (faultAnswer f)) m → Gives a o b t
+  turned-refused f e g = rw (e, g) (gives-refused f)
+
+  pub turned-full : (u : State) (k : ℕ) → overfull (held u) (lengths a) ≡ some k → o ≡ next u → t ≡ turned (went.Refused (answer.Room (k + 1))) m → Gives a o b t
+  turned-full u k h e f = rw (e, f) (gives-room u k h)

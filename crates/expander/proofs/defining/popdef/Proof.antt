@@ -1,0 +1,106 @@
+-- `expander::defining::popdef` meets its contract: the loop keeps what is left to do, for all tables that the buffers may hold. Assumes nothing.
+use Prim.Native.Nat.{_-_, _≤_}
+use native.Mathlib.Omega.{arith}
+use mathlib.Core.Path.{_≡_, refl, _∙_}
+use mathlib.Core.List.{List}
+use lib.ListN.{length}
+use Rattle.rules.specs.Bytes.{Bytes}
+use Rattle.rules.specs.Table.{Table, popped}
+use Rattle.expander.specs.Arguments.{ArgumentsIn}
+use Rattle.expander.specs.Table.{TableIn}
+use Rattle.expander.proofs.Rows.{sound}
+use Rattle.expander.proofs.DefiningLaws.{arguments-few, popdef-is, removed, InTurn, turns-begin, turns-on, turns-end}
+use borrow.Author.Needs.{needs}
+use Rattle.expander.proofs.defining.popdef.Statement.{statement}
+use Rattle.expander.proofs.defining.popdef.Tie as tie
+
+abbrev Inv-loop : tie.InvT-loop
+Inv-loop calls ends definitions₀ table-ends₀ m x have t₀ k₀ definitions table-ends t k =
+    (length definitions ≡ length definitions₀) × (length table-ends ≡ length table-ends₀)
+    × ((args : List Bytes) (u : Table) → ArgumentsIn calls ends x args → TableIn definitions₀ table-ends₀ (t₀ .packed) (t₀ .own) u → InTurn popped args u definitions table-ends t k)
+
+abbrev μ-loop : tie.MeasureT-loop
+μ-loop calls ends definitions₀ table-ends₀ m x have t₀ k₀ definitions table-ends t k = have - k
+
+count-requires : tie.Need-count-requires Inv-loop μ-loop
+count-requires c κs = search needs
+
+loop-holds : tie.Need-loop-holds Inv-loop μ-loop
+loop-holds c = (refl, refl, λ args u h k. turns-begin popped args k)
+
+abbrev entry : tie.In-loop Inv-loop μ-loop → tie.Start Inv-loop μ-loop
+entry c = c .before .before .before .before .before .before .before .before
+
+-- how many arguments there are
+have-is : (c : tie.In-loop Inv-loop μ-loop) (args : List Bytes) → ArgumentsIn (entry c .args .calls .now) (entry c .args .ends .now) (entry c .args .x) args → c .before .before .before .count .result ≡ length args
+have-is c args h = c .before .before .before .count .ensures (entry c .args .calls .now) (entry c .args .ends .now) args h
+
+have-few : (c : tie.In-loop Inv-loop μ-loop) → c .before .before .before .count .result ≤ 320
+have-few c =
+    let g = entry c .pre .1 in
+    omega (arith, have-is c (g .args) (g .holds), arguments-few (g .holds))
+
+add-k : tie.Need-add-k Inv-loop μ-loop
+add-k c = omega (arith, c .loop-test .taken, have-few c)
+
+argument-requires : tie.Need-argument-requires Inv-loop μ-loop
+argument-requires c κs = (entry c .pre .1, omega arith, omega (arith, c .loop-test .taken, have-few c))
+
+pop-requires : tie.Need-pop-requires Inv-loop μ-loop
+pop-requires c κs =
+    let l = c .before .before .before in
+    let s = entry l in
+    sound (l .before .loop .inv .2 (s .pre .1 .args) (s .pre .0 .state .table) (s .pre .1 .holds) (s .pre .0 .means .table) .holds .holds)
+
+loop-less : tie.Need-loop-less Inv-loop μ-loop
+loop-less c = omega (arith, c .before .before .before .before .before .before .before .before .loop-test .taken)
+
+loop-again : tie.Need-loop-again Inv-loop μ-loop
+loop-again c =
+    let l = c .before .before .before .before .before .before .before .before in
+    let i = l .before .loop in
+    let w = c .before .before .before .before .before .before .before .argument in
+    let d = c .before .before .before .before .pop in (
+      d .kept .0 ∙ i .inv .0,
+      d .kept .1 .0 ∙ i .inv .1,
+      λ args u h k. turns-on (i .inv .2 args u h k) (w .result .now) (omega (arith, l .loop-test .taken, have-is l args h)) (w .ensures args h) (d .ensures),
+    )
+
+with-table-requires : tie.Need-with-table-requires Inv-loop μ-loop
+with-table-requires c κs = search needs
+
+on-requires : tie.Need-on-requires Inv-loop μ-loop
+on-requires c κs = search needs
+
+same-length : tie.Need-same-length Inv-loop μ-loop
+same-length c = search needs
+
+same-length-2 : tie.Need-same-length-2 Inv-loop μ-loop
+same-length-2 c = search needs
+
+returns : tie.Need-returns Inv-loop μ-loop
+returns c =
+    let p = c .before .before .before .before .before .before .before .before .before .before .args in
+    let i = c .before .before .before .loop .inv in
+    λ a s b args r h.
+    let n = c .before .before .before .before .before .count .ensures (p .calls .now) (p .ends .now) args h in
+    removed r args popped (popdef-is args s) (turns-end (i .2 args (s .table) h (r .table)) (omega (arith, n, c .before .before .loop-test .left))) (i .0) (i .1) (c .before .with-table .ensures) (c .on .ensures)
+
+pub popdef-spec : {M : Type 1} → statement M
+popdef-spec =
+    tie.close
+    (tie.spec
+    Inv-loop
+    μ-loop
+    count-requires
+    loop-holds
+    add-k
+    argument-requires
+    pop-requires
+    loop-less
+    loop-again
+    with-table-requires
+    on-requires
+    same-length
+    same-length-2
+    returns)

@@ -1,0 +1,24 @@
+-- `expander::remarking::are_marks` meets its contract. Assumes nothing.
+use Rattle.expander.proofs.RemarkingLaws.{both-marks, not-both}
+use borrow.Author.Needs.{needs}
+use Rattle.expander.proofs.remarking.are_marks.Statement.{statement}
+use Rattle.expander.proofs.remarking.are_marks.Tie as tie
+
+is-mark-requires : tie.Need-is-mark-requires
+is-mark-requires c κs = search needs
+
+is-end-mark-requires : tie.Need-is-end-mark-requires
+is-end-mark-requires c κs = search needs
+
+returns : tie.Need-returns
+returns c =
+    let p = c .before .before .before .before .before .args in
+    both-marks (p .begin .now) (p .end .now) (c .before .before .is-mark .ensures) (c .before .if1 .taken) (c .is-end-mark .ensures)
+
+returns-2 : tie.Need-returns-2
+returns-2 c =
+    let p = c .before .before .before .before .args in
+    not-both (p .begin .now) (p .end .now) (c .before .is-mark .ensures) (c .if1 .left)
+
+pub are-marks-spec : {M : Type 1} → statement M
+are-marks-spec = tie.close (tie.spec is-mark-requires is-end-mark-requires returns returns-2)

@@ -1,0 +1,82 @@
+-- `expander::remarking::changequote` meets its contract, by the number of arguments. Assumes nothing.
+use native.Mathlib.Omega.{arith}
+use mathlib.Core.Path.{_≡_, _∙_}
+use lib.ListN.{length}
+use Rattle.expander.specs.Machine.{stringsAt}
+use Rattle.expander.proofs.TurnLaws.{gives-by}
+use Rattle.expander.proofs.RemarkingLaws.{changequote-none, changequote-one, changequote-more}
+use borrow.Author.Needs.{needs}
+use Rattle.expander.proofs.remarking.changequote.Statement.{statement}
+use Rattle.expander.proofs.remarking.changequote.Tie as tie
+
+count-requires : tie.Need-count-requires
+count-requires c κs = search needs
+
+default-marks-requires : tie.Need-default-marks-requires
+default-marks-requires c κs = search needs
+
+with-quotes-requires : tie.Need-with-quotes-requires
+with-quotes-requires c κs = search needs
+
+with-marks-requires : tie.Need-with-marks-requires
+with-marks-requires c κs = search needs
+
+on-requires : tie.Need-on-requires
+on-requires c κs = search needs
+
+returns : tie.Need-returns
+returns c =
+    let p = c .before .before .before .before .before .before .before .before .before .args in
+    λ a s b args r h.
+    let n : length args ≡ 0 = omega (arith, c .before .before .before .before .if1 .taken, c .before .before .before .before .before .before .count .ensures (p .calls .now) (p .ends .now) args h) in
+    changequote-none r args n (c .before .with-marks .ensures) (c .on .ensures) (c .before .before .before .default-marks .ensures .0) (c .before .before .before .default-marks .ensures .1)
+    (c .before .before .with-quotes .ensures .0) (c .before .before .with-quotes .ensures .1)
+
+argument-requires : tie.Need-argument-requires
+argument-requires c κs = search needs
+
+slice-aggregate-remarked-quotes : tie.Need-slice-aggregate-remarked-quotes
+slice-aggregate-remarked-quotes c = search needs
+
+remarked-quotes-requires : tie.Need-remarked-quotes-requires
+remarked-quotes-requires c κs = search needs
+
+returns-2 : tie.Need-returns-2
+returns-2 c =
+    let p = c .before .before .before .before .before .before .before .before .before .args in
+    λ a s b args r h.
+    let n : length args ≡ 1 = omega (arith, c .before .before .if2 .taken, c .before .before .before .before .before .before .count .ensures (p .calls .now) (p .ends .now) args h) in
+    gives-by (changequote-one args s (c .before .before .before .argument .ensures args h) n) (c .remarked-quotes .ensures a s (stringsAt (p .calls .now) (p .ends .now) b) r)
+
+argument-requires-2 : tie.Need-argument-requires-2
+argument-requires-2 c κs = search needs
+
+remarked-quotes-requires-2 : tie.Need-remarked-quotes-requires-2
+remarked-quotes-requires-2 c κs = search needs
+
+returns-3 : tie.Need-returns-3
+returns-3 c =
+    let p = c .before .before .before .before .before .before .before .before .before .args in
+    λ a s b args r h.
+    let n = c .before .before .before .before .before .before .count .ensures (p .calls .now) (p .ends .now) args h in
+    gives-by
+    (changequote-more args s (c .before .before .before .argument .ensures args h) (c .before .argument2 .ensures args h) (λ e. c .before .before .before .before .if1 .left (n ∙ e)) (λ e. c .before .before .if2 .left (n ∙ e)))
+    (c .remarked-quotes2 .ensures a s (stringsAt (p .calls .now) (p .ends .now) b) r)
+
+pub changequote-spec : {M : Type 1} → statement M
+changequote-spec =
+    tie.close
+    (tie.spec
+    count-requires
+    default-marks-requires
+    with-quotes-requires
+    with-marks-requires
+    on-requires
+    returns
+    argument-requires
+    slice-aggregate-remarked-quotes
+    remarked-quotes-requires
+    returns-2
+    argument-requires-2
+    remarked-quotes-requires-2
+    returns-3)

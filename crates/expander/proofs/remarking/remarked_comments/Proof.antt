@@ -1,0 +1,64 @@
+-- `expander::remarking::remarked_comments` meets its contract: both marks are tested, and then replace those of the machine. Assumes nothing.
+use native.Mathlib.Omega.{arith}
+use Rattle.rules.specs.Marks.{withComments}
+use Rattle.expander.proofs.RemarkingLaws.{MarksSized, marks-sized, made-full, badly-marked, well-marked}
+use borrow.Author.Needs.{needs}
+use Rattle.expander.proofs.remarking.remarked_comments.Statement.{statement}
+use Rattle.expander.proofs.remarking.remarked_comments.Tie as tie
+
+are-marks-requires : tie.Need-are-marks-requires
+are-marks-requires c κs = search needs
+
+refused-requires : tie.Need-refused-requires
+refused-requires c κs = search needs
+
+returns : tie.Need-returns
+returns c =
+    let p = c .before .before .before .before .before .args in
+    λ a s b r. badly-marked withComments (p .begin .now) (p .end .now) s (c .before .before .are-marks .ensures) (c .before .if1 .taken) (c .refused .ensures)
+
+sized : (c : tie.Else1) → MarksSized (c .before .before .before .before .args .begin .now) (c .before .before .before .before .args .end .now)
+sized c =
+    let p = c .before .before .before .before .args in
+    marks-sized (p .begin .now) (p .end .now) (c .before .are-marks .ensures) (c .if1 .left)
+
+mark-of-requires : tie.Need-mark-of-requires
+mark-of-requires c κs = sized c .begin .most
+
+mark-of-requires-2 : tie.Need-mark-of-requires-2
+mark-of-requires-2 c κs = sized (c .before) .end .most
+
+with-comments-requires : tie.Need-with-comments-requires
+with-comments-requires c κs = search needs
+
+with-marks-requires : tie.Need-with-marks-requires
+with-marks-requires c κs = search needs
+
+on-requires : tie.Need-on-requires
+on-requires c κs = search needs
+
+returns-2 : tie.Need-returns-2
+returns-2 c =
+    let k = c .before .before .before .before .before in
+    let p = k .before .before .before .before .args in
+    let v = c .before .before .before .before .mark-of in
+    let w = c .before .before .before .mark-of2 in
+    let x = c .before .before .with-comments .ensures in
+    let z = sized k in
+    λ a s b r.
+    well-marked withComments (p .begin .now) (p .end .now) s (k .before .are-marks .ensures) (k .if1 .left) r (v .result) (w .result) (v .ensures .0) (w .ensures .0) (x .0)
+    (x .1 (r .marks-good) (omega (arith, v .ensures .1, z .begin .most)) (made-full (z .end) (w .ensures .1))) (c .before .with-marks .ensures) (c .on .ensures)
+
+pub remarked-comments-spec : {M : Type 1} → statement M
+remarked-comments-spec =
+    tie.close
+    (tie.spec
+    are-marks-requires
+    refused-requires
+    returns
+    mark-of-requires
+    mark-of-requires-2
+    with-comments-requires
+    with-marks-requires
+    on-requires
+    returns-2)

@@ -1,0 +1,277 @@
+// The macros that change the streams, and what the end of the run does with them.
+use crate::arguments;
+use crate::arguments::Arguments;
+use crate::machine::Machine;
+use crate::machine::Turn;
+use crate::sinks::Sinks;
+use crate::streams;
+use numerals::Decimal;
+use numerals::Natural;
+use rules::Answer;
+ghost use mathlib.Core.Path.{_≡_};
+ghost use mathlib.Core.Bool.{true};
+ghost use mathlib.Core.List.{List};
+ghost use Prim.Native.Nat.{ℕ, _≤_, _<_};
+ghost use lib.ListN.{length, getD, replicate};
+ghost use Rattle.rules.specs.Bytes.{Bytes};
+ghost use Rattle.rules.specs.Arguments.{arg};
+ghost use Rattle.rules.specs.State.{State, stop, withStreams};
+ghost use Rattle.rules.specs.Run.{Setting};
+ghost use Rattle.expander.specs.Arguments.{ArgumentsIn, SomeArguments};
+ghost use Rattle.expander.specs.Machine.{Memory, Means, Gives, Sound, stringsAt, sinksAt};
+ghost use Rattle.rules.specs.Macros.{callDivert, callUndivert};
+ghost use Rattle.rules.specs.Answers.{done};
+ghost use Rattle.rules.specs.Streams.{Streams, moved, movedInTurn, finishedStreams};
+ghost use Rattle.expander.specs.Streams.{IsStream};
+ghost use Rattle.expander.specs.Sinks.{SinksIn};
+ghost use Rattle.expander.specs.Diverting.{streamOf, allNamed, turns, SomeSinks, Moves, Seen};
+
+// What moves come to: where the streams stand then, and whether they fit.
+pub struct Moved {
+    pub sinks: Sinks,
+    pub fits: bool,
+}
+
+// The stream that the n-th argument names; 0: none.
+fn stream_argument(calls: &[u8], ends: &[u32], x: Arguments, n: usize) -> u32
+    requires { ⌜ SomeArguments (now calls) (now ends) x × (1 ≤ n) × (n ≤ 65536) ⌝ }
+    ensures { λ r. ⌜ ((args : List Bytes) → ArgumentsIn (now (calls .entry)) (now (ends .entry)) x args → r ≡ streamOf (arg n args)) ⌝ }
+{
+    let Natural::Number(i) = arguments::natural_argument(calls, ends, x, n, 1, 9) else {
+        return 0;
+    };
+    i
+}
+
+// Whether each argument names a stream.
+fn names_streams(calls: &[u8], ends: &[u32], x: Arguments) -> bool
+    requires { ⌜ SomeArguments (now calls) (now ends) x ⌝ }
+    ensures { λ r. ⌜ ((args : List Bytes) → ArgumentsIn (now (calls .entry)) (now (ends .entry)) x args → r ≡ allNamed args) ⌝ }
+{
+    let n = arguments::count(x);
+    let mut k = 0;
+    while k < n {
+        if stream_argument(calls, ends, x, k + 1) == 0 {
+            return false;
+        }
+        k += 1;
+    }
+    true
+}
+
+// How many streams are moved.
+fn turn_count(x: Arguments) -> usize
+    requires { ⌜ x .base ≤ x .strings .count ⌝ }
+    ensures { λ r. ⌜ ((bytes : Bytes) (ends : List ℕ) (args : List Bytes) → ArgumentsIn bytes ends x args → r ≡ length (turns args)) ⌝ }
+{
+    let n = arguments::count(x);
+    if n == 0 {
+        return 9;
+    }
+    n
+}
+
+// The stream that is moved in turn k, from 0.
+fn turn_stream(calls: &[u8], ends: &[u32], x: Arguments, k: usize) -> u32
+    requires { ⌜ SomeArguments (now calls) (now ends) x × (k ≤ 320) ⌝ }
+    ensures { λ r. ⌜ ((args : List Bytes) → ArgumentsIn (now (calls .entry)) (now (ends .entry)) x args → k < length (turns args) → r ≡ getD (turns args) k 0) ⌝ }
+{
+    if arguments::count(x) == 0 {
+        let i = k + 1;
+        return i as u32;
+    }
+    stream_argument(calls, ends, x, k + 1)
+}
+
+// Stream i goes behind the output.
+fn move_out(streams: &mut [u8], owners: &mut [u8], output: &mut [u8], k: Sinks, i: u8) -> Moved
+    requires { ⌜ (k .waiting ≤ length (now streams)) × (k .waiting ≤ length (now owners)) × (k .output ≤ length (now output)) ⌝ }
+    ensures { λ r. ⌜ ((u : Streams) → SinksIn (now (streams .entry)) (now (owners .entry)) (now (output .entry)) k u → k .current ≡ 0 → IsStream i → Moves (now (streams .exit)) (now (owners .exit)) (now (output .exit)) r u (moved i u)) ⌝ }
+{
+    let used = k.waiting;
+    let at = k.output;
+    let n = streams::count(owners, used, i);
+    if output.len() - at < n {
+        return Moved {
+            sinks: k,
+            fits: false,
+        };
+    }
+    let end = at + n;
+    streams::extract(streams, owners, used, i, &mut output[at..end]);
+    let waiting = streams::compact(streams, owners, used, i);
+    let sinks = Sinks {
+        current: k.current,
+        waiting,
+        output: end,
+    };
+    Moved { sinks, fits: true }
+}
+
+// Stream i is moved to the current one.
+fn move_one(
+    streams: &mut [u8],
+    owners: &mut [u8],
+    output: &mut [u8],
+    scratch: &mut [u8],
+    k: Sinks,
+    i: u8,
+) -> Moved
+    requires { ⌜ SomeSinks (now streams) (now owners) (now output) (now scratch) k ⌝ }
+    ensures { λ r. ⌜ ((u : Streams) → SinksIn (now (streams .entry)) (now (owners .entry)) (now (output .entry)) k u → IsStream i → Moves (now (streams .exit)) (now (owners .exit)) (now (output .exit)) r u (moved i u)) ⌝ }
+{
+    let current = k.current;
+    let used = k.waiting;
+    if current == 0 {
+        return move_out(streams, owners, output, k, i);
+    }
+    if 9 < current {
+        let waiting = streams::compact(streams, owners, used, i);
+        let sinks = Sinks {
+            current,
+            waiting,
+            output: k.output,
+        };
+        return Moved { sinks, fits: true };
+    }
+    let to = current as u8;
+    if to != i {
+        streams::move_stream(streams, owners, used, i, to, scratch);
+    }
+    Moved {
+        sinks: k,
+        fits: true,
+    }
+}
+
+// The same; a stream that was moved before costs no pass.
+fn move_new(
+    streams: &mut [u8],
+    owners: &mut [u8],
+    output: &mut [u8],
+    scratch: &mut [u8],
+    seen: &mut [u8; 10],
+    k: Sinks,
+    i: u32,
+) -> Moved
+    requires { ⌜ SomeSinks (now streams) (now owners) (now output) (now scratch) k × IsStream i ⌝ }
+    ensures { λ r. ⌜ ((u : Streams) → SinksIn (now (streams .entry)) (now (owners .entry)) (now (output .entry)) k u → Seen (now (seen .entry)) u → Moves (now (streams .exit)) (now (owners .exit)) (now (output .exit)) r u (moved i u) × Seen (now (seen .exit)) (moved i u)) ⌝ }
+{
+    let at = i as usize;
+    if seen[at] != 0 {
+        return Moved {
+            sinks: k,
+            fits: true,
+        };
+    }
+    seen[at] = 1;
+    move_one(streams, owners, output, scratch, k, i as u8)
+}
+
+// The streams that the arguments name, or all nine, in turn.
+fn move_streams(
+    calls: &[u8],
+    ends: &[u32],
+    streams: &mut [u8],
+    owners: &mut [u8],
+    output: &mut [u8],
+    scratch: &mut [u8],
+    seen: &mut [u8; 10],
+    sinks: Sinks,
+    x: Arguments,
+) -> Moved
+    requires { ⌜ SomeSinks (now streams) (now owners) (now output) (now scratch) sinks ⌝ }
+    requires { ⌜ SomeArguments (now calls) (now ends) x × ((args : List Bytes) → ArgumentsIn (now calls) (now ends) x args → allNamed args ≡ true) ⌝ }
+    requires { ⌜ now seen ≡ replicate 10 0 ⌝ }
+    ensures { λ r. ⌜ ((u : Streams) (args : List Bytes) → SinksIn (now (streams .entry)) (now (owners .entry)) (now (output .entry)) sinks u → ArgumentsIn (now (calls .entry)) (now (ends .entry)) x args → Moves (now (streams .exit)) (now (owners .exit)) (now (output .exit)) r u (movedInTurn (turns args) u)) ⌝ }
+{
+    let n = turn_count(x);
+    let mut k = sinks;
+    let mut j = 0;
+    while j < n {
+        let i = turn_stream(calls, ends, x, j);
+        let r = move_new(streams, owners, output, scratch, seen, k, i);
+        if !r.fits {
+            return r;
+        }
+        k = r.sinks;
+        j += 1;
+    }
+    Moved {
+        sinks: k,
+        fits: true,
+    }
+}
+
+// divert: another current stream.
+pub(crate) fn divert(calls: &[u8], ends: &[u32], m: Machine, x: Arguments) -> Turn
+    requires { ⌜ Sound (λ b. stringsAt (now calls) (now ends) b) m ⌝ }
+    requires { ⌜ SomeArguments (now calls) (now ends) x ⌝ }
+    ensures { λ t. ⌜ ((a : Setting) (s : State) (b : Memory) (args : List Bytes) → Means a (stringsAt (now (calls .entry)) (now (ends .entry)) b) m s → ArgumentsIn (now (calls .entry)) (now (ends .entry)) x args → Gives a (callDivert args s) (stringsAt (now (calls .entry)) (now (ends .entry)) b) t) ⌝ }
+{
+    let Decimal::Number(current) = arguments::decimal_or(calls, ends, x, 1, 0) else {
+        return m.refused(Answer::Number);
+    };
+    let k = Sinks {
+        current,
+        waiting: m.sinks.waiting,
+        output: m.sinks.output,
+    };
+    m.with_sinks(k).on()
+}
+
+// undivert: the streams that the arguments name, or all nine, are moved to the current one.
+pub(crate) fn undivert(
+    calls: &[u8],
+    ends: &[u32],
+    streams: &mut [u8],
+    owners: &mut [u8],
+    output: &mut [u8],
+    scratch: &mut [u8],
+    m: Machine,
+    x: Arguments,
+) -> Turn
+    requires { ⌜ Sound (λ b. stringsAt (now calls) (now ends) (sinksAt (now streams) (now owners) (now output) b)) m ⌝ }
+    requires { ⌜ SomeArguments (now calls) (now ends) x × (length (now scratch) ≡ 65536) ⌝ }
+    ensures { λ t. ⌜ ((a : Setting) (s : State) (b : Memory) (args : List Bytes) → Means a (stringsAt (now (calls .entry)) (now (ends .entry)) (sinksAt (now (streams .entry)) (now (owners .entry)) (now (output .entry)) b)) m s → ArgumentsIn (now (calls .entry)) (now (ends .entry)) x args → Gives a (callUndivert args s) (stringsAt (now (calls .entry)) (now (ends .entry)) (sinksAt (now (streams .exit)) (now (owners .exit)) (now (output .exit)) b)) t) ⌝ }
+{
+    if !names_streams(calls, ends, x) {
+        return m.refused(Answer::Number);
+    }
+    let mut seen = [0u8; 10];
+    let r = move_streams(
+        calls,
+        ends,
+        streams,
+        owners,
+        output,
+        scratch,
+        &mut seen,
+        m.sinks,
+        x,
+    );
+    if !r.fits {
+        return m.refused(Answer::Room(7));
+    }
+    m.with_sinks(r.sinks).on()
+}
+
+// The text is used up: streams 1 to 9 go to the output in order.
+pub(crate) fn finish(streams: &[u8], owners: &[u8], output: &mut [u8], m: Machine) -> Turn
+    requires { ⌜ Sound (λ b. sinksAt (now streams) (now owners) (now output) b) m ⌝ }
+    ensures { λ t. ⌜ ((a : Setting) (s : State) (b : Memory) → Means a (sinksAt (now (streams .entry)) (now (owners .entry)) (now (output .entry)) b) m s → Gives a (stop done (withStreams (finishedStreams (s .streams)) s)) (sinksAt (now (streams .entry)) (now (owners .entry)) (now (output .exit)) b) t) ⌝ }
+{
+    let n = m.sinks.waiting;
+    let at = m.sinks.output;
+    if output.len() - at < n {
+        return m.refused(Answer::Room(7));
+    }
+    let end = at + n;
+    streams::finish(streams, owners, n, &mut output[at..end]);
+    let k = Sinks {
+        current: m.sinks.current,
+        waiting: 0,
+        output: end,
+    };
+    m.with_sinks(k).ended(Answer::Done)
+}

@@ -1,0 +1,92 @@
+// The macros that change the marks.
+use crate::arguments;
+use crate::arguments::Arguments;
+use crate::machine::Machine;
+use crate::machine::Turn;
+use crate::marking;
+use rules::Answer;
+ghost use mathlib.Core.List.{List};
+ghost use mathlib.Core.Path.{_≡_};
+ghost use mathlib.Core.Bool.{_&&_};
+ghost use Rattle.rules.specs.Marks.{isMark, isEndMark, withQuotes, withComments};
+ghost use Rattle.expander.specs.Tokens.{GoodMarks};
+ghost use Rattle.rules.specs.Bytes.{Bytes};
+ghost use Rattle.rules.specs.State.{State};
+ghost use Rattle.rules.specs.Run.{Setting};
+ghost use Rattle.expander.specs.Arguments.{ArgumentsIn, SomeArguments};
+ghost use Rattle.expander.specs.Machine.{Memory, Means, Gives, Sound, stringsAt};
+ghost use Rattle.rules.specs.Macros.{marking, callChangecom, callChangequote};
+
+// A good begin mark and a good end mark.
+fn are_marks(begin: &[u8], end: &[u8]) -> bool
+    ensures { λ r. ⌜ r ≡ isMark (now (begin .entry)) && isEndMark (now (end .entry)) ⌝ }
+{
+    if marking::is_mark(begin) {
+        return marking::is_end_mark(end);
+    }
+    false
+}
+
+// New comment marks, if they are good.
+fn remarked_comments(m: Machine, begin: &[u8], end: &[u8]) -> Turn
+    requires { ⌜ GoodMarks (m .marks) ⌝ }
+    ensures { λ t. ⌜ ((a : Setting) (s : State) (b : Memory) → Means a b m s → Gives a (marking withComments (now (begin .entry)) (now (end .entry)) s) b t) ⌝ }
+{
+    if !are_marks(begin, end) {
+        return m.refused(Answer::Mark);
+    }
+    let changed = marking::with_comments(m.marks, marking::mark_of(begin), marking::mark_of(end));
+    m.with_marks(changed).on()
+}
+
+// New quote marks, if they are good.
+fn remarked_quotes(m: Machine, begin: &[u8], end: &[u8]) -> Turn
+    requires { ⌜ GoodMarks (m .marks) ⌝ }
+    ensures { λ t. ⌜ ((a : Setting) (s : State) (b : Memory) → Means a b m s → Gives a (marking withQuotes (now (begin .entry)) (now (end .entry)) s) b t) ⌝ }
+{
+    if !are_marks(begin, end) {
+        return m.refused(Answer::Mark);
+    }
+    let changed = marking::with_quotes(m.marks, marking::mark_of(begin), marking::mark_of(end));
+    m.with_marks(changed).on()
+}
+
+// changecom: without arguments comments are turned off; with one, a newline ends them.
+pub(crate) fn changecom(calls: &[u8], ends: &[u32], m: Machine, x: Arguments) -> Turn
+    requires { ⌜ Sound (λ b. stringsAt (now calls) (now ends) b) m ⌝ }
+    requires { ⌜ SomeArguments (now calls) (now ends) x ⌝ }
+    ensures { λ t. ⌜ ((a : Setting) (s : State) (b : Memory) (args : List Bytes) → Means a (stringsAt (now (calls .entry)) (now (ends .entry)) b) m s → ArgumentsIn (now (calls .entry)) (now (ends .entry)) x args → Gives a (callChangecom args s) (stringsAt (now (calls .entry)) (now (ends .entry)) b) t) ⌝ }
+{
+    let have = arguments::count(x);
+    let marks = m.marks;
+    if have == 0 {
+        let none = marking::mark_of(&calls[..0]);
+        let off = marking::with_comments(marks, none, marks.end_comment);
+        return m.with_marks(off).on();
+    }
+    let begin = arguments::argument(calls, ends, x, 1);
+    if have == 1 {
+        return remarked_comments(m, begin, b"\n");
+    }
+    remarked_comments(m, begin, arguments::argument(calls, ends, x, 2))
+}
+
+// changequote: without arguments the marks are the default ones; with one, a newline ends a quote.
+pub(crate) fn changequote(calls: &[u8], ends: &[u32], m: Machine, x: Arguments) -> Turn
+    requires { ⌜ Sound (λ b. stringsAt (now calls) (now ends) b) m ⌝ }
+    requires { ⌜ SomeArguments (now calls) (now ends) x ⌝ }
+    ensures { λ t. ⌜ ((a : Setting) (s : State) (b : Memory) (args : List Bytes) → Means a (stringsAt (now (calls .entry)) (now (ends .entry)) b) m s → ArgumentsIn (now (calls .entry)) (now (ends .entry)) x args → Gives a (callChangequote args s) (stringsAt (now (calls .entry)) (now (ends .entry)) b) t) ⌝ }
+{
+    let have = arguments::count(x);
+    let marks = m.marks;
+    if have == 0 {
+        let fresh = marking::default_marks();
+        let plain = marking::with_quotes(marks, fresh.begin_quote, fresh.end_quote);
+        return m.with_marks(plain).on();
+    }
+    let begin = arguments::argument(calls, ends, x, 1);
+    if have == 1 {
+        return remarked_quotes(m, begin, b"\n");
+    }
+    remarked_quotes(m, begin, arguments::argument(calls, ends, x, 2))
+}
