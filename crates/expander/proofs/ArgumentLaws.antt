@@ -1,4 +1,4 @@
--- Laws of the arguments of a closed call: where one stands, and what number it is. Assumes nothing.
+-- Laws of the arguments of a closed call: where one stands, how many and how long they are, and what number one is. Assumes nothing.
 use Prim.Native.Nat.{ℕ, zero, suc, _+_, _-_, _%_, _^_, _≤_, _<_}
 use native.Mathlib.Omega.{arith}
 use mathlib.Core.Path.{_≡_, refl, sym, ap, subst, _∙_}
@@ -7,7 +7,7 @@ use mathlib.Core.List.{List, [], _∷_}
 use mathlib.Core.Option.{Option, none, some}
 use lib.Dec.{leb, eqb}
 use lib.IntN.{ℤ, pos, negsuc, negℤ}
-use lib.ListN.{length, getD, length-drop, drop-of-length-le, List·getD-eq-default}
+use lib.ListN.{length, getD, length-drop, drop-of-length-le, List·getD-eq-default, length-append}
 use lib.Seq.{drop-cons, getD-drop}
 use borrow.Author.Tests.{le-leb, lt-leb, leb-true, leb-false, lt-ltb, le-ltb}
 use Rattle.numerals.specs.declared.Decimal.{Decimal}
@@ -18,35 +18,65 @@ use Rattle.rules.specs.Bytes.{Bytes}
 use Rattle.rules.specs.Words.{signedValue, wrapped}
 use Rattle.rules.specs.Numerals.{natural, upTo, asSigned, number}
 use Rattle.rules.specs.Arguments.{arg, numberOr, bounded}
+use Rattle.rules.specs.Streams.{joined}
+use Rattle.numerals.specs.declared.Natural.{Natural}
 use Rattle.expander.specs.declared.arguments.Arguments.{Arguments}
 use Rattle.expander.specs.Packed.{startOf}
-use Rattle.expander.specs.Arguments.{ArgumentsIn, SpanIs, bitsWithin}
-use Rattle.expander.proofs.Packing.{count-is, lies}
+use Rattle.expander.specs.Arguments.{ArgumentsIn, SpanIs, bitsWithin, SomeArguments, ArgumentLinks}
+use Rattle.expander.specs.declared.arguments.Span.{Span}
+use Rattle.expander.proofs.Packing.{count-is, lies, used-is}
+use Rattle.expander.proofs.Parts.{part-long}
 
 pub arg-absent : (n : ℕ) (args : List Bytes) → length args ≤ n - 1 → arg n args ≡ []
 unfolding arg
 arg-absent n args le = List·getD-eq-default args [] le
+
+short-of : (ws : List Bytes) (i : ℕ) → length (getD ws i []) ≤ length (joined ws)
+unfolding joined
+short-of [] i = omega arith
+short-of (w ∷ ws) zero = omega (arith, length-append w (joined ws))
+short-of (w ∷ ws) (suc i) = omega (arith, short-of ws i, length-append w (joined ws))
 
 module _ {bytes : Bytes} {ends : List ℕ} {x : Arguments} {args : List Bytes} (h : ArgumentsIn bytes ends x args) where
   -- how many there are
   pub arguments-counted : x .strings .count - x .base ≡ length args
   arguments-counted = omega (arith, ap length (h .are), length-drop (x .base) (h .strings), count-is (h .packs))
 
+  -- the n-th is one of the strings
+  argument-at : (n : ℕ) → arg n args ≡ getD (h .strings) (x .base + (n - 1)) []
+  unfolding arg
+  argument-at n = ap (λ (a : List Bytes). getD a (n - 1) []) (h .are) ∙ getD-drop (x .base) (h .strings) (n - 1) []
+
   -- where the n-th stands, and where it does not
   pub span-there :
       (n start end : ℕ) → x .base + (n - 1) < x .strings .count → start ≡ startOf ends (x .base + (n - 1)) → end ≡ startOf ends (x .base + (n - 1) + 1)
       → SpanIs bytes (record { start = start; end = end }) (arg n args)
-  unfolding arg
   span-there n start end lt es ee =
       let l = lies (h .packs) (x .base + (n - 1)) start end lt es ee in
       record {
-        is = l .is ∙ sym (ap (λ (a : List Bytes). getD a (n - 1) []) (h .are) ∙ getD-drop (x .base) (h .strings) (n - 1) []);
+        is = l .is ∙ sym (argument-at n);
         ordered = l .ordered;
         inside = l .within;
       }
 
   pub span-absent : (n : ℕ) → x .strings .count ≤ x .base + (n - 1) → SpanIs bytes (record { start = 0; end = 0 }) (arg n args)
   span-absent n le = record { is = sym (arg-absent n args (omega (arith, arguments-counted))); ordered = omega arith; inside = omega arith }
+
+  -- they are few and short
+  pub few-arguments : length args ≤ 320
+  few-arguments = omega (arith, arguments-counted, h .few)
+
+  pub argument-short : (n : ℕ) → length (arg n args) ≤ 65536
+  argument-short n =
+      omega (arith, ap length (argument-at n), short-of (h .strings) (x .base + (n - 1)), used-is (h .packs), h .packs .used-in, h .short)
+
+pub argument-links : {bytes : Bytes} {ends : List ℕ} {x : Arguments} → SomeArguments bytes ends x → ArgumentLinks ends x
+argument-links {bytes} h = record { bytes = bytes; args = h .args; holds = h .holds }
+
+pub span-long : {bytes : Bytes} {p : Span} {w : Bytes} → SpanIs bytes p w → p .end - p .start ≡ length w
+span-long {bytes} {p} h = sym (part-long bytes (p .start) (p .end) (h .inside)) ∙ ap length (h .is)
+
+-- ---- the number that an argument is
 
 -- a number of 32 bits: from -2 ^ 31, which is `negsuc 2147483647`, to 2 ^ 31 - 1
 abbrev pub Signed : ℤ → Type 0
@@ -57,16 +87,24 @@ signed-neg : (n : ℕ) → n ≤ 2147483648 → Signed (negℤ (pos n))
 signed-neg zero h = omega arith
 signed-neg (suc n) h = omega arith
 
+-- the number that bits stand for
+pub bits-plain : (x : ℕ) → x ≤ 2147483647 → signedValue x ≡ pos x
+unfolding signedValue
+bits-plain x h = rw (lt-ltb x 2147483648 (omega arith))
+
+pub bits-minus : (x n : ℕ) → 2147483648 ≤ x → 4294967295 - x ≡ n → signedValue x ≡ negsuc n
+unfolding signedValue
+bits-minus x n h e = rw (le-ltb x 2147483648 h, e)
+
 -- its bits stand for it
 pub signed-bits : (z : ℤ) → Signed z → signedValue (wrapped z) ≡ z
-unfolding signedValue wrapped
+unfolding wrapped
 signed-bits (pos n) h =
     let e : n % 2 ^ 32 ≡ n = omega arith in
-    rw (e, lt-ltb n 2147483648 (omega arith))
+    rw e (bits-plain n h)
 signed-bits (negsuc n) h =
     let e : n % 2 ^ 32 ≡ n = omega arith in
-    let f : 4294967295 - (4294967295 - n) ≡ n = omega arith in
-    rw (e, le-ltb (4294967295 - n) 2147483648 (omega arith), f)
+    rw e (bits-minus (4294967295 - n) n (omega arith) (omega arith))
 
 -- what a text writes within a limit
 limited : (f : ℕ → ℤ) (l : ℕ) → ((n : ℕ) → n ≤ l → Signed (f n)) → (o : Option ℕ) (z : ℤ) → asSigned f (upTo l o) ≡ some z → Signed z
@@ -89,9 +127,6 @@ number-range (x ∷ xs) z e = go (eqb x 45) e
     go true q = limited (λ n. negℤ (pos n)) 2147483648 signed-neg (natural 10 xs) z q
     go false q = limited pos 2147483647 (λ n h. h) (natural 10 (x ∷ xs)) z q
 
-pub number-bits : (w : Bytes) (z : ℤ) → number w ≡ some z → signedValue (wrapped z) ≡ z
-number-bits w z e = signed-bits z (number-range w z e)
-
 -- the same with a default
 module _ (d n : ℕ) (args : List Bytes) where
   pub or-absent : length args ≤ n - 1 → numberOr (pos d) n args ≡ some (pos d)
@@ -111,6 +146,47 @@ module _ (d n : ℕ) (args : List Bytes) where
 
   pub number-or-bits : (z : ℤ) → d ≤ 2147483647 → numberOr (pos d) n args ≡ some z → signedValue (wrapped z) ≡ z
   number-or-bits z h e = signed-bits z (number-or-range z h e)
+
+-- a number that is needed, by what was read of it
+module _ {o : Option ℕ} {n : Natural} (e : n ≡ naturalOf o) where
+  pub reads-none : n ≡ found.NoNumber → o ≡ none
+  unfolding naturalOf
+  reads-none k = go o (sym e ∙ k)
+    where
+      go : (o : Option ℕ) → naturalOf o ≡ found.NoNumber → o ≡ none
+      go none m = refl
+      go (some x) m = let z : _≡_ {A = ℕ} 0 1 = cc in absurd (omega arith)
+
+  pub reads-some : (x : ℕ) → n ≡ found.Number x → o ≡ some x
+  unfolding naturalOf
+  reads-some x k = go o (sym e ∙ k)
+    where
+      go : (o : Option ℕ) → naturalOf o ≡ found.Number x → o ≡ some x
+      go none m = let z : _≡_ {A = ℕ} 0 1 = cc in absurd (omega arith)
+      go (some y) m = cc
+
+-- the same for a number of 32 bits
+pub record Value (o : Option ℤ) (bits : ℕ) : Type 0 where
+  pub value : ℤ
+  pub is : o ≡ some value
+  pub by-bits : bits ≡ wrapped value
+
+module _ {o : Option ℤ} {d : Decimal} (e : d ≡ decimalOf o) where
+  pub decimal-none : d ≡ read.NoNumber → o ≡ none
+  unfolding decimalOf
+  decimal-none k = go o (sym e ∙ k)
+    where
+      go : (o : Option ℤ) → decimalOf o ≡ read.NoNumber → o ≡ none
+      go none m = refl
+      go (some z) m = let w : _≡_ {A = ℕ} 0 1 = cc in absurd (omega arith)
+
+  pub decimal-some : (bits : ℕ) → d ≡ read.Number bits → Value o bits
+  unfolding decimalOf
+  decimal-some bits k = go o (sym e ∙ k)
+    where
+      go : (o : Option ℤ) → decimalOf o ≡ read.Number bits → Value o bits
+      go none m = let w : _≡_ {A = ℕ} 0 1 = cc in absurd (omega arith)
+      go (some z) m = record { value = z; is = refl; by-bits = cc }
 
 -- the bits of a default
 pub default-bits : (d : ℕ) → d ≤ 2147483647 → read.Number d ≡ decimalOf (some (pos d))

@@ -4,17 +4,11 @@ use native.Mathlib.Omega.{arith}
 use mathlib.Core.Path.{_≡_, sym, ap, _∙_}
 use mathlib.Core.List.{[], _++_, append-nil}
 use lib.ListN.{length, take, drop, getD, length-append, length-drop, drop-of-length-le, List·getD-eq-default}
-use lib.Seq.{take-all, take-append-le, drop-append-le, take-append-add, drop-append-add, getD-append-add, take-at, drop-at, length-take-le}
+use lib.Seq.{take-append-le, drop-append-le, take-append-add, drop-append-add, getD-append-add, take-at, drop-at, length-take-le}
 use Rattle.rules.specs.Bytes.{Bytes}
 use Rattle.expander.specs.Ahead.{countWhile, isOther, plainLength, NextEither}
 use Rattle.expander.proofs.Runs.{count-within, count-front, count-both}
-
--- the part of a slice from a place on
-pub part-all : (s : Bytes) (i : ℕ) → take (length s - i) (drop i s) ≡ drop i s
-part-all s i = take-all (length s - i) (drop i s) (omega (arith, length-drop i s))
-
-pub part-size : (s : Bytes) (i : ℕ) → length (take (length s - i) (drop i s)) ≡ length s - i
-part-size s i = ap length (part-all s i) ∙ length-drop i s
+use Rattle.expander.proofs.Parts.{part-all, part-size}
 
 module _ (f r : Bytes) where
   pub drop-rest : (i : ℕ) → length f ≤ i → drop i (f ++ r) ≡ drop (i - length f) r

@@ -1,9 +1,8 @@
 -- Laws of the open calls in buffer 2: what opening, collecting, separating and closing leave.
-use Prim.Native.Nat.{ℕ, zero, suc, _+_, _-_, _*_, _≤_, _<_}
+use Prim.Native.Nat.{ℕ, suc, _+_, _-_, _*_, _≤_, _<_}
 use mathlib.Core.Path.{_≡_, refl, sym, ap, subst, _∙_}
 use mathlib.Core.Bool.{Bool, true, false}
 use mathlib.Core.List.{List, [], _∷_, _++_, append-assoc, append-nil}
-use native.Mathlib.Numerals.{add-one}
 use native.Mathlib.Omega.{arith}
 use lib.ListN.{length, take, drop, getD, set, length-append, length-set}
 use lib.Seq.{getD-set-same, getD-set-other, getD-at, take-append-seam, take-suc-set, drop-append-add}
@@ -12,7 +11,6 @@ use Rattle.rules.specs.State.{Call}
 use Rattle.rules.specs.Run.{callsCost}
 use Rattle.rules.specs.Step.{openCall, collecting, nextArgument, argumentCount}
 use Rattle.expander.specs.declared.calls.Calls.{Calls}
-use Rattle.expander.specs.declared.packed.Packed.{Packed}
 use Rattle.rules.specs.Streams.{joined, totalLength}
 use Rattle.expander.specs.Packed.{Packs, endsFrom, lastMore, startOf}
 use Rattle.expander.specs.Calls.{callStrings, openStrings, bit, Stacked, CallsIn}
@@ -168,17 +166,6 @@ collecting-strings c cs w d =
     (ap (λ (l : List Bytes). lastMore l w) (sym (append-assoc (openStrings cs) (c .name ∷ c .finished) (c .current ∷ [])))
     ∙ last-grown (openStrings cs ++ (c .name ∷ c .finished)) (c .current) w
     ∙ append-assoc (openStrings cs) (c .name ∷ c .finished) ((c .current ++ w) ∷ []))
-
-collecting-count : (w : Bytes) (d : ℕ) (c : Call) (cs : List Call) → length (openStrings (collecting w d c ∷ cs)) ≡ length (openStrings (c ∷ cs))
-unfolding openStrings callStrings collecting
-collecting-count w d c cs =
-    omega (
-      arith,
-      length-append (openStrings cs) (c .name ∷ (c .finished ++ ((c .current ++ w) ∷ []))),
-      length-append (openStrings cs) (callStrings c),
-      length-append (c .finished) ((c .current ++ w) ∷ []),
-      length-append (c .finished) (c .current ∷ []),
-    )
 
 module _ {bytes : Bytes} {ends stack : List ℕ} {x : Calls} {c : Call} {cs : List Call} (m : CallsIn bytes ends stack x (c ∷ cs)) (s-long : length stack ≡ 192) where
   below : length cs ≡ x .opens - 1

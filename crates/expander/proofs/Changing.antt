@@ -115,7 +115,7 @@ unfolding tableCost Plain
 cost-least [] p = omega arith
 cost-least (d ∷ ds) p = omega (arith, cost-least ds (p .2), p .0)
 
-same-is : (a b : Bytes) → sameBytes a b ≡ true → a ≡ b
+pub same-is : (a b : Bytes) → sameBytes a b ≡ true → a ≡ b
 unfolding sameBytes
 same-is [] [] e = refl
 same-is [] (y ∷ ys) e = absurd (let z : _≡_ {A = ℕ} 0 1 = cc in omega arith)
@@ -126,7 +126,7 @@ same-is (x ∷ xs) (y ∷ ys) e = go (eqb x y) refl e (same-is xs ys)
     go true f e g = rw (eqb-true x y f, g e)
     go false f e g = absurd (let z : _≡_ {A = ℕ} 0 1 = cc in omega arith)
 
-newest-name : (w : Bytes) (ds : List Definition) (i : ℕ) → newestPlace w ds ≡ some i → w ≡ (getD ds i blank) .name
+pub newest-name : (w : Bytes) (ds : List Definition) (i : ℕ) → newestPlace w ds ≡ some i → w ≡ (getD ds i blank) .name
 unfolding newestPlace
 newest-name w [] i e = absurd (let z : _≡_ {A = ℕ} 0 1 = cc in omega arith)
 newest-name w (d ∷ ds) i e = go (newestPlace w ds) (newest-name w ds) (sameBytes w (d .name)) refl e

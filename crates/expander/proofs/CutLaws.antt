@@ -9,7 +9,9 @@ use mathlib.Core.List.{List, [], _∷_}
 use denote.Enum.Declared.{tagOf}
 use lib.IntN.{pos}
 use lib.ListN.{length, take, drop, getD, length-drop}
-use lib.Seq.{take-nil, drop-nil, drop-drop, getD-drop}
+use lib.Seq.{take-nil, drop-drop, getD-drop}
+use lib.Dec.{leb}
+use borrow.Author.Tests.{leb-true, leb-false}
 use Rattle.numerals.specs.Answers.{naturalOf}
 use Rattle.numerals.specs.declared.Natural.{Natural}
 use Rattle.numerals.specs.declared.Natural.the-variants as found
@@ -24,13 +26,13 @@ use Rattle.expander.specs.declared.cuts.Cut.{Cut}
 use Rattle.expander.specs.declared.cuts.Cut.the-variants as cut
 use Rattle.expander.specs.declared.table.Meaning.{Meaning as Looked}
 use Rattle.expander.specs.declared.table.Meaning.the-variants as looked
-use Rattle.expander.specs.Arguments.{ArgumentsIn, SomeArguments, ArgumentLinks, SpanIs}
+use Rattle.expander.specs.Arguments.{ArgumentsIn, SomeArguments, SpanIs}
 use Rattle.expander.specs.Table.{rows, meaningFor, Finds}
 use Rattle.expander.specs.Results.{cutResult, CutInside, Cuts}
 use Rattle.expander.proofs.table.Meaning.{the-type}
-use Rattle.expander.proofs.Packing.{count-is, same-of}
-use Rattle.expander.proofs.Parts.{part-long}
-use Rattle.expander.proofs.FigureLaws.{reads-none, reads-some}
+use Rattle.expander.proofs.Packing.{same-of}
+use Rattle.expander.proofs.ArgumentLaws.{few-arguments, reads-none, reads-some}
+use Rattle.expander.proofs.Parts.{drop-take}
 
 pub cuts-same : {bytes : Bytes} {v w : Result} {c : Cut} → w ≡ v → Cuts bytes v c → Cuts bytes w c
 cuts-same e h = record { is = e ∙ h .is; inside = h .inside }
@@ -43,9 +45,6 @@ cuts-span h = record { is = ap yields (sym (h .is)); inside = (h .ordered, h .in
 pub cuts-nothing : (bytes : Bytes) → Cuts bytes (yields []) (cut.Part 0 0)
 unfolding cutResult CutInside
 cuts-nothing bytes = record { is = refl; inside = (omega arith, omega arith) }
-
-pub argument-links : {bytes : Bytes} {ends : List ℕ} {x : Arguments} → SomeArguments bytes ends x → ArgumentLinks ends x
-argument-links {bytes} h = record { bytes = bytes; args = h .args; holds = h .holds }
 
 -- ---- ifdef
 
@@ -69,9 +68,6 @@ module _ (args : List Bytes) (t : Table) {w : Bytes} (e : w ≡ arg 1 args) {ds 
   ifdef-some k = rw (← e, is-defined ds r k w t (f .is))
 
 -- ---- ifelse
-
-pub few-arguments : {bytes : Bytes} {ends : List ℕ} {x : Arguments} {args : List Bytes} → ArgumentsIn bytes ends x args → length args ≤ 320
-few-arguments {x = x} h = omega (arith, ap length (h .are), length-drop (x .base) (h .strings), count-is (h .packs), h .few)
 
 -- the strings that are left, by how many they are and whether the first two are the same
 same-left : (l : List Bytes) → 3 ≤ length l → sameBytes (getD l 0 []) (getD l 1 []) ≡ true → chosen l ≡ getD l 2 []
@@ -176,18 +172,15 @@ take-both (suc m) (suc n) (x ∷ l) =
     ap (λ (r : Bytes). x ∷ r) (take-both m n l) ∙ ap (λ (i : ℕ). take i (x ∷ l)) (sym e)
 
 part-of-part : (from count n : ℕ) (l : Bytes) → take count (drop from (take n l)) ≡ take (min count (n - from)) (drop (min from n) l)
-part-of-part zero count n l =
-    let e : min 0 n ≡ 0 = omega arith in
-    let d : n - 0 ≡ n = omega arith in
-    rw (e, d) (take-both count n l)
-part-of-part (suc f) count zero l =
-    let e : min count (0 - suc f) ≡ 0 = omega arith in
-    take-nil count ∙ ap (λ (i : ℕ). take i (drop (min (suc f) 0) l)) (sym e)
-part-of-part (suc f) count (suc n) [] = take-nil count ∙ sym (ap (take (min count (suc n - suc f))) (drop-nil (min (suc f) (suc n))) ∙ take-nil (min count (suc n - suc f)))
-part-of-part (suc f) count (suc n) (x ∷ l) =
-    let e : min (suc f) (suc n) ≡ suc (min f n) = omega arith in
-    let d : suc n - suc f ≡ n - f = omega arith in
-    rw (e, d) (part-of-part f count n l)
+part-of-part from count n l = ap (take count) (drop-take from n l) ∙ take-both count (n - from) (drop from l) ∙ go (leb from n) refl
+  where
+    go : (t : Bool) → leb from n ≡ t → take (min count (n - from)) (drop from l) ≡ take (min count (n - from)) (drop (min from n) l)
+    go true q =
+        let e : from ≡ min from n = omega (arith, leb-true from n q) in
+        ap (λ (i : ℕ). take (min count (n - from)) (drop i l)) e
+    go false q =
+        let e : min count (n - from) ≡ 0 = omega (arith, leb-false from n q) in
+        rw e
 
 -- how long it is
 left-over : (s e from a : ℕ) → s ≤ e → a ≡ min from (e - s) → e - (s + a) ≡ e - s - from
@@ -216,9 +209,6 @@ cuts-part {bytes} {p} {w} h from count a b ea eb =
           ∙ ap (λ (i : ℕ). take i (drop (s + a) bytes)) (sym size));
       inside = (le-add-right (s + a) b, le-trans in-span (h .inside));
     }
-
-pub span-long : {bytes : Bytes} {p : Span} {w : Bytes} → SpanIs bytes p w → p .end - p .start ≡ length w
-span-long {bytes} {p} h = sym (part-long bytes (p .start) (p .end) (h .inside)) ∙ ap length (h .is)
 
 pub no-start : (bytes : Bytes) (args : List Bytes) {n : Natural} → n ≡ naturalOf (bounded 0 2147483647 (number (arg 2 args))) → n ≡ found.NoNumber → Cuts bytes (substrResult args) cut.NoNumber
 unfolding substrResult needing cutResult CutInside

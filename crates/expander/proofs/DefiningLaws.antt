@@ -1,13 +1,13 @@
 -- define, pushdef, popdef and undefine: a table that is changed once, or in turn by each argument.
-use Prim.Native.Nat.{ℕ, zero, suc, _+_, _-_, _≤_, _<_}
+use Prim.Native.Nat.{ℕ, suc, _+_, _-_, _≤_, _<_}
 use mathlib.Core.Path.{_≡_, refl, sym, ap, subst, _∙_}
 use mathlib.Core.Bool.{Bool, true, false, not}
 use mathlib.Core.List.{List, [], _∷_, _++_}
 use native.Mathlib.Numerals.{add-one}
 use native.Mathlib.Omega.{arith}
 use borrow.Author.Tests.{not-true, not-false}
-use lib.ListN.{length, drop, getD, length-append, length-drop, drop-of-length-le}
-use lib.Seq.{drop-cons, getD-drop}
+use lib.ListN.{length, drop, getD, drop-of-length-le}
+use lib.Seq.{drop-cons}
 use Rattle.rules.specs.declared.Answer.the-variants as answer
 use Rattle.rules.specs.Answers.{noName, faultAnswer}
 use Rattle.rules.specs.Arguments.{arg}
@@ -15,41 +15,18 @@ use Rattle.rules.specs.Bytes.{Bytes, isName}
 use Rattle.rules.specs.Macros.{naming, callDefine, callPopdef, callPushdef, callUndefine}
 use Rattle.rules.specs.Run.{Setting}
 use Rattle.rules.specs.State.{State, Outcome, next, withTable}
-use Rattle.rules.specs.Streams.{joined}
 use Rattle.rules.specs.Table.{Meaning, text, Definition, Table, pushed, defined, popped, undefined, inTurn, meaningCost, tableCost}
-use Rattle.expander.specs.declared.arguments.Arguments.{Arguments}
 use Rattle.expander.specs.declared.machine.Machine.{Machine}
 use Rattle.expander.specs.declared.machine.Turn.{Turn}
 use Rattle.expander.specs.declared.machine.Went.the-variants as went
 use Rattle.expander.specs.declared.packed.Packed.{Packed}
 use Rattle.expander.specs.declared.table.Definitions.{Definitions}
-use Rattle.expander.specs.Arguments.{ArgumentsIn}
 use Rattle.expander.specs.Machine.{memory, Means, Gives, tableSet, turned}
 use Rattle.expander.specs.Table.{DefinitionsIn, TableIn}
 use Rattle.expander.proofs.Changing.{cost-used}
 use Rattle.expander.proofs.MachineLaws.{pending-fits, calls-fit, over-table}
-use Rattle.expander.proofs.Packing.{count-is, used-is}
 use Rattle.expander.proofs.Parted.{with-table}
 use Rattle.expander.proofs.TurnLaws.{turned-on, turned-refused, turned-full}
-
--- ---- the arguments are few and short
-
-short-of : (ws : List Bytes) (i : ℕ) → length (getD ws i []) ≤ length (joined ws)
-unfolding joined
-short-of [] i = omega arith
-short-of (w ∷ ws) zero = omega (arith, length-append w (joined ws))
-short-of (w ∷ ws) (suc i) = omega (arith, short-of ws i, length-append w (joined ws))
-
-module _ {bytes : Bytes} {ends : List ℕ} {x : Arguments} {args : List Bytes} (h : ArgumentsIn bytes ends x args) where
-  pub argument-short : (n : ℕ) → length (arg n args) ≤ 65536
-  unfolding arg
-  argument-short n =
-      let e : getD args (n - 1) [] ≡ getD (h .strings) (x .base + (n - 1)) [] =
-      ap (λ (l : List Bytes). getD l (n - 1) []) (h .are) ∙ getD-drop (x .base) (h .strings) (n - 1) [] in
-      omega (arith, ap length e, short-of (h .strings) (x .base + (n - 1)), used-is (h .packs), h .packs .used-in, h .short)
-
-  pub arguments-few : length args ≤ 320
-  arguments-few = omega (arith, ap length (h .are), length-drop (x .base) (h .strings), count-is (h .packs), h .few)
 
 -- ---- a name
 

@@ -5,16 +5,14 @@ use native.Mathlib.Omega.{arith}
 use mathlib.Core.Path.{_≡_, refl, sym, ap, subst, _∙_}
 use mathlib.Core.List.{List, [], _∷_, _++_, append-assoc, append-nil}
 use mathlib.Core.Option.{Option, none, some}
-use lib.ListN.{length, take, drop, getD, length-append, drop-of-length-le, take-append-drop}
+use lib.ListN.{length, take, drop, getD, length-append, drop-of-length-le}
 use lib.Seq.{drop-cons, take-all, length-take-le}
 use Rattle.rules.specs.Bytes.{Bytes}
 use Rattle.rules.specs.Answers.{Fault, noText}
-use Rattle.rules.specs.declared.Marks.{Marks}
-use Rattle.rules.specs.Marks.{MarkTexts, markText, markTexts, quoted}
+use Rattle.rules.specs.Marks.{MarkTexts, quoted}
 use Rattle.rules.specs.Table.{Meaning, text, predefined, Table, meaningOf}
 use Rattle.rules.specs.Arguments.{arg}
 use Rattle.rules.specs.Results.{Result, yields, fails, inFront, defnResult}
-use Rattle.expander.specs.Arguments.{ShortQuotes}
 use Rattle.expander.specs.Substitution.{Lays}
 use Rattle.expander.specs.Table.{rows, meaningFor, SoundDefinitions, TableIn, Finds}
 use Rattle.expander.specs.Defn.{measuredAs, namedResult, followedBy, longer}
@@ -23,8 +21,7 @@ use Rattle.expander.specs.declared.table.Meaning.{Meaning as Looked}
 use Rattle.expander.specs.declared.table.Meaning.the-variants as looked
 use Rattle.expander.specs.declared.defn.DefnLength.{DefnLength}
 use Rattle.expander.specs.declared.defn.DefnLength.the-variants as defnLength
-use Rattle.expander.proofs.FilledLaws.{filled-front}
-use Rattle.expander.proofs.Marks.{mark-length}
+use Rattle.expander.proofs.FilledLaws.{filled-front, filled-nothing}
 use Rattle.expander.proofs.Rows.{finds-within}
 
 -- ---- results one behind the other
@@ -236,22 +233,4 @@ no-text e g = let z : _≡_ {A = ℕ} 0 1 = cc in omega arith
 
 -- no text: the buffer is as it was
 pub nothing-lays : (d : Bytes) (at : ℕ) → at ≤ length d → Lays d at [] d at
-nothing-lays d at h =
-    let e : at ≡ at + 0 = omega arith in
-    record {
-      filled = record { fits = omega arith; is = sym (take-append-drop at d) ∙ ap (λ (k : ℕ). take at d ++ drop k d) e };
-      behind = e;
-    }
-
--- a text between the marks
-pub quoted-long : (q : Marks) → length (q .«begin_quote» .bytes) ≡ 5 → length (q .«end_quote» .bytes) ≡ 5 → ShortQuotes q
-    → (w : Bytes) → length (quoted (markTexts q) w) ≡ q .«begin_quote» .len + q .«end_quote» .len + length w
-unfolding quoted markTexts
-quoted-long q b e s w =
-    omega (
-      arith,
-      length-append (markText (q .«begin_quote»)) (w ++ markText (q .«end_quote»)),
-      length-append w (markText (q .«end_quote»)),
-      mark-length (q .«begin_quote») b (s .begin-most) .whole,
-      mark-length (q .«end_quote») e (s .end-most) .whole,
-    )
+nothing-lays d at h = record { filled = filled-nothing d at h; behind = omega arith }

@@ -1,6 +1,6 @@
 -- Laws of tokens that stand for themselves, and of calls that are opened: what fits, and what is meant then. Assumes nothing.
 use Prim.Native.Nat.{ℕ, zero, suc, _+_, _-_, _≤_, _<_}
-use mathlib.Core.Path.{_≡_, refl, sym, ap, ap₂, subst, _∙_}
+use mathlib.Core.Path.{_≡_, refl, sym, ap, subst, _∙_}
 use mathlib.Core.Bool.{Bool, true, false, _||_, or-true}
 use mathlib.Core.List.{List, [], _∷_, _++_}
 use mathlib.Core.Option.{some}
@@ -11,7 +11,6 @@ use borrow.Author.Tests.{ltb-true, ltb-false, le-leb, lt-leb}
 use lib.Dec.{leb, ltb}
 use lib.IntN.{ℤ}
 use lib.ListN.{length, take, drop, getD, set, length-append, length-take, length-drop}
-use lib.Seq.{take-all}
 use Rattle.rules.specs.declared.Answer.the-variants as answer
 use Rattle.rules.specs.Bytes.{Bytes}
 use Rattle.rules.specs.Answers.{deep, faultAnswer}
@@ -32,30 +31,18 @@ use Rattle.expander.specs.Calls.{CallsIn, CallRoom}
 use Rattle.expander.specs.Streams.{IsStream, extended}
 use Rattle.expander.specs.Sinks.{SinksIn, fullBuffer}
 use Rattle.expander.specs.Machine.{Memory, Means, Reach, Gives, turned, sourceSet, callsSet, sinksSet, callsAt, sinksAt}
-use Rattle.expander.proofs.SourceLaws.{ahead-is, ahead-long}
+use Rattle.expander.proofs.SourceLaws.{ahead-long, lentAhead, ahead-lent}
 use Rattle.expander.proofs.CallsLaws.{calls-held, calls-counted}
 use Rattle.expander.proofs.Totals.{used-is}
 use Rattle.expander.proofs.Moved.{placed-to, placed-out}
-use Rattle.expander.proofs.SinksLaws.{small-is, full-output, free-output, free-lost, full-stream, free-stream}
-use Rattle.expander.proofs.MachineLaws.{front-long, pending-fits, calls-fit, table-fits, streams-fit, wrap-fits, errors-fit, over-calls, over-streams, over-output, gives-next, gives-refused, gives-room}
+use Rattle.expander.proofs.SinksLaws.{full-output, free-output, free-lost, full-stream, free-stream}
+use Rattle.expander.proofs.MachineLaws.{front-long, pending-fits, calls-fit, table-fits, streams-fit, wrap-fits, errors-fit, over-calls, over-streams, over-output, gives-next, gives-room, no-calls, some-call}
 use Rattle.expander.proofs.Parted.{with-source, with-calls, with-sinks}
-
--- what the code hands back is a turn that gives the outcome
-pub gives-by : {a : Setting} {o : Outcome} {b : Memory} {t u : Turn} → t ≡ u → Gives a o b u → Gives a o b t
-gives-by {a} {o} {b} e g = subst (λ (t : Turn). Gives a o b t) (sym e) g
+use Rattle.expander.proofs.ArgumentLaws.{bits-plain}
+use Rattle.expander.proofs.TurnLaws.{turned-refused}
+use Rattle.expander.proofs.Parts.{part-size}
 
 -- ---- the text ahead
-
--- of a buffer that was lent from a place on
-pub from-on : (s : Bytes) (n : ℕ) → take (length s - n) (drop n s) ≡ drop n s
-from-on s n = take-all (length s - n) (drop n s) (omega (arith, length-drop n s))
-
--- the text ahead in two slices that are lent from its position on
-abbrev pub lentAhead : Bytes → Bytes → Position → Bytes
-lentAhead text pending p = take (length pending - p .from) (drop (p .from) pending) ++ take (length text - p .taken) (drop (p .taken) text)
-
-ahead-lent : {text pending : Bytes} {p : Position} {x : Source} → SourceIn text pending p x → lentAhead text pending p ≡ ahead x
-ahead-lent {text} {pending} {p} h = ap₂ (λ (u v : Bytes). u ++ v) (from-on pending (p .from)) (from-on text (p .taken)) ∙ sym (ahead-is h)
 
 -- taking only shortens the pending text
 pub shorter : (n : ℕ) (x : Source) → length (advance n x .pending) ≤ length (x .pending)
@@ -154,7 +141,7 @@ module _ {a : Setting} {b : Memory} {m : Machine} {s : State} (r : Means a b m s
       out true q e =
           let y : Streams = record { output = s .streams .output ++ w; waiting = s .streams .waiting; current = s .streams .current } in
           by 6 y (ef ∙ sym (full-output c n left free e (ltb-true free n q)))
-          (ap (λ (z : ℤ). placed z w (s .streams)) (r .sinks .current ∙ ap signedValue e ∙ small-is 0 (omega arith)) ∙ placed-out w (s .streams))
+          (ap (λ (z : ℤ). placed z w (s .streams)) (r .sinks .current ∙ ap signedValue e ∙ bits-plain 0 (omega arith)) ∙ placed-out w (s .streams))
           (output-over y (streams-fit r)
           (omega (arith, ltb-true free n q, length-append (s .streams .output) w, front-long (r .sinks .written), r .sinks .written .inside, r .limits .output)))
       out false q e = absurd (nz (ef ∙ sym (free-output c n left free e (ltb-false free n q))))
@@ -164,7 +151,7 @@ module _ {a : Setting} {b : Memory} {m : Machine} {s : State} (r : Means a b m s
           let i : IsStream c = record { low = omega arith; high = l } in
           let y : Streams = record { output = s .streams .output; waiting = extended c w (s .streams .waiting); current = s .streams .current } in
           by 3 y (ef ∙ sym (full-stream c n left free e l (ltb-true left n q)))
-          (ap (λ (z : ℤ). placed z w (s .streams)) (r .sinks .current ∙ small-is c l) ∙ placed-to c i w (s .streams))
+          (ap (λ (z : ℤ). placed z w (s .streams)) (r .sinks .current ∙ bits-plain c (omega arith)) ∙ placed-to c i w (s .streams))
           (streams-over y
           (omega (arith, ltb-true left n q, total-extended c w (s .streams .waiting) i (r .sinks .waiting .nine), used-is (r .sinks .waiting), r .sinks .waiting .owned .in-bytes, r .limits .streams)))
       stream false q e l = absurd (nz (ef ∙ sym (free-stream c n left free e l (ltb-false left n q))))
@@ -192,7 +179,7 @@ module _ {a : Setting} {b : Memory} {m : Machine} {s : State} (r : Means a b m s
   pub reach-lent :
       start + n ≤ length (take (length (b .pending) - m .source .from) (drop (m .source .from) (b .pending))) + length (take (length (b .text) - m .source .taken) (drop (m .source .taken) (b .text)))
   reach-lent =
-      omega (arith, h .some, ap length (from-on (b .pending) (m .source .from)), ap length (from-on (b .text) (m .source .taken)), length-drop (m .source .from) (b .pending), length-drop (m .source .taken) (b .text))
+      omega (arith, h .some, part-size (b .pending) (m .source .from), part-size (b .text) (m .source .taken))
 
   pub reach-whole : width ≤ length (ahead (s .source))
   reach-whole = omega (arith, h .whole, ahead-long (r .source))
@@ -209,30 +196,7 @@ pub reach-first :
     → n ≤ length (take (length (b .pending) - m .source .from) (drop (m .source .from) (b .pending))) + length (take (length (b .text) - m .source .taken) (drop (m .source .taken) (b .text)))
 reach-first r h = omega (arith, reach-lent r h)
 
--- the innermost call
-pub record Innermost (cs : List Call) : Type 0 where
-  pub call : Call
-  pub others : List Call
-  pub is : cs ≡ call ∷ others
-
-innermost : (cs : List Call) → (length cs ≡ 0 → ⊥) → Innermost cs
-innermost [] f = absurd (f refl)
-innermost (c ∷ cs) f = record { call = c; others = cs; is = refl }
-
-none-open : (cs : List Call) → length cs ≡ 0 → cs ≡ []
-none-open [] e = refl
-none-open (c ∷ cs) e = absurd (omega arith)
-
 module _ {a : Setting} {b : Memory} {m : Machine} {s : State} (r : Means a b m s) where
-  pub no-calls : m .calls .opens ≡ 0 → s .calls ≡ []
-  no-calls e = none-open (s .calls) (r .calls .open-is ∙ e)
-
-  pub some-call : (m .calls .opens ≡ 0 → ⊥) → Innermost (s .calls)
-  some-call f = innermost (s .calls) (λ e. f (sym (r .calls .open-is) ∙ e))
-
-  pub top-call : {c : Call} {cs : List Call} → s .calls ≡ c ∷ cs → CallsIn (b .calls) (b .callEnds) (b .stack) (m .calls) (c ∷ cs)
-  top-call e = rw e at (r .calls)
-
   -- n bytes more fit behind the strings of the open calls
   pub call-room : (n : ℕ) → m .calls .strings .used + n ≤ length (b .calls) → CallRoom (b .calls) (b .callEnds) (b .stack) (m .calls) n
   call-room n h = record { calls = s .calls; are = r .calls; short = r .limits .calls-most; links = record { ends-long = r .limits .call-ends; stack-long = r .limits .stack }; fits = h }
@@ -241,13 +205,13 @@ module _ {a : Setting} {b : Memory} {m : Machine} {s : State} (r : Means a b m s
   module _ {b′ : Memory} {t : Turn} (w : Bytes) (u : State) where
     pub delivers-out : m .calls .opens ≡ 0 → Gives a (next (emitting w u)) b′ t → Gives a (next (delivered w (s .calls) u)) b′ t
     unfolding delivered
-    delivers-out e g = rw (no-calls e) g
+    delivers-out e g = rw (no-calls r e) g
 
     pub delivers-in :
         (m .calls .opens ≡ 0 → ⊥) → ((c : Call) (cs : List Call) → s .calls ≡ c ∷ cs → Gives a (next (withCalls (collecting w (c .depth) c ∷ cs) u)) b′ t)
         → Gives a (next (delivered w (s .calls) u)) b′ t
     unfolding delivered
-    delivers-in f g = let i = some-call f in rw (i .is) (g (i .call) (i .others) (i .is))
+    delivers-in f g = let i = some-call r f in rw (i .is) (g (i .call) (i .others) (i .is))
 
   after : (width : ℕ) → length (advance width (s .source) .pending) ≤ a .pending
   after width = omega (arith, shorter width (s .source), pending-fits r)
@@ -337,7 +301,7 @@ module _ {a : Setting} {b : Memory} {m : Machine} {s : State} (r : Means a b m s
 
   refuses-deep : {b′ : Memory} {o : Outcome} → o ≡ refused deep → Gives a o b′ (turned (went.Refused answer.Deep) m)
   unfolding faultAnswer
-  refuses-deep e = rw e (gives-refused deep)
+  refuses-deep e = turned-refused deep e refl
 
   pub open-deep : {b′ : Memory} (name : Bytes) (width : ℕ) → 64 ≤ m .calls .opens → Gives a (opened name (taking width s)) b′ (turned (went.Refused answer.Deep) m)
   unfolding taking withSource

@@ -1,10 +1,10 @@
 -- Laws of the macros that change the streams, and of the end of the run. Assumes nothing.
 use Prim.Native.Nat.{ℕ, zero, suc, _+_, _-_, _≤_, _<_}
-use mathlib.Core.Path.{_≡_, refl, sym, ap, ap₂, subst, _∙_}
+use mathlib.Core.Path.{_≡_, refl, sym, ap, ap₂, subst, subst₂, _∙_}
 use mathlib.Core.Logic.{_⊎_, inl, inr, ⊎-elim}
 use mathlib.Core.Bool.{Bool, true, false}
 use mathlib.Core.List.{List, [], _∷_, _++_, append-nil}
-use mathlib.Core.Option.{Option, none, some}
+use mathlib.Core.Option.{none, some}
 use native.Mathlib.Decide.{ℕ-discrete}
 use native.Mathlib.Omega.{arith}
 use borrow.Rule.Slice.PartMut.{putMid}
@@ -17,12 +17,12 @@ use Rattle.numerals.specs.declared.Decimal.the-variants as decimal
 use Rattle.numerals.specs.Answers.{decimalOf}
 use Rattle.rules.specs.declared.Answer.the-variants as answer
 use Rattle.rules.specs.Bytes.{Bytes}
-use Rattle.rules.specs.Words.{signedValue, wrapped}
+use Rattle.rules.specs.Words.{signedValue}
 use Rattle.rules.specs.Answers.{done, endingAnswer, noNumber, faultAnswer}
 use Rattle.rules.specs.Arguments.{numberOr}
 use Rattle.rules.specs.Streams.{Streams, totalLength, moved, movedInTurn, joined, finishedStreams, diverted}
 use Rattle.rules.specs.Macros.{callDivert, callUndivert}
-use Rattle.rules.specs.State.{State, Outcome, next, stop, refused, withSource, withStreams}
+use Rattle.rules.specs.State.{State, next, stop, refused, withSource, withStreams}
 use Rattle.rules.specs.Run.{Setting}
 use Rattle.expander.specs.declared.sinks.Sinks.{Sinks}
 use Rattle.expander.specs.declared.diverting.Moved.{Moved}
@@ -34,17 +34,18 @@ use Rattle.expander.specs.Filled.{Filled}
 use Rattle.expander.specs.Front.{Front}
 use Rattle.expander.specs.Diverting.{allNamed, turns, Spilled, Moves, Idle, Seen}
 use Rattle.expander.specs.Machine.{Memory, Means, Gives, turned, sinksSet, sinksAt}
-use Rattle.expander.proofs.ArgumentLaws.{number-or-bits}
+use Rattle.expander.proofs.ArgumentLaws.{number-or-bits, decimal-none, decimal-some, bits-plain}
 use Rattle.expander.proofs.CallsLaws.{joined-total}
 use Rattle.expander.proofs.Waiting.{none-held, text-of, length-of, nothing-out, nothing-moved}
-use Rattle.expander.proofs.FilledLaws.{filled-front, filled-long, part-fills}
-use Rattle.expander.proofs.SinksLaws.{small-is, lost-is}
+use Rattle.expander.proofs.FilledLaws.{filled-long, part-fills, front-more}
+use Rattle.expander.proofs.SinksLaws.{lost-is}
 use Rattle.expander.proofs.Moved.{moved-same, moved-to, moved-out, moved-lost, moved-current, turn-on, turns-end}
 use Rattle.expander.proofs.Parted.{with-sinks}
 use Rattle.expander.proofs.Totals.{used-is}
 use Rattle.expander.proofs.Turns.{undivert-named, undivert-unnamed}
-use Rattle.expander.proofs.MachineLaws.{front-long, pending-fits, streams-fit, gives-next, gives-stop, gives-refused, gives-room, gives-stop-room}
+use Rattle.expander.proofs.MachineLaws.{front-long, pending-fits, streams-fit, gives-next, gives-stop, gives-room, gives-stop-room}
 use Rattle.expander.proofs.DeliveringLaws.{total-set, output-over}
+use Rattle.expander.proofs.TurnLaws.{turned-on, turned-refused}
 
 -- ---- what a move makes of the streams, by the current one
 
@@ -194,13 +195,10 @@ module _ {seen : List ℕ} {u : Streams} (s : Seen seen u) (i : ℕ) (h : IsStre
 written-more :
     {output : Bytes} {at : ℕ} {t : Bytes} → Front output at t → (w v : Bytes) (n : ℕ) → w ≡ v → length w ≡ n → n ≤ length output - at
     → Front (putMid at (at + n - at) output w) (at + n) (t ++ v) × (length (putMid at (at + n - at) output w) ≡ length output)
-written-more {output} {at} h w v n e l r =
+written-more {output} {at} {t} h w v n e l r =
     let after = putMid at (at + n - at) output w in
-    let f : Filled output at w after = part-fills output w at n l (omega (arith, h .inside)) in (
-      record {
-        text-is = ap (λ (j : ℕ). take (at + j) after) (sym l) ∙ filled-front f ∙ ap₂ (λ (x y : Bytes). x ++ y) (h .text-is) e;
-        inside = omega (arith, filled-long f, f .fits);
-      },
+    let f : Filled output at w after = part-fills output w at (at + n) (omega arith) (omega (arith, h .inside)) in (
+      subst₂ (λ (j : ℕ) (y : Bytes). Front after (at + j) (t ++ y)) l e (front-more h f),
       filled-long f,
     )
 
@@ -215,7 +213,7 @@ module _ {streams : Bytes} {owners : List ℕ} {output : Bytes} {k : Sinks} {u :
   -- to the output
   module _ (e : k .current ≡ 0) (n : ℕ) (en : n ≡ ownedCount i (take (k .waiting) owners)) where
     is-out : u .current ≡ pos 0
-    is-out = m .current ∙ ap signedValue e ∙ small-is 0 (omega arith)
+    is-out = m .current ∙ ap signedValue e ∙ bits-plain 0 (omega arith)
 
     pub out-spills : length output - k .output < n → Spilled output u (moved i u)
     out-spills l =
@@ -256,12 +254,12 @@ module _ {streams : Bytes} {owners : List ℕ} {output : Bytes} {k : Sinks} {u :
         → SinksIn streams′ owners′ output k (moved i u)
     stream-moves {streams′} {owners′} d g =
         let j : IsStream (k .current) = record { low = omega arith; high = l } in
-        subst (λ (x : Streams). SinksIn streams′ owners′ output k x) (sym (moved-to i h u (k .current) (m .current ∙ small-is (k .current) l) j d))
+        subst (λ (x : Streams). SinksIn streams′ owners′ output k x) (sym (moved-to i h u (k .current) (m .current ∙ bits-plain (k .current) (omega arith)) j d))
         (record { waiting = g h j d; written = m .written; current = m .current })
 
     pub same-moves : i ≡ k .current → SinksIn streams owners output k (moved i u)
     same-moves d =
-        subst (λ (x : Streams). SinksIn streams owners output k x) (sym (moved-same i u (m .current ∙ small-is (k .current) l ∙ ap pos (sym d)))) m
+        subst (λ (x : Streams). SinksIn streams owners output k x) (sym (moved-same i u (m .current ∙ bits-plain (k .current) (omega arith) ∙ ap pos (sym d)))) m
 
 -- a stream that was moved before
 pub seen-moves :
@@ -332,39 +330,26 @@ module _ (args : List Bytes) (s : State) where
   unfolding callDivert
   divert-some z e = rw (e, callDivert)
 
-refuses-number : {a : Setting} {b : Memory} {m : Machine} {o : Outcome} → o ≡ refused noNumber → Gives a o b (turned (went.Refused answer.Number) m)
-unfolding faultAnswer
-refuses-number e = rw e (gives-refused noNumber)
-
 module _ {a : Setting} {b : Memory} {m : Machine} {s : State} (r : Means a b m s) (args : List Bytes) where
   pub divert-unread : {b′ : Memory} → decimalOf (numberOr (pos 0) 1 args) ≡ decimal.NoNumber → Gives a (callDivert args s) b′ (turned (went.Refused answer.Number) m)
-  unfolding decimalOf
-  divert-unread {b′} e = go (numberOr (pos 0) 1 args) refl e
-    where
-      go : (o : Option ℤ) → numberOr (pos 0) 1 args ≡ o → decimalOf o ≡ decimal.NoNumber → Gives a (callDivert args s) b′ (turned (went.Refused answer.Number) m)
-      go none p q = refuses-number (divert-none args s p)
-      go (some z) p q = let y : _≡_ {A = ℕ} 0 1 = cc in absurd (omega arith)
+  unfolding faultAnswer
+  divert-unread e = turned-refused noNumber (divert-none args s (decimal-none refl e)) refl
 
   pub divert-read :
       (bits : ℕ) → decimalOf (numberOr (pos 0) 1 args) ≡ decimal.Number bits
       → Gives a (callDivert args s) b (turned went.On (sinksSet (record { current = bits; waiting = m .sinks .waiting; output = m .sinks .output }) m))
-  unfolding decimalOf diverted
-  divert-read bits e = go (numberOr (pos 0) 1 args) refl e
-    where
-      go : (o : Option ℤ) → numberOr (pos 0) 1 args ≡ o → decimalOf o ≡ decimal.Number bits
-          → Gives a (callDivert args s) b (turned went.On (sinksSet (record { current = bits; waiting = m .sinks .waiting; output = m .sinks .output }) m))
-      go none p q = let y : _≡_ {A = ℕ} 0 1 = cc in absurd (omega arith)
-      go (some z) p q =
-          let w : wrapped z ≡ bits = cc in
-          rw (divert-some args s z p)
-          (gives-next
-          (with-sinks r
-          (record {
-            waiting = r .sinks .waiting;
-            written = r .sinks .written;
-            current = sym (number-or-bits 0 1 args z (omega arith) p) ∙ ap signedValue w;
-          })
-          refl refl refl))
+  unfolding diverted
+  divert-read bits e =
+      let v = decimal-some refl bits e in
+      turned-on
+      (with-sinks r
+      (record {
+        waiting = r .sinks .waiting;
+        written = r .sinks .written;
+        current = sym (number-or-bits 0 1 args (v .value) (omega arith) (v .is)) ∙ ap signedValue (sym (v .by-bits));
+      })
+      refl refl refl)
+      (divert-some args s (v .value) (v .is)) refl
 
 -- ---- undivert
 
@@ -379,7 +364,8 @@ module _ (args : List Bytes) (s : State) where
 
 module _ {a : Setting} {b : Memory} {m : Machine} {s : State} (r : Means a b m s) (args : List Bytes) where
   pub undivert-bad : {b′ : Memory} → allNamed args ≡ false → Gives a (callUndivert args s) b′ (turned (went.Refused answer.Number) m)
-  undivert-bad e = refuses-number (undivert-none args s e)
+  unfolding faultAnswer
+  undivert-bad e = turned-refused noNumber (undivert-none args s e) refl
 
   module _ {streams′ : Bytes} {owners′ : List ℕ} {output′ : Bytes} {k : Moved} (e : allNamed args ≡ true) (g : Moves streams′ owners′ output′ k (s .streams) (movedInTurn (turns args) (s .streams))) where
     pub undivert-full : {b′ : Memory} → length output′ ≡ length (b .output) → k .fits ≡ false → Gives a (callUndivert args s) b′ (turned (went.Refused (answer.Room 7)) m)

@@ -1,5 +1,5 @@
 -- Laws of the macros whose result is a number. Assumes nothing.
-use Prim.Native.Nat.{ℕ, zero, suc, _+_, _-_, _%_, _^_, _≤_, _<_}
+use Prim.Native.Nat.{ℕ, zero, suc, _+_, _%_, _^_, _≤_, _<_}
 use native.Mathlib.Omega.{arith}
 use mathlib.Core.Path.{_≡_, refl, sym, ap, _∙_}
 use mathlib.Core.Bool.{Bool, true, false}
@@ -7,10 +7,10 @@ use mathlib.Core.Logic.{_⊎_, inl, inr}
 use mathlib.Core.List.{List, [], _∷_, _++_}
 use mathlib.Core.Option.{Option, none, some}
 use denote.Enum.Declared.{tagOf}
-use lib.Dec.{leb, eqb}
-use lib.IntN.{ℤ, pos, negsuc, negℤ, sucℤ, predℤ}
+use lib.Dec.{leb}
+use lib.IntN.{ℤ, pos, negsuc, sucℤ, predℤ}
 use lib.ListN.{length, drop, getD, length-append}
-use borrow.Author.Tests.{leb-true, lt-ltb, le-ltb, le-leb}
+use borrow.Author.Tests.{le-leb}
 use Rattle.numerals.specs.Answers.{decimalOf, naturalOf, isRadix}
 use Rattle.numerals.specs.declared.Decimal.{Decimal}
 use Rattle.numerals.specs.declared.Decimal.the-variants as read
@@ -23,7 +23,7 @@ use Rattle.rules.specs.Bytes.{Bytes}
 use Rattle.rules.specs.Answers.{noNumber}
 use Rattle.rules.specs.Streams.{joined}
 use Rattle.rules.specs.Words.{signedValue, wrapped}
-use Rattle.rules.specs.Numerals.{natural, upTo, asSigned, number, decimal}
+use Rattle.rules.specs.Numerals.{number, decimal}
 use Rattle.rules.specs.Expression.{evaluation}
 use Rattle.rules.specs.Arguments.{arg, numberOr, bounded}
 use Rattle.rules.specs.Results.{Result, fails, counted, isNumber, needing, largest, decrResult, incrResult, divnumResult, evalResult, indexResult, lenResult, placeOr, shownResult, isUnreadable}
@@ -38,6 +38,7 @@ use Rattle.expander.specs.Arguments.{ArgumentsIn}
 use Rattle.expander.specs.Results.{figureResult, FigureRadix, Shows, readResult}
 use Rattle.expander.proofs.Packing.{used-is}
 use Rattle.expander.proofs.Within.{first-within}
+use Rattle.expander.proofs.ArgumentLaws.{reads-none, reads-some, Signed, number-range, bits-plain, bits-minus, decimal-none, decimal-some}
 
 pub shows-same : {v w : Result} {f : Figure} → w ≡ v → Shows v f → Shows w f
 shows-same e s = record { is = e ∙ s .is; radix = s .radix }
@@ -49,70 +50,20 @@ shows-plain bits = record { is = refl; radix = refl }
 
 -- ---- incr and decr
 
--- a number that an argument can be
-abbrev Small : ℤ → Type 0
-Small (pos n) = n ≤ 2147483647
-Small (negsuc n) = n ≤ 2147483647
-
-abbrev AllSmall : Option ℤ → Type 0
-AllSmall none = Unit {0}
-AllSmall (some z) = Small z
-
-small-plain : (o : Option ℕ) → AllSmall (asSigned pos (upTo 2147483647 o))
-unfolding asSigned upTo
-small-plain none = tt
-small-plain (some n) = go (leb n 2147483647) refl
-  where
-    go : (t : Bool) → leb n 2147483647 ≡ t → AllSmall (asSigned pos (elim t [ true ↦ some n | false ↦ none ]))
-    go true e = leb-true n 2147483647 e
-    go false e = tt
-
-small-minus : (o : Option ℕ) → AllSmall (asSigned (λ n. negℤ (pos n)) (upTo 2147483648 o))
-unfolding asSigned upTo
-small-minus none = tt
-small-minus (some n) = go n (leb n 2147483648) refl
-  where
-    go : (n : ℕ) (t : Bool) → leb n 2147483648 ≡ t → AllSmall (asSigned (λ n. negℤ (pos n)) (elim t [ true ↦ some n | false ↦ none ]))
-    go n false e = tt
-    go zero true e = omega arith
-    go (suc n) true e = omega (arith, leb-true (suc n) 2147483648 e)
-
-number-small : (w : Bytes) → AllSmall (number w)
-unfolding number
-number-small [] = tt
-number-small (x ∷ xs) = go (eqb x 45)
-  where
-    go : (t : Bool) → AllSmall (elim t [ true ↦ asSigned (λ n. negℤ (pos n)) (upTo 2147483648 (natural 10 xs)) | false ↦ asSigned pos (upTo 2147483647 (natural 10 (x ∷ xs))) ])
-    go true = small-minus (natural 10 xs)
-    go false = small-plain (natural 10 (x ∷ xs))
-
--- the number that bits stand for
-bits-plain : (x : ℕ) → x < 2147483648 → signedValue x ≡ pos x
-unfolding signedValue
-bits-plain x h = rw (lt-ltb x 2147483648 h)
-
-bits-minus : (x n : ℕ) → 2147483648 ≤ x → 4294967295 - x ≡ n → signedValue x ≡ negsuc n
-unfolding signedValue
-bits-minus x n h e = rw (le-ltb x 2147483648 h, e)
-
-is-number : (z : ℤ) → Small z → isNumber z ≡ true
+is-number : (z : ℤ) → Signed z → isNumber z ≡ true
 unfolding isNumber
 is-number (pos n) h = le-leb n largest h
 is-number (negsuc n) h = rw (le-leb n largest h)
 
 -- a result in the range
-counted-in : (f : ℤ → ℤ) (z : ℤ) (bits : ℕ) → Small (f z) → signedValue bits ≡ f z → counted f (some z) ≡ divnumResult (signedValue bits)
+counted-in : (f : ℤ → ℤ) (z : ℤ) (bits : ℕ) → Signed (f z) → signedValue bits ≡ f z → counted f (some z) ≡ divnumResult (signedValue bits)
 unfolding counted divnumResult
 counted-in f z bits h e = rw (e, is-number (f z) h, counted)
 
 module _ (args : List Bytes) {d : Decimal} (e : d ≡ decimalOf (number (arg 1 args))) where
   counts-none : (f : ℤ → ℤ) → d ≡ read.NoNumber → counted f (number (arg 1 args)) ≡ fails noNumber
-  unfolding decimalOf counted
-  counts-none f k = go (number (arg 1 args)) (sym e ∙ k)
-    where
-      go : (o : Option ℤ) → decimalOf o ≡ read.NoNumber → counted f o ≡ fails noNumber
-      go none k = refl
-      go (some z) k = let z : _≡_ {A = ℕ} 0 1 = cc in absurd (omega arith)
+  unfolding counted
+  counts-none f k = ap (counted f) (decimal-none e k)
 
   pub decr-none : d ≡ read.NoNumber → Shows (decrResult args) figure.NoNumber
   unfolding decrResult figureResult FigureRadix
@@ -123,19 +74,14 @@ module _ (args : List Bytes) {d : Decimal} (e : d ≡ decimalOf (number (arg 1 a
   incr-none k = record { is = counts-none sucℤ k; radix = tt }
 
   module _ (bits : ℕ) (k : d ≡ read.Number bits) where
-    counts-some : (f : ℤ → ℤ) (r : Result) → ((z : ℤ) → Small z → bits ≡ wrapped z → counted f (some z) ≡ r) → counted f (number (arg 1 args)) ≡ r
-    unfolding decimalOf
-    counts-some f r g = go (number (arg 1 args)) (number-small (arg 1 args)) (sym e ∙ k)
-      where
-        go : (o : Option ℤ) → AllSmall o → decimalOf o ≡ read.Number bits → counted f o ≡ r
-        go none h m = let z : _≡_ {A = ℕ} 0 1 = cc in absurd (omega arith)
-        go (some z) h m = g z h cc
+    counts-some : (f : ℤ → ℤ) (r : Result) → ((z : ℤ) → Signed z → bits ≡ wrapped z → counted f (some z) ≡ r) → counted f (number (arg 1 args)) ≡ r
+    counts-some f r g = let v = decimal-some e bits k in ap (counted f) (v .is) ∙ g (v .value) (number-range (arg 1 args) (v .value) (v .is)) (v .by-bits)
 
     pub decr-least : bits ≡ 2147483648 → Shows (decrResult args) figure.NoNumber
     unfolding decrResult figureResult FigureRadix counted isNumber wrapped
     decr-least b = record { is = counts-some predℤ (fails noNumber) go; radix = tt }
       where
-        go : (z : ℤ) → Small z → bits ≡ wrapped z → counted predℤ (some z) ≡ fails noNumber
+        go : (z : ℤ) → Signed z → bits ≡ wrapped z → counted predℤ (some z) ≡ fails noNumber
         go (pos n) h m = absurd (omega arith)
         go (negsuc n) h m = let t : n ≡ largest = omega arith in rw t
 
@@ -143,7 +89,7 @@ module _ (args : List Bytes) {d : Decimal} (e : d ≡ decimalOf (number (arg 1 a
     unfolding incrResult figureResult FigureRadix counted isNumber wrapped
     incr-greatest b = record { is = counts-some sucℤ (fails noNumber) go; radix = tt }
       where
-        go : (z : ℤ) → Small z → bits ≡ wrapped z → counted sucℤ (some z) ≡ fails noNumber
+        go : (z : ℤ) → Signed z → bits ≡ wrapped z → counted sucℤ (some z) ≡ fails noNumber
         go (pos n) h m = let t : n ≡ largest = omega arith in rw t
         go (negsuc n) h m = absurd (omega arith)
 
@@ -151,7 +97,7 @@ module _ (args : List Bytes) {d : Decimal} (e : d ≡ decimalOf (number (arg 1 a
     unfolding decrResult wrapped
     decr-less r b m l = counts-some predℤ (divnumResult (signedValue r)) go
       where
-        go : (z : ℤ) → Small z → bits ≡ wrapped z → counted predℤ (some z) ≡ divnumResult (signedValue r)
+        go : (z : ℤ) → Signed z → bits ≡ wrapped z → counted predℤ (some z) ≡ divnumResult (signedValue r)
         go (pos zero) h t = counted-in predℤ (pos zero) r (omega arith) (bits-minus r 0 (omega arith) (omega arith))
         go (pos (suc n)) h t =
             let q : r ≡ n = omega arith in
@@ -162,7 +108,7 @@ module _ (args : List Bytes) {d : Decimal} (e : d ≡ decimalOf (number (arg 1 a
     unfolding incrResult wrapped
     incr-more r b m = counts-some sucℤ (divnumResult (signedValue r)) go
       where
-        go : (z : ℤ) → Small z → bits ≡ wrapped z → counted sucℤ (some z) ≡ divnumResult (signedValue r)
+        go : (z : ℤ) → Signed z → bits ≡ wrapped z → counted sucℤ (some z) ≡ divnumResult (signedValue r)
         go (pos n) h t =
             let q : r ≡ suc n = omega arith in
             counted-in sucℤ (pos n) r (omega arith) (bits-plain r (omega arith) ∙ ap pos q)
@@ -231,24 +177,6 @@ shows-divisor radix least e = rw e (record { is = refl; radix = tt })
 pub shows-value : (radix least bits : ℕ) {v : Evaluated} → isRadix radix ≡ true → v ≡ evaluated.Number bits → Shows (shownResult v radix least) (figure.Number bits radix least)
 unfolding shownResult figureResult FigureRadix
 shows-value radix least bits h e = rw e (record { is = refl; radix = h })
-
--- a number that is needed, by what was read of it
-module _ {o : Option ℕ} {n : Natural} (e : n ≡ naturalOf o) where
-  pub reads-none : n ≡ found.NoNumber → o ≡ none
-  unfolding naturalOf
-  reads-none k = go o (sym e ∙ k)
-    where
-      go : (o : Option ℕ) → naturalOf o ≡ found.NoNumber → o ≡ none
-      go none m = refl
-      go (some x) m = let z : _≡_ {A = ℕ} 0 1 = cc in absurd (omega arith)
-
-  pub reads-some : (x : ℕ) → n ≡ found.Number x → o ≡ some x
-  unfolding naturalOf
-  reads-some x k = go o (sym e ∙ k)
-    where
-      go : (o : Option ℕ) → naturalOf o ≡ found.Number x → o ≡ some x
-      go none m = let z : _≡_ {A = ℕ} 0 1 = cc in absurd (omega arith)
-      go (some y) m = cc
 
 bounded-radix : (o : Option ℤ) (x : ℕ) → bounded 2 36 o ≡ some x → isRadix x ≡ true
 unfolding bounded isRadix

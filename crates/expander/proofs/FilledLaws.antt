@@ -1,10 +1,10 @@
 -- A text written into a buffer at a place.
 use Prim.Native.Nat.{ℕ, _+_, _-_, _≤_}
-use mathlib.Core.Path.{_≡_, refl, sym, ap, subst, _∙_}
+use mathlib.Core.Path.{_≡_, sym, ap, subst, _∙_}
 use mathlib.Core.List.{List, [], _∷_, _++_, append-assoc}
 use native.Mathlib.Omega.{arith}
-use lib.ListN.{length, take, drop, set, length-append, length-take, length-drop, take-append-drop}
-use lib.Seq.{take-at, length-take-le, drop-drop, set-split}
+use lib.ListN.{length, take, drop, set, length-append, length-take, take-append-drop, replicate, length-replicate}
+use lib.Seq.{length-take-le, drop-drop, set-split, drop-at}
 use borrow.Rule.Slice.PartMut.{putMid}
 use native.Mathlib.Numerals.{add-one}
 use Rattle.rules.specs.Bytes.{Bytes}
@@ -12,24 +12,24 @@ use mathlib.Core.Bool.{Bool}
 use Rattle.ascii.specs.Copied.{Copied}
 use Rattle.expander.specs.Filled.{Filled}
 use Rattle.expander.specs.Packed.{overlaid}
-use Rattle.expander.proofs.Moving.{drop-overlaid}
-use Rattle.expander.proofs.Parts.{copied-whole}
+use Rattle.expander.specs.Front.{Front}
+use Rattle.expander.proofs.Moving.{drop-overlaid, take-overlaid, length-overlaid}
+use Rattle.expander.proofs.Parts.{copied-whole, part-long}
 
 module _ {before : Bytes} {at : ℕ} {w after : Bytes} (f : Filled before at w after) where
-  front-long : length (take at before ++ w) ≡ at + length w
-  front-long = length-append (take at before) w ∙ omega (arith, length-take-le at before (omega (arith, f .fits)))
-
   -- what stood in front still does, and the text stands behind it
   pub filled-front : take (at + length w) after ≡ take at before ++ w
-  filled-front =
-      ap (take (at + length w)) (f .is ∙ sym (append-assoc (take at before) w (drop (at + length w) before)))
-      ∙ take-at (take at before ++ w) (drop (at + length w) before) (at + length w) front-long
+  unfolding overlaid
+  filled-front = ap (take (at + length w)) (f .is) ∙ take-overlaid at w before (omega (arith, f .fits))
 
   pub filled-long : length after ≡ length before
-  filled-long =
-      ap length (f .is ∙ sym (append-assoc (take at before) w (drop (at + length w) before)))
-      ∙ length-append (take at before ++ w) (drop (at + length w) before)
-      ∙ omega (arith, front-long, length-drop (at + length w) before, f .fits)
+  unfolding overlaid
+  filled-long = ap length (f .is) ∙ length-overlaid at w before (f .fits)
+
+  -- from its place on
+  pub filled-from : drop at after ≡ w ++ drop (at + length w) before
+  filled-from =
+      ap (drop at) (f .is) ∙ drop-at (take at before) (w ++ drop (at + length w) before) at (length-take-le at before (omega (arith, f .fits)))
 
   -- and what stands behind it is as it was
   pub filled-behind : (n : ℕ) → at + length w ≤ n → drop n after ≡ drop n before
@@ -62,13 +62,18 @@ filled-then {a} {v} {b} {w} {c} {i} f g =
 pub filled-next : {a v b w c : Bytes} {i j : ℕ} → Filled a i v b → j ≡ i + length v → Filled b j w c → Filled a i (v ++ w) c
 filled-next {b = b} {w = w} {c = c} f e g = filled-then f (subst (λ (k : ℕ). Filled b k w c) e g)
 
+-- a text behind the one at the front
+pub front-more : {buffer after : Bytes} {n : ℕ} {w x : Bytes} → Front buffer n w → Filled buffer n x after → Front after (n + length x) (w ++ x)
+front-more {x = x} f g =
+    record { text-is = filled-front g ∙ ap (λ (l : Bytes). l ++ x) (f .text-is); inside = omega (arith, filled-long g, g .fits) }
+
 -- a part of a slice that a function filled
-pub part-fills : (d w : Bytes) (a n : ℕ) → length w ≡ n → a + n ≤ length d → Filled d a w (putMid a (a + n - a) d w)
-part-fills d w a n e h =
-    let f : a + (a + n - a) ≡ a + length w = omega arith in
+pub part-fills : (d w : Bytes) (a e : ℕ) → a + length w ≡ e → e ≤ length d → Filled d a w (putMid a (e - a) d w)
+part-fills d w a e k h =
+    let f : a + (e - a) ≡ a + length w = omega arith in
     record {
       fits = omega arith;
-      is = ap (λ (l : Bytes). take a d ++ (w ++ l)) (drop-drop (a + n - a) a d ∙ ap (λ (k : ℕ). drop k d) f);
+      is = ap (λ (l : Bytes). take a d ++ (w ++ l)) (drop-drop (e - a) a d ∙ ap (λ (i : ℕ). drop i d) f);
     }
 
 -- a byte that was stored
@@ -80,12 +85,19 @@ byte-fills d a x h =
 -- as the two copying functions leave it: y is what the part of d from a on holds then
 module _ (d y : Bytes) (a n : ℕ) (fits : a + n ≤ length d) where
   part-size : length (take (a + n - a) (drop a d)) ≡ n
-  part-size = omega (arith, length-take (a + n - a) (drop a d), length-drop a d)
+  part-size = omega (arith, part-long d a (a + n) fits)
 
   pub fills-front : (xs : Bytes) → n ≤ length xs → y ≡ take (length (take (a + n - a) (drop a d))) xs → Filled d a (take n xs) (putMid a (a + n - a) d y)
   fills-front xs h e =
       let w : y ≡ take n xs = e ∙ ap (λ (k : ℕ). take k xs) part-size in
-      rw w (part-fills d (take n xs) a n (omega (arith, length-take n xs)) fits)
+      rw w (part-fills d (take n xs) a (a + n) (omega (arith, length-take n xs)) fits)
 
   pub fills-copy : {s : Bytes} {r : Bool} → length s ≡ n → Copied s (take (a + n - a) (drop a d)) r y → Filled d a s (putMid a (a + n - a) d y)
-  fills-copy {s} h k = rw (copied-whole k (h ∙ sym part-size)) (part-fills d s a n h fits)
+  fills-copy {s} h k = rw (copied-whole k (h ∙ sym part-size)) (part-fills d s a (a + n) (omega arith) fits)
+
+-- owners as they are marked
+pub owned-fills :
+    (owners owned : List ℕ) (at n i : ℕ) → at + n ≤ length owners → owned ≡ take at owners ++ (replicate n i ++ drop (at + n) owners)
+    → Filled owners at (replicate n i) owned
+owned-fills owners owned at n i h e =
+    record { fits = omega (arith, length-replicate n i); is = e ∙ rw (length-replicate n i) }

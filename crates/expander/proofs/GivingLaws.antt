@@ -1,26 +1,24 @@
 -- Results in front of the text ahead: refused where buffer 1 lacks room, else written just before the pending text.
 use Prim.Native.Nat.{ℕ, _+_, _-_, _≤_, _<_}
-use mathlib.Core.Path.{_≡_, refl, sym, ap, _∙_}
+use mathlib.Core.Path.{_≡_, refl, ap, _∙_}
 use mathlib.Core.Bool.{Bool, true}
-use mathlib.Core.List.{List, [], _∷_, _++_}
-use mathlib.Core.Option.{Option, none, some}
+use mathlib.Core.List.{List, [], _++_}
 use native.Mathlib.Omega.{arith}
 use lib.ListN.{length, take, drop, getD, length-append}
-use lib.Seq.{drop-at, length-take-le}
 use borrow.Author.Tests.{eq-eqb}
-use borrow.Rule.Slice.PartMut.{putMid, same-len-mid}
+use borrow.Rule.Slice.PartMut.{putMid}
 use Rattle.rules.specs.declared.Answer.the-variants as answer
 use Rattle.rules.specs.Bytes.{Bytes}
-use Rattle.rules.specs.Answers.{Fault, faultAnswer, noNumber, noText}
-use Rattle.rules.specs.Marks.{MarkTexts, quoted}
+use Rattle.rules.specs.Answers.{Fault, noNumber, noText}
+use Rattle.rules.specs.Marks.{MarkTexts}
 use Rattle.rules.specs.Source.{pushBack}
-use Rattle.rules.specs.State.{State, Outcome, next, refused, resulting, withSource}
+use Rattle.rules.specs.State.{State, next, refused, resulting, withSource}
 use Rattle.rules.specs.Run.{Setting}
-use Rattle.rules.specs.Table.{Definition, Meaning, text, predefined, Table, meaningOf}
+use Rattle.rules.specs.Table.{Definition, text}
 use Rattle.rules.specs.Words.{signedValue}
 use Rattle.rules.specs.Numerals.{writtenIn}
 use Rattle.rules.specs.Arguments.{arg, commas, quotedEach, substituted}
-use Rattle.rules.specs.Results.{Result, yields, fails, inFront, defnResult, shiftResult, transliterated, translitResult}
+use Rattle.rules.specs.Results.{Result, yields, fails, defnResult, shiftResult, transliterated, translitResult}
 use Rattle.rules.specs.Macros.{giving, callDefn, callShift, callTranslit}
 use Rattle.numerals.specs.Answers.{isRadix, lengthOf, Written}
 use Rattle.numerals.specs.declared.Length.{Length}
@@ -31,28 +29,19 @@ use Rattle.expander.specs.declared.defn.DefnLength.the-variants as defnL
 use Rattle.expander.specs.declared.figures.Figure.{Figure}
 use Rattle.expander.specs.declared.figures.Figure.the-variants as figure
 use Rattle.expander.specs.declared.machine.Machine.{Machine}
-use Rattle.expander.specs.declared.machine.Turn.{Turn}
 use Rattle.expander.specs.declared.machine.Went.the-variants as went
 use Rattle.expander.specs.declared.packed.Packed.{Packed}
 use Rattle.expander.specs.Defn.{measuredAs}
 use Rattle.expander.specs.Filled.{Filled}
-use Rattle.expander.specs.Machine.{Memory, memory, Means, Gives, sourceSet, turned}
+use Rattle.expander.specs.Machine.{memory, Means, Gives, sourceSet, turned}
 use Rattle.expander.specs.Results.{figureResult, FigureRadix, Shows, cutResult, CutInside, Cuts}
 use Rattle.expander.specs.Table.{rows, DefinitionsIn}
-use Rattle.expander.proofs.FilledLaws.{filled-long}
-use Rattle.expander.proofs.MachineLaws.{over-pending, gives-next, gives-refused, gives-room}
+use Rattle.expander.proofs.FilledLaws.{filled-long, filled-from, part-fills}
+use Rattle.expander.proofs.MachineLaws.{over-pending, gives-next, gives-room}
 use Rattle.expander.proofs.Packing.{string-fits}
 use Rattle.expander.proofs.Parted.{with-source}
-use Rattle.expander.proofs.Parts.{part-front, part-long}
+use Rattle.expander.proofs.Parts.{part-long}
 use Rattle.expander.proofs.SourceLaws.{pending-long, pushed-back}
-
--- ---- what a step gives, by its outcome and by what it answers
-
-pub gives-by : {a : Setting} {o o′ : Outcome} {b : Memory} {t t′ : Turn} → o ≡ o′ → t ≡ t′ → Gives a o′ b t′ → Gives a o b t
-gives-by {a} {o} {b} {t} e f g = rw (e, f) g
-
-pub gives-fault : {a : Setting} {b : Memory} {m : Machine} {o : Outcome} {t : Turn} (f : Fault) → o ≡ refused f → t ≡ turned (went.Refused (faultAnswer f)) m → Gives a o b t
-gives-fault f e k = gives-by e k (gives-refused f)
 
 -- ---- a text of n bytes in front of the text ahead
 
@@ -93,12 +82,8 @@ module _
           → Gives a (next (resulting w s)) (memory text pending′ calls callEnds stack definitions tableEnds streams owners wrap errors output)
           (turned went.On (sourceSet (record { from = m .source .from - n; taken = m .source .taken }) m))
       giving-filled f =
-          let at = m .source .from - n in
-          let k : at + length w ≡ m .source .from = omega arith in
-          giving-front refl (filled-long f)
-          (ap (drop at) (f .is)
-          ∙ drop-at (take at pending) (w ++ drop (at + length w) pending) at (length-take-le at pending (omega (arith, r .source .from-in)))
-          ∙ ap (λ (i : ℕ). w ++ drop i pending) k)
+          let k : m .source .from - n + length w ≡ m .source .from = omega arith in
+          giving-front refl (filled-long f) (filled-from f ∙ ap (λ (i : ℕ). w ++ drop i pending) k)
 
       -- or into the part of it that ends before the pending text
       pub giving-part :
@@ -107,10 +92,7 @@ module _
           (memory text (putMid (m .source .from - n) (m .source .from - (m .source .from - n)) pending y) calls callEnds stack definitions tableEnds streams owners wrap errors output)
           (turned went.On (sourceSet (record { from = m .source .from - n; taken = m .source .taken }) m))
       giving-part {y} f =
-          let from = m .source .from in
-          let at = from - n in
-          let k = ap length f ∙ e ∙ sym (gap-long pending from n fits (r .source .from-in)) in
-          giving-front refl (same-len-mid at (from - at) pending y k) (part-front pending y w at from (omega arith) (r .source .from-in) f)
+          giving-filled (rw f (part-fills pending w (m .source .from - n) (m .source .from) (omega arith) (r .source .from-in)))
 
 -- ---- what a result comes to
 
@@ -207,33 +189,3 @@ pub defn-measured : (v : Result) (n : ℕ) → measuredAs v ≡ defnLength.Bytes
 unfolding measuredAs
 defn-measured (yields w) n e = record { text = w; is = refl; long = cc }
 defn-measured (fails f) n e = let z : _≡_ {A = ℕ} 0 1 = cc in absurd (omega arith)
-
-pub defn-text : {v : Result} {n : ℕ} {y : Bytes} (q : Measured v n) → v ≡ yields y → y ≡ q .text
-defn-text q e = cc (q .is)
-
-front-fails : (w : Bytes) (v : Result) → (measuredAs v ≡ defnLength.NoText → v ≡ fails noText) → measuredAs (inFront w v) ≡ defnLength.NoText → inFront w v ≡ fails noText
-unfolding measuredAs inFront
-front-fails w (yields x) h e = let z : _≡_ {A = ℕ} 0 1 = cc in absurd (omega arith)
-front-fails w (fails f) h e = h e
-
--- what the first argument's meaning makes of the result v of the others
-unfoldable defnFront : MarkTexts → Option Meaning → Result → Result
-defnFront k o v = elim o [ none ↦ v | some (text x) ↦ inFront (quoted k x) v | some (predefined i) ↦ fails noText ]
-
-defn-front : (k : MarkTexts) (t : Table) (w : Bytes) (ws : List Bytes) → defnResult k t (w ∷ ws) ≡ defnFront k (meaningOf w t) (defnResult k t ws)
-unfolding defnResult defnFront
-defn-front k t w ws = refl
-
-meaning-fails :
-    (k : MarkTexts) (o : Option Meaning) (v : Result) → (measuredAs v ≡ defnLength.NoText → v ≡ fails noText) → measuredAs (defnFront k o v) ≡ defnLength.NoText
-    → defnFront k o v ≡ fails noText
-unfolding defnFront
-meaning-fails k none v h e = h e
-meaning-fails k (some (text x)) v h e = front-fails (quoted k x) v h e
-meaning-fails k (some (predefined i)) v h e = refl
-
-pub defn-fails : (k : MarkTexts) (t : Table) (args : List Bytes) → measuredAs (defnResult k t args) ≡ defnLength.NoText → defnResult k t args ≡ fails noText
-unfolding defnResult measuredAs
-defn-fails k t [] e = let z : _≡_ {A = ℕ} 0 1 = cc in absurd (omega arith)
-defn-fails k t (w ∷ ws) e =
-    defn-front k t w ws ∙ meaning-fails k (meaningOf w t) (defnResult k t ws) (defn-fails k t ws) (sym (ap measuredAs (defn-front k t w ws)) ∙ e)

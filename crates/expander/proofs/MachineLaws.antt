@@ -1,30 +1,30 @@
--- What the memory and the machine mean fits its buffers; which buffer a step would overfill; and the parts of the meaning, changed.
-use Prim.Native.Nat.{ℕ, _+_, _-_, _≤_, _<_}
+-- What the memory and the machine mean: which calls are open, that it fits its buffers, which buffer a step would overfill, and what a step gives. Assumes nothing.
+use Prim.Native.Nat.{ℕ, _+_, _≤_, _<_}
 use mathlib.Core.Path.{_≡_, refl, sym, ap, _∙_}
-use mathlib.Core.List.{List, [], _∷_, _++_}
-use mathlib.Core.Option.{Option, none, some}
+use mathlib.Core.List.{List, [], _∷_}
+use mathlib.Core.Option.{none, some}
 use native.Mathlib.Omega.{arith}
-use lib.ListN.{length, take, length-take}
+use lib.ListN.{length}
 use lib.Seq.{length-take-le}
 use Rattle.rules.specs.declared.Answer.the-variants as answer
 use Rattle.rules.specs.Bytes.{Bytes}
 use Rattle.rules.specs.Answers.{Ending, endingAnswer, Fault, faultAnswer}
-use Rattle.rules.specs.Streams.{Streams, totalLength}
+use Rattle.rules.specs.Streams.{totalLength}
 use Rattle.rules.specs.Table.{tableCost}
-use Rattle.rules.specs.State.{State, Outcome, next, stop, refused}
+use Rattle.rules.specs.State.{State, next, stop, refused, Call}
 use Rattle.rules.specs.Tokens.{later}
 use Rattle.rules.specs.Run.{Setting, lengths, callsCost, held, overfull}
 use Rattle.expander.specs.declared.machine.Machine.{Machine}
-use Rattle.expander.specs.declared.machine.Turn.{Turn}
 use Rattle.expander.specs.declared.machine.Went.the-variants as went
 use Rattle.expander.specs.Front.{Front}
-use Rattle.expander.specs.Machine.{Memory, Limits, Means, Came, Gives}
-use Rattle.expander.specs.Verdict.{Verdict, going, over, denied, verdict}
+use Rattle.expander.specs.Machine.{Memory, Means, Came, Gives}
+use Rattle.expander.specs.Calls.{CallsIn}
 use Rattle.expander.proofs.SourceLaws.{pending-long}
 use Rattle.expander.proofs.CallsLaws.{calls-held}
 use Rattle.expander.proofs.Changing.{cost-used}
 use Rattle.expander.proofs.Totals.{used-is}
 use Rattle.expander.proofs.VerdictLaws.{verdict-next, verdict-stop, verdict-room, verdict-stop-room, verdict-refused, fits-then, overflows}
+use Rattle.expander.proofs.Parts.{empty-of}
 
 pub front-long : {buffer : Bytes} {n : ℕ} {w : Bytes} → Front buffer n w → length w ≡ n
 front-long {buffer} {n} f = sym (ap length (f .text-is)) ∙ length-take-le n buffer (f .inside)
@@ -52,6 +52,28 @@ module _ {a : Setting} {b : Memory} {m : Machine} {s : State} (r : Means a b m s
 
   pub output-fits : length (s .streams .output) ≤ a .output
   output-fits = omega (arith, front-long (r .sinks .written), r .sinks .written .inside, r .limits .output)
+
+-- ---- the open calls
+
+-- the innermost call
+pub record Innermost (cs : List Call) : Type 0 where
+  pub call : Call
+  pub others : List Call
+  pub is : cs ≡ call ∷ others
+
+innermost : (cs : List Call) → (length cs ≡ 0 → ⊥) → Innermost cs
+innermost [] f = absurd (f refl)
+innermost (c ∷ cs) f = record { call = c; others = cs; is = refl }
+
+module _ {a : Setting} {b : Memory} {m : Machine} {s : State} (r : Means a b m s) where
+  pub no-calls : m .calls .opens ≡ 0 → s .calls ≡ []
+  no-calls e = empty-of (s .calls) (r .calls .open-is ∙ e)
+
+  pub some-call : (m .calls .opens ≡ 0 → ⊥) → Innermost (s .calls)
+  some-call f = innermost (s .calls) (λ e. f (sym (r .calls .open-is) ∙ e))
+
+  pub top-call : {c : Call} {cs : List Call} → s .calls ≡ c ∷ cs → CallsIn (b .calls) (b .callEnds) (b .stack) (m .calls) (c ∷ cs)
+  top-call e = rw e at (r .calls)
 
 -- ---- the seven counts against the seven lengths: nothing is overfull, or one buffer is and those before it fit
 

@@ -2,7 +2,7 @@
 use Prim.Native.Nat.{ℕ, zero, suc, _+_, _-_, _≤_, _<_}
 use native.Mathlib.Numerals.{add-one}
 use native.Mathlib.Omega.{arith}
-use mathlib.Core.Path.{_≡_, refl, sym, ap, ap₂, subst, _∙_}
+use mathlib.Core.Path.{_≡_, refl, sym, ap, ap₂, _∙_}
 use mathlib.Core.Bool.{Bool, true, false}
 use mathlib.Core.List.{List, [], _++_}
 use lib.Dec.{leb}
@@ -12,7 +12,7 @@ use lib.Seq.{drop-cons}
 use borrow.Author.Tests.{eq-eqb, ne-eqb, le-leb, lt-leb, ltb-true}
 use Rattle.rules.specs.Bytes.{Bytes}
 use Rattle.rules.specs.Streams.{Streams, waitingIn, placed, isCurrent, emptied, moved, movedInTurn}
-use Rattle.expander.specs.Streams.{IsStream, StreamsIn, extended, behindStream, discards}
+use Rattle.expander.specs.Streams.{IsStream, extended, behindStream, discards}
 use Rattle.expander.proofs.Waiting.{taken-behind}
 
 less-one : (i : ℕ) → suc i - 1 ≡ i
@@ -86,16 +86,6 @@ module _ (i : ℕ) (h : IsStream i) (s : Streams) where
 
   pub moved-lost : discards (s .current) ≡ true → moved i s ≡ record { output = s .output; waiting = set (s .waiting) (i - 1) []; current = s .current }
   moved-lost e = moved-other (lost-not-current i (s .current) h e) ∙ placed-lost (s .current) e (getD (s .waiting) (i - 1) []) (record { output = s .output; waiting = set (s .waiting) (i - 1) []; current = s .current })
-
-  -- the same of a buffer: after `move_stream`, or after `compact` alone
-  pub held-to : {b o : List ℕ} {u : ℕ} (j : ℕ) → s .current ≡ pos j → IsStream j → (i ≡ j → ⊥) → StreamsIn b o u (behindStream i j (s .waiting)) → StreamsIn b o u (moved i s .waiting)
-  held-to {b} {o} {u} j e k d = subst (λ (t : Streams). StreamsIn b o u (t .waiting)) (sym (moved-to j e k d))
-
-  pub held-out : {b o : List ℕ} {u : ℕ} → s .current ≡ pos 0 → StreamsIn b o u (set (s .waiting) (i - 1) []) → StreamsIn b o u (moved i s .waiting)
-  held-out {b} {o} {u} e = subst (λ (t : Streams). StreamsIn b o u (t .waiting)) (sym (moved-out e))
-
-  pub held-lost : {b o : List ℕ} {u : ℕ} → discards (s .current) ≡ true → StreamsIn b o u (set (s .waiting) (i - 1) []) → StreamsIn b o u (moved i s .waiting)
-  held-lost {b} {o} {u} e = subst (λ (t : Streams). StreamsIn b o u (t .waiting)) (sym (moved-lost e))
 
 -- the current stream is the same after a move
 placed-current : (c : ℤ) (w : Bytes) (s : Streams) → placed c w s .current ≡ s .current

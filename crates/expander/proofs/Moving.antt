@@ -4,13 +4,9 @@ use native.Mathlib.Nat.{add-zero, le-of-suc-le-suc, not-suc-le-zero}
 use native.Mathlib.Numerals.{add-one}
 use native.Mathlib.Omega.{arith}
 use mathlib.Core.Path.{_≡_, refl, sym, ap, _∙_}
-use mathlib.Core.Bool.{Bool}
 use mathlib.Core.List.{List, [], _∷_, _++_, map, append-assoc}
 use lib.ListN.{length, take, drop, getD, set, length-append, length-take, length-drop, length-map, length-set, take-append-drop, List·getD-append}
 use lib.Seq.{take-at, drop-drop, drop-append-add, drop-length, take-length, drop-cons, take-suc, set-at, getD-append-add, getD-drop, getD-take, take-take, length-take-le, paste, paste-zero, paste-suc, length-paste-head}
-use borrow.Author.Tests.{eq-eqb}
-use Rattle.rules.specs.Bytes.{Bytes}
-use Rattle.ascii.specs.Copied.{Copied}
 use Rattle.expander.specs.Packed.{overlaid}
 
 pub length-overlaid : (at : ℕ) (x l : List ℕ) → at + length x ≤ length l → length (overlaid at x l) ≡ length l
@@ -40,16 +36,6 @@ drop-overlaid at x l n h k =
     ∙ drop-append-add (take at l ++ x) (drop (at + length x) l) (n - (at + length x))
     ∙ drop-drop (n - (at + length x)) (at + length x) l
     ∙ ap (λ (i : ℕ). drop i l) g
-
--- a part of d of the length of s was lent to a copy of s, and came back as y
-pub copied-over : (d s : Bytes) (at : ℕ) → at + length s ≤ length d → {r : Bool} {y : Bytes} → Copied s (take (at + length s - at) (drop at d)) r y
-    → take at d ++ (y ++ drop (at + length s - at) (drop at d)) ≡ overlaid at s d
-unfolding overlaid
-copied-over d s at h {y = y} k =
-    let e : at + (at + length s - at) ≡ at + length s = omega arith in
-    let l : length s ≡ length (take (at + length s - at) (drop at d)) = omega (arith, length-take (at + length s - at) (drop at d), length-drop at d) in
-    let f : y ≡ s = k .written ∙ rw (eq-eqb _ _ l) in
-    rw (f, drop-drop, e)
 
 -- the elements from a place up to another
 pub part-length : (l : List ℕ) (from end : ℕ) → end ≤ length l → length (drop from (take end l)) ≡ end - from

@@ -6,7 +6,7 @@ use native.Mathlib.Omega.{arith}
 use lib.ListN.{length}
 use Rattle.rules.specs.declared.Marks.{Marks}
 use Rattle.rules.specs.Bytes.{Bytes}
-use Rattle.rules.specs.Marks.{MarkTexts, markTexts}
+use Rattle.rules.specs.Marks.{markTexts}
 use Rattle.rules.specs.Source.{Source}
 use Rattle.rules.specs.Table.{Table}
 use Rattle.rules.specs.Streams.{Streams}
@@ -23,7 +23,36 @@ use Rattle.expander.specs.Table.{TableIn}
 use Rattle.expander.specs.Tokens.{GoodMarks}
 use Rattle.expander.specs.Sinks.{SinksIn}
 use Rattle.expander.specs.Front.{Front}
-use Rattle.expander.specs.Machine.{memory, Means, sourceSet, marksSet, callsSet, tableSet, sinksSet, wrapSet, errorsSet}
+use Rattle.expander.specs.Machine.{Memory, memory, Limits, Means, sourceSet, marksSet, callsSet, tableSet, sinksSet, wrapSet, errorsSet}
+
+-- buffers of the same lengths are within the same limits
+same-limits :
+    {a : Setting} {b c : Memory} → Limits a b → length (c .text) ≡ length (b .text) → length (c .pending) ≡ length (b .pending) → length (c .calls) ≡ length (b .calls)
+    → length (c .callEnds) ≡ length (b .callEnds) → length (c .stack) ≡ length (b .stack) → length (c .definitions) ≡ length (b .definitions)
+    → length (c .tableEnds) ≡ length (b .tableEnds) → length (c .streams) ≡ length (b .streams) → length (c .owners) ≡ length (b .owners)
+    → length (c .wrap) ≡ length (b .wrap) → length (c .errors) ≡ length (b .errors) → length (c .output) ≡ length (b .output) → Limits a c
+same-limits q text pending calls callEnds stack definitions tableEnds streams owners wrap errors output =
+    record {
+      text = omega (arith, text, q .text);
+      pending = q .pending ∙ sym pending;
+      pending-most = omega (arith, pending, q .pending-most);
+      calls = q .calls ∙ sym calls;
+      calls-most = omega (arith, calls, q .calls-most);
+      definitions = q .definitions ∙ sym definitions;
+      definitions-most = omega (arith, definitions, q .definitions-most);
+      streams = q .streams ∙ sym streams;
+      streams-most = omega (arith, streams, q .streams-most);
+      wrap = q .wrap ∙ sym wrap;
+      wrap-most = omega (arith, wrap, q .wrap-most);
+      errors = q .errors ∙ sym errors;
+      errors-most = omega (arith, errors, q .errors-most);
+      output = q .output ∙ sym output;
+      output-most = omega (arith, output, q .output-most);
+      call-ends = callEnds ∙ q .call-ends;
+      stack = stack ∙ q .stack;
+      table-ends = tableEnds ∙ q .table-ends;
+      owners = owners ∙ q .owners;
+    }
 
 module _
     {a : Setting} {text pending calls : Bytes} {callEnds stack : List ℕ} {definitions : Bytes} {tableEnds : List ℕ} {streams : Bytes} {owners : List ℕ}
@@ -39,7 +68,6 @@ module _
         → Means a (memory text pending′ calls callEnds stack definitions tableEnds streams owners wrap errors output) (sourceSet x m) (withSource y s)
     unfolding withSource
     with-source h e-pending =
-        let q = r .limits in
         record {
           source = h;
           marks = r .marks;
@@ -49,8 +77,7 @@ module _
           sinks = r .sinks;
           wrap = r .wrap;
           errors = r .errors;
-          limits =
-              record { text = q .text; pending = q .pending ∙ sym e-pending; pending-most = omega (arith, e-pending, q .pending-most); calls = q .calls; calls-most = q .calls-most; definitions = q .definitions; definitions-most = q .definitions-most; streams = q .streams; streams-most = q .streams-most; wrap = q .wrap; wrap-most = q .wrap-most; errors = q .errors; errors-most = q .errors-most; output = q .output; output-most = q .output-most; call-ends = q .call-ends; stack = q .stack; table-ends = q .table-ends; owners = q .owners };
+          limits = same-limits (r .limits) refl e-pending refl refl refl refl refl refl refl refl refl refl;
         }
 
     pub with-calls :
@@ -58,7 +85,6 @@ module _
         → Means a (memory text pending calls′ callEnds′ stack′ definitions tableEnds streams owners wrap errors output) (callsSet x m) (withCalls y s)
     unfolding withCalls
     with-calls h e-calls e-callEnds e-stack =
-        let q = r .limits in
         record {
           source = r .source;
           marks = r .marks;
@@ -68,8 +94,7 @@ module _
           sinks = r .sinks;
           wrap = r .wrap;
           errors = r .errors;
-          limits =
-              record { text = q .text; pending = q .pending; pending-most = q .pending-most; calls = q .calls ∙ sym e-calls; calls-most = omega (arith, e-calls, q .calls-most); definitions = q .definitions; definitions-most = q .definitions-most; streams = q .streams; streams-most = q .streams-most; wrap = q .wrap; wrap-most = q .wrap-most; errors = q .errors; errors-most = q .errors-most; output = q .output; output-most = q .output-most; call-ends = e-callEnds ∙ q .call-ends; stack = e-stack ∙ q .stack; table-ends = q .table-ends; owners = q .owners };
+          limits = same-limits (r .limits) refl refl e-calls e-callEnds e-stack refl refl refl refl refl refl refl;
         }
 
     pub with-table :
@@ -77,7 +102,6 @@ module _
         → Means a (memory text pending calls callEnds stack definitions′ tableEnds′ streams owners wrap errors output) (tableSet x m) (withTable y s)
     unfolding withTable
     with-table h e-definitions e-tableEnds =
-        let q = r .limits in
         record {
           source = r .source;
           marks = r .marks;
@@ -87,8 +111,7 @@ module _
           sinks = r .sinks;
           wrap = r .wrap;
           errors = r .errors;
-          limits =
-              record { text = q .text; pending = q .pending; pending-most = q .pending-most; calls = q .calls; calls-most = q .calls-most; definitions = q .definitions ∙ sym e-definitions; definitions-most = omega (arith, e-definitions, q .definitions-most); streams = q .streams; streams-most = q .streams-most; wrap = q .wrap; wrap-most = q .wrap-most; errors = q .errors; errors-most = q .errors-most; output = q .output; output-most = q .output-most; call-ends = q .call-ends; stack = q .stack; table-ends = e-tableEnds ∙ q .table-ends; owners = q .owners };
+          limits = same-limits (r .limits) refl refl refl refl refl e-definitions e-tableEnds refl refl refl refl refl;
         }
 
     pub with-sinks :
@@ -96,7 +119,6 @@ module _
         → Means a (memory text pending calls callEnds stack definitions tableEnds streams′ owners′ wrap errors output′) (sinksSet x m) (withStreams y s)
     unfolding withStreams
     with-sinks h e-streams e-owners e-output =
-        let q = r .limits in
         record {
           source = r .source;
           marks = r .marks;
@@ -106,8 +128,7 @@ module _
           sinks = h;
           wrap = r .wrap;
           errors = r .errors;
-          limits =
-              record { text = q .text; pending = q .pending; pending-most = q .pending-most; calls = q .calls; calls-most = q .calls-most; definitions = q .definitions; definitions-most = q .definitions-most; streams = q .streams ∙ sym e-streams; streams-most = omega (arith, e-streams, q .streams-most); wrap = q .wrap; wrap-most = q .wrap-most; errors = q .errors; errors-most = q .errors-most; output = q .output ∙ sym e-output; output-most = omega (arith, e-output, q .output-most); call-ends = q .call-ends; stack = q .stack; table-ends = q .table-ends; owners = e-owners ∙ q .owners };
+          limits = same-limits (r .limits) refl refl refl refl refl refl refl e-streams e-owners refl refl e-output;
         }
 
     pub with-wrap :
@@ -115,7 +136,6 @@ module _
         → Means a (memory text pending calls callEnds stack definitions tableEnds streams owners wrap′ errors output) (wrapSet x m) (withWrap y s)
     unfolding withWrap
     with-wrap h e-wrap =
-        let q = r .limits in
         record {
           source = r .source;
           marks = r .marks;
@@ -125,8 +145,7 @@ module _
           sinks = r .sinks;
           wrap = h;
           errors = r .errors;
-          limits =
-              record { text = q .text; pending = q .pending; pending-most = q .pending-most; calls = q .calls; calls-most = q .calls-most; definitions = q .definitions; definitions-most = q .definitions-most; streams = q .streams; streams-most = q .streams-most; wrap = q .wrap ∙ sym e-wrap; wrap-most = omega (arith, e-wrap, q .wrap-most); errors = q .errors; errors-most = q .errors-most; output = q .output; output-most = q .output-most; call-ends = q .call-ends; stack = q .stack; table-ends = q .table-ends; owners = q .owners };
+          limits = same-limits (r .limits) refl refl refl refl refl refl refl refl refl e-wrap refl refl;
         }
 
     pub with-errors :
@@ -134,7 +153,6 @@ module _
         → Means a (memory text pending calls callEnds stack definitions tableEnds streams owners wrap errors′ output) (errorsSet x m) (withErrors y s)
     unfolding withErrors
     with-errors h e-errors =
-        let q = r .limits in
         record {
           source = r .source;
           marks = r .marks;
@@ -144,6 +162,5 @@ module _
           sinks = r .sinks;
           wrap = r .wrap;
           errors = h;
-          limits =
-              record { text = q .text; pending = q .pending; pending-most = q .pending-most; calls = q .calls; calls-most = q .calls-most; definitions = q .definitions; definitions-most = q .definitions-most; streams = q .streams; streams-most = q .streams-most; wrap = q .wrap; wrap-most = q .wrap-most; errors = q .errors ∙ sym e-errors; errors-most = omega (arith, e-errors, q .errors-most); output = q .output; output-most = q .output-most; call-ends = q .call-ends; stack = q .stack; table-ends = q .table-ends; owners = q .owners };
+          limits = same-limits (r .limits) refl refl refl refl refl refl refl refl refl refl e-errors refl;
         }

@@ -1,12 +1,12 @@
 -- Laws of a pass over the definitions that drops those of a name. Assumes nothing.
-use Prim.Native.Nat.{ℕ, zero, suc, _+_, _-_, _≤_, _<_}
+use Prim.Native.Nat.{ℕ, suc, _+_, _-_, _≤_, _<_}
 use native.Mathlib.Numerals.{add-one}
 use native.Mathlib.Omega.{arith}
 use mathlib.Core.Path.{_≡_, refl, sym, ap, _∙_}
 use mathlib.Core.Bool.{Bool, true, false}
 use mathlib.Core.List.{List, [], _∷_, _++_, append-assoc, append-nil}
-use lib.ListN.{length, take, drop, getD, set, length-append, length-take, length-drop, length-set}
-use lib.Seq.{take-nil, take-add, take-append-seam, drop-append-seam, drop-drop, take-suc-set, drop-set-lt, getD-drop}
+use lib.ListN.{length, take, drop, getD, set, length-append, length-drop, length-set}
+use lib.Seq.{take-add, take-append-seam, drop-append-seam, drop-drop, take-suc-set, drop-set-lt, getD-drop}
 use Rattle.rules.specs.Bytes.{Bytes, sameBytes}
 use Rattle.rules.specs.Streams.{joined}
 use Rattle.rules.specs.Table.{Definition, Table, ownLost, without, undefined}
@@ -18,18 +18,7 @@ use Rattle.expander.proofs.Moving.{part-length, length-overlaid, take-o
 use Rattle.expander.proofs.Rows.{string-count, length-rows}
 use Rattle.expander.proofs.Changing.{rows-append, holds-others}
 use Rattle.expander.proofs.Owning.{lost-less}
-
-drop-take : (m n : ℕ) (l : List ℕ) → drop m (take n l) ≡ take (n - m) (drop m l)
-drop-take zero n l =
-    let e : n ≡ n - 0 = omega arith in
-    ap (λ (k : ℕ). take k l) e
-drop-take (suc m) zero l =
-    let e : 0 - suc m ≡ 0 = omega arith in
-    rw e
-drop-take (suc m) (suc n) [] = sym (take-nil (suc n - suc m))
-drop-take (suc m) (suc n) (x ∷ l) =
-    let e : n - m ≡ suc n - suc m = omega arith in
-    drop-take m n l ∙ ap (λ (k : ℕ). take k (drop m l)) e
+use Rattle.expander.proofs.Parts.{drop-take, part-long}
 
 -- two parts one after the other
 two-parts : (l : List ℕ) (from middle end : ℕ) → from ≤ middle → middle ≤ end
@@ -41,9 +30,6 @@ two-parts l from middle end h k =
     ∙ ap (λ (i : ℕ). take i (drop from l)) n
     ∙ take-add (middle - from) (end - middle) (drop from l)
     ∙ ap (λ (x : List ℕ). take (middle - from) (drop from l) ++ take (end - middle) x) (drop-drop (middle - from) from l ∙ ap (λ (i : ℕ). drop i l) m)
-
-part-of : (l : List ℕ) (from end : ℕ) → from ≤ end → end ≤ length l → length (take (end - from) (drop from l)) ≡ end - from
-part-of l from end h k = omega (arith, length-take (end - from) (drop from l), length-drop from l)
 
 -- the definition that a pass has come to is of the name
 pub sifted-named : (w bytes : Bytes) (ends : List ℕ) (kept : Packed) (from middle end : ℕ) {t : Bool} → kept .used ≤ end
@@ -78,8 +64,8 @@ module _ {ends : List ℕ} {kept : Packed} {bytes : Bytes} {ss : List Bytes} (h 
       let x = take (middle - from) (drop from bytes) in
       let y = take (end - middle) (drop middle bytes) in
       let s = drop from (take end bytes) in
-      let lx : length x ≡ middle - from = part-of bytes from middle mid (omega arith) in
-      let ly : length y ≡ end - middle = part-of bytes middle end hi fits in
+      let lx : length x ≡ middle - from = part-long bytes from middle (omega arith) in
+      let ly : length y ≡ end - middle = part-long bytes middle end fits in
       let ls : length s ≡ end - from = part-length bytes from end fits in
       let ends₁ = set ends c (u + (middle - from)) in
       let two : c + 2 ≡ suc (suc c) = omega arith in

@@ -1,24 +1,24 @@
 -- Laws of the output and the streams: what fits, and what placing bytes leaves.
-use Prim.Native.Nat.{ℕ, suc, _+_, _-_, _^_, _≤_, _<_}
+use Prim.Native.Nat.{ℕ, _+_, _-_, _≤_, _<_}
 use mathlib.Core.Path.{_≡_, refl, sym, ap, subst, _∙_}
 use mathlib.Core.Bool.{Bool, true, false, cond}
-use mathlib.Core.List.{List, [], _∷_, _++_}
+use mathlib.Core.List.{List, _++_}
 use native.Mathlib.Omega.{arith}
 use borrow.Author.Tests.{eq-eqb, ne-eqb, lt-ltb, le-ltb, ltb-true, ltb-false}
-use lib.Dec.{eqb, ltb}
+use lib.Dec.{ltb}
 use lib.IntN.{ℤ, pos, negsuc}
-use lib.ListN.{length, take, drop, replicate, length-replicate, length-take, length-drop, length-append}
+use lib.ListN.{length, take, drop, replicate, length-take, length-drop, length-append}
 use Rattle.rules.specs.Bytes.{Bytes}
 use Rattle.rules.specs.Words.{signedValue}
 use Rattle.rules.specs.Streams.{Streams, placed}
 use Rattle.expander.specs.declared.sinks.Sinks.{Sinks}
-use Rattle.expander.specs.Front.{Front}
-use Rattle.expander.specs.Streams.{IsStream, discards, extended}
+use Rattle.expander.specs.Streams.{IsStream, discards}
 use Rattle.expander.specs.Sinks.{SinksIn, Fits, fullBuffer}
 use Rattle.expander.specs.Filled.{Filled}
-use Rattle.expander.proofs.FilledLaws.{filled-front, filled-long}
+use Rattle.expander.proofs.FilledLaws.{front-more}
 use Rattle.expander.proofs.Waiting.{appended-at}
 use Rattle.expander.proofs.Moved.{placed-to, placed-out, placed-lost}
+use Rattle.expander.proofs.ArgumentLaws.{bits-plain}
 
 -- ---- which buffer is full
 
@@ -67,10 +67,6 @@ module _ {streams : Bytes} {owners : List ℕ} {output : Bytes} {k : Sinks} {n :
 
 -- ---- the current stream by its bits
 
-pub small-is : (c : ℕ) → c ≤ 9 → signedValue c ≡ pos c
-unfolding signedValue
-small-is c h = rw (lt-ltb c 2147483648 (omega arith))
-
 pub lost-is : (c : ℕ) → 9 < c → discards (signedValue c) ≡ true
 unfolding signedValue discards
 lost-is c h = go (ltb c 2147483648)
@@ -86,16 +82,12 @@ module _ {streams : Bytes} {owners : List ℕ} {output : Bytes} {k : Sinks} {x :
       {after : Bytes} → k .current ≡ 0 → Filled output (k .output) w after
       → SinksIn streams owners after (record { current = k .current; waiting = k .waiting; output = k .output + n }) (placed (x .current) w x)
   emitted-output {after} e f =
-      let c : x .current ≡ pos 0 = m .current ∙ ap signedValue e ∙ small-is 0 (omega arith) in
+      let c : x .current ≡ pos 0 = m .current ∙ ap signedValue e ∙ bits-plain 0 (omega arith) in
       subst (λ (y : Streams). SinksIn streams owners after (record { current = k .current; waiting = k .waiting; output = k .output + n }) y)
       (sym (ap (λ (z : ℤ). placed z w x) c ∙ placed-out w x))
       (record {
         waiting = m .waiting;
-        written =
-            record {
-              text-is = rw (sym en) (filled-front f ∙ ap (λ (z : Bytes). z ++ w) (m .written .text-is));
-              inside = omega (arith, filled-long f, f .fits);
-            };
+        written = rw (sym en) (front-more (m .written) f);
         current = m .current;
       })
 
@@ -105,13 +97,11 @@ module _ {streams : Bytes} {owners : List ℕ} {output : Bytes} {k : Sinks} {x :
       → SinksIn after owned output (record { current = k .current; waiting = k .waiting + n; output = k .output }) (placed (x .current) w x)
   emitted-stream {after} {owned} e h f g =
       let s : IsStream (k .current) = record { low = omega arith; high = h } in
-      let c : x .current ≡ pos (k .current) = m .current ∙ small-is (k .current) h in
-      let o : owned ≡ take (k .waiting) owners ++ (replicate (length w) (k .current) ++ drop (k .waiting + length w) owners) =
-      g .is ∙ rw (length-replicate n (k .current), en) in
+      let c : x .current ≡ pos (k .current) = m .current ∙ bits-plain (k .current) (omega arith) in
       subst (λ (y : Streams). SinksIn after owned output (record { current = k .current; waiting = k .waiting + n; output = k .output }) y)
       (sym (ap (λ (z : ℤ). placed z w x) c ∙ placed-to (k .current) s w x))
       (record {
-        waiting = rw (sym en) (appended-at (m .waiting) (k .current) s w after owned (f .fits) (omega (arith, g .fits, length-replicate n (k .current), en)) (f .is) o);
+        waiting = rw (sym en) (appended-at (m .waiting) (k .current) s f (rw (sym en) at g));
         written = m .written;
         current = m .current;
       })
@@ -123,10 +113,3 @@ module _ {streams : Bytes} {owners : List ℕ} {output : Bytes} {k : Sinks} {x :
 pub ahead-taken : (front rest : Bytes) (start n : ℕ) → start + n ≤ length front + length rest → length (take n (drop start (front ++ rest))) ≡ n
 ahead-taken front rest start n h =
     omega (arith, length-take n (drop start (front ++ rest)), length-drop start (front ++ rest), length-append front rest)
-
--- owners as they are marked
-pub owned-fills :
-    (owners owned : List ℕ) (at n i : ℕ) → at + n ≤ length owners → owned ≡ take at owners ++ (replicate n i ++ drop (at + n) owners)
-    → Filled owners at (replicate n i) owned
-owned-fills owners owned at n i h e =
-    record { fits = omega (arith, length-replicate n i); is = e ∙ rw (length-replicate n i) }

@@ -1,14 +1,15 @@
 -- Laws of the text ahead in its two buffers.
 use Prim.Native.Nat.{ℕ, _+_, _-_, _≤_, _<_}
-use mathlib.Core.Path.{_≡_, refl, sym, ap, _∙_}
-use mathlib.Core.List.{List, [], _∷_, _++_}
+use mathlib.Core.Path.{_≡_, sym, ap, ap₂, _∙_}
+use mathlib.Core.List.{_++_}
 use native.Mathlib.Omega.{arith}
-use lib.ListN.{length, drop, length-append, length-drop, drop-of-length-le}
+use lib.ListN.{length, drop, length-append, length-drop, drop-of-length-le, take}
 use lib.Seq.{drop-drop}
 use Rattle.rules.specs.Bytes.{Bytes}
 use Rattle.rules.specs.Source.{Source, ahead, advance, pushBack}
 use Rattle.expander.specs.declared.source.Position.{Position}
 use Rattle.expander.specs.Source.{SourceIn}
+use Rattle.expander.proofs.Parts.{part-all}
 
 module _ {text pending : Bytes} {p : Position} {x : Source} (m : SourceIn text pending p x) where
   -- how much pending text there is, and what is ahead
@@ -53,6 +54,13 @@ module _ {text pending : Bytes} {p : Position} {x : Source} (m : SourceIn text p
         rest-is = ap (λ (i : ℕ). drop i (x .rest)) k ∙ ap (drop j) (m .rest-is) ∙ drop-drop j (p .taken) text;
         taken-is = omega (arith, k, m .taken-is);
       }
+
+-- the text ahead in two slices that are lent from its position on
+abbrev pub lentAhead : Bytes → Bytes → Position → Bytes
+lentAhead text pending p = take (length pending - p .from) (drop (p .from) pending) ++ take (length text - p .taken) (drop (p .taken) text)
+
+pub ahead-lent : {text pending : Bytes} {p : Position} {x : Source} → SourceIn text pending p x → lentAhead text pending p ≡ ahead x
+ahead-lent {text} {pending} {p} h = ap₂ (λ (u v : Bytes). u ++ v) (part-all pending (p .from)) (part-all text (p .taken)) ∙ sym (ahead-is h)
 
 -- a result stands in front: the buffer then holds it from `from` on
 pub pushed-back :

@@ -6,7 +6,7 @@ use mathlib.Core.Path.{_≡_, refl, sym, ap, subst, _∙_}
 use mathlib.Core.Bool.{Bool, true, false, _&&_, true≢false}
 use mathlib.Core.List.{List, [], _∷_, _++_, append-assoc, append-nil}
 use mathlib.Core.Option.{Option, none, some}
-use borrow.Author.Tests.{eq-eqb, ne-eqb, leb-true, lt-ltb}
+use borrow.Author.Tests.{eq-eqb, ne-eqb, leb-true}
 use borrow.Rule.Slice.PartMut.{putMid}
 use lib.Dec.{leb, ltb}
 use lib.IntN.{ℤ, pos}
@@ -18,14 +18,11 @@ use Rattle.rules.specs.Words.{signedValue}
 use Rattle.rules.specs.Numerals.{digitsBy, digitsIn, digitByte, zeroFilled, writtenIn, decimal}
 use Rattle.rules.specs.Arguments.{parameter, parameterAt, substituted}
 use Rattle.numerals.specs.Answers.{Written}
-use Rattle.expander.specs.Arguments.{ArgumentsIn, SpanIs}
 use Rattle.expander.specs.Substitution.{parameterText, parameterWidth, OneDigit, Leads, Lays}
-use Rattle.expander.specs.declared.arguments.Arguments.{Arguments}
-use Rattle.expander.specs.declared.arguments.Span.{Span}
 use Rattle.expander.specs.declared.substitution.Parameter.{Parameter}
 use Rattle.expander.specs.declared.substitution.Parameter.the-variants as kind
 use Rattle.expander.proofs.FilledLaws.{filled-front, filled-long, part-fills, byte-fills}
-use Rattle.expander.proofs.Packing.{count-is}
+use Rattle.expander.proofs.ArgumentLaws.{bits-plain}
 
 -- ---- a text of two bytes at least
 
@@ -229,13 +226,9 @@ decimal-few n =
     let e : length (decimal (pos n)) ≡ length ds = ap (λ (k : ℕ). length (replicate k 48 ++ ds)) none in
     omega (arith, e, digits-few (suc n) 10 n)
 
-plain-value : (n : ℕ) → n ≤ 2147483647 → signedValue n ≡ pos n
-unfolding signedValue
-plain-value n h = rw (lt-ltb n 2147483648 (omega arith))
-
 -- the bits of a number that is not negative stand for it
 pub decimal-long : {k n : ℕ} → k ≤ 2147483647 → n ≡ length (decimal (signedValue k)) → n ≡ length (decimal (pos k))
-decimal-long {k} {n} h e = subst (λ (z : ℤ). n ≡ length (decimal z)) (plain-value k h) e
+decimal-long {k} {n} h e = subst (λ (z : ℤ). n ≡ length (decimal z)) (bits-plain k h) e
 
 -- as `write_decimal` leaves a part of a buffer
 pub decimal-fills : (d : Bytes) (a : ℕ) {k n : ℕ} {y : Bytes} {r : Bool} → k ≤ 2147483647 → n ≡ length (decimal (signedValue k)) → a + length (decimal (pos k)) ≤ length d
@@ -243,19 +236,13 @@ pub decimal-fills : (d : Bytes) (a : ℕ) {k n : ℕ} {y : Bytes} {r : Bool} →
 decimal-fills d a {k} {n} {y} {r} h e fits w =
     let l : n ≡ length (decimal (pos k)) = decimal-long h e in
     let size : length (decimal (signedValue k)) ≡ length (take (a + n - a) (drop a d)) = omega (arith, e, length-take (a + n - a) (drop a d), length-drop a d) in
-    let whole : y ≡ decimal (pos k) = w .written ∙ rw (eq-eqb _ _ size) (ap decimal (plain-value k h)) in
-    record { filled = rw whole (part-fills d (decimal (pos k)) a n (sym l) (omega arith)); behind = ap (λ (z : ℕ). a + z) l }
+    let whole : y ≡ decimal (pos k) = w .written ∙ rw (eq-eqb _ _ size) (ap decimal (bits-plain k h)) in
+    record { filled = rw whole (part-fills d (decimal (pos k)) a (a + n) (omega arith) (omega arith)); behind = ap (λ (z : ℕ). a + z) l }
 
 -- ---- how long the text of a parameter is
 
 pub same-long : (name : Bytes) (args : List Bytes) (m : MarkTexts) {p q : Parameter} {n : ℕ} → p ≡ q → n ≡ length (parameterText name args m q) → n ≡ length (parameterText name args m p)
 same-long name args m e f = f ∙ ap (λ (z : Parameter). length (parameterText name args m z)) (sym e)
-
-pub span-long : {bytes : Bytes} {s : Span} {w : Bytes} → SpanIs bytes s w → s .end - s .start ≡ length w
-span-long {bytes} {s} h = omega (arith, ap length (h .is), length-take (s .end - s .start) (drop (s .start) bytes), length-drop (s .start) bytes, h .ordered, h .inside)
-
-pub few-arguments : {bytes : Bytes} {ends : List ℕ} {x : Arguments} {args : List Bytes} → ArgumentsIn bytes ends x args → length args ≤ 320
-few-arguments {x = x} h = omega (arith, ap length (h .are), length-drop (x .base) (h .strings), count-is (h .packs), h .few)
 
 -- ---- a parameter that is known, and its text as it is written
 

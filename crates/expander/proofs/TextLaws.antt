@@ -1,12 +1,11 @@
 -- dnl and m4exit, and the macros that set text aside.
 use Prim.Native.Nat.{ℕ, _+_, _-_, _≤_, _<_}
-use mathlib.Core.Path.{_≡_, refl, sym, ap, ap₂, subst, _∙_}
+use mathlib.Core.Path.{_≡_, refl, sym, ap, subst, _∙_}
 use mathlib.Core.List.{List, [], _++_}
-use mathlib.Core.Option.{Option, none, some}
+use mathlib.Core.Option.{none, some}
 use native.Mathlib.Omega.{arith}
 use lib.IntN.{pos}
-use lib.ListN.{length, take, drop, length-append, length-drop}
-use lib.Seq.{take-all}
+use lib.ListN.{length, length-append}
 use Rattle.numerals.specs.Answers.{naturalOf}
 use Rattle.numerals.specs.declared.Natural.{Natural}
 use Rattle.numerals.specs.declared.Natural.the-variants as natural
@@ -29,48 +28,27 @@ use Rattle.expander.specs.Front.{Front}
 use Rattle.expander.specs.Machine.{memory, Means, Gives, sourceSet, sinksSet, wrapSet, errorsSet, turned}
 use Rattle.expander.specs.Sinks.{SinksIn}
 use Rattle.expander.specs.Source.{SourceIn}
-use Rattle.expander.proofs.FilledLaws.{filled-front, filled-long}
+use Rattle.expander.proofs.FilledLaws.{filled-long, front-more}
 use Rattle.expander.proofs.MachineLaws.{front-long, pending-fits, calls-fit, table-fits, streams-fit, wrap-fits, over-wrap, over-errors, gives-stop}
 use Rattle.expander.proofs.Parted.{with-source, with-sinks, with-wrap, with-errors}
-use Rattle.expander.proofs.SourceLaws.{ahead-is, ahead-long}
+use Rattle.expander.proofs.SourceLaws.{ahead-long, lentAhead, ahead-lent}
 use Rattle.expander.proofs.TurnLaws.{turned-on, turned-refused, turned-full}
 use Rattle.expander.proofs.Waiting.{none-held}
+use Rattle.expander.proofs.ArgumentLaws.{reads-none, reads-some}
 
 -- ---- dnl: the line ahead is taken
 
 module _ {text pending : Bytes} {p : Position} {x : Source} (h : SourceIn text pending p x) where
-  -- the two slices that the code reads are what is ahead
-  parts-ahead : take (length pending - p .from) (drop (p .from) pending) ++ take (length text - p .taken) (drop (p .taken) text) ≡ ahead x
-  parts-ahead =
-      ap₂ (λ (u v : Bytes). u ++ v) (take-all (length pending - p .from) (drop (p .from) pending) (omega (arith, length-drop (p .from) pending)))
-      (take-all (length text - p .taken) (drop (p .taken) text) (omega (arith, length-drop (p .taken) text)))
-      ∙ sym (ahead-is h)
-
-  pub line-ahead : {n : ℕ} → LineEnd (take (length pending - p .from) (drop (p .from) pending) ++ take (length text - p .taken) (drop (p .taken) text)) n → LineEnd (ahead x) n
-  line-ahead {n} l = subst (λ (w : Bytes). LineEnd w n) parts-ahead l
+  pub line-ahead : {n : ℕ} → LineEnd (lentAhead text pending p) n → LineEnd (ahead x) n
+  line-ahead {n} l = subst (λ (w : Bytes). LineEnd w n) (ahead-lent h) l
 
   pub line-most : {n : ℕ} → LineEnd (ahead x) n → length text ≤ 65536 → length pending ≤ 65536 → n ≤ 131072
   line-most l s t = omega (arith, l .within, ahead-long h)
 
--- ---- a text goes behind the one at a buffer's front
-
-front-more : {buffer after : Bytes} {n : ℕ} {w x : Bytes} → Front buffer n w → Filled buffer n x after → Front after (n + length x) (w ++ x)
-front-more {x = x} f g =
-    record { text-is = filled-front g ∙ ap (λ (l : Bytes). l ++ x) (f .text-is); inside = omega (arith, filled-long g, g .fits) }
+-- ---- what does not fit behind the text at a buffer's front
 
 front-over : {buffer : Bytes} {n : ℕ} {w : Bytes} (x : Bytes) → Front buffer n w → length buffer - n < length x → length buffer < length (w ++ x)
 front-over {w = w} x f h = omega (arith, length-append w x, front-long f, f .inside)
-
--- the answer to a number that is read: the number, or none
-number-some : (o : Option ℕ) (n : ℕ) → natural.Number n ≡ naturalOf o → o ≡ some n
-unfolding naturalOf
-number-some none n e = absurd (let z : _≡_ {A = ℕ} 0 1 = cc in omega arith)
-number-some (some k) n e = ap some (cc)
-
-number-none : (o : Option ℕ) → natural.NoNumber ≡ naturalOf o → o ≡ none
-unfolding naturalOf
-number-none none e = refl
-number-none (some k) e = absurd (let z : _≡_ {A = ℕ} 0 1 = cc in omega arith)
 
 module _
     {a : Setting} {text pending calls : Bytes} {callEnds stack : List ℕ} {definitions : Bytes} {tableEnds : List ℕ} {streams : Bytes} {owners : List ℕ}
@@ -125,7 +103,7 @@ module _
           → Gives a (callM4exit args s) (memory text pending calls callEnds stack definitions tableEnds streams owners wrap errors output) t
       unfolding callM4exit faultAnswer
       exit-refused h f =
-          let q : bounded 0 255 (numberOr (pos 0) 1 args) ≡ none = number-none (bounded 0 255 (numberOr (pos 0) 1 args)) (sym h ∙ e) in
+          let q : bounded 0 255 (numberOr (pos 0) 1 args) ≡ none = reads-none e h in
           turned-refused {m = m} noNumber (rw (q, callM4exit)) f
 
       pub exited :
@@ -134,7 +112,7 @@ module _
           → Gives a (callM4exit args s) (memory text pending calls callEnds stack definitions tableEnds streams owners wrap errors output) t
       unfolding callM4exit endingAnswer droppedStreams
       exited code h j k f =
-          let q : bounded 0 255 (numberOr (pos 0) 1 args) ≡ some code = number-some (bounded 0 255 (numberOr (pos 0) 1 args)) code (sym h ∙ e) in
+          let q : bounded 0 255 (numberOr (pos 0) 1 args) ≡ some code = reads-some e code h in
           let z : SinksIn streams owners output (record { current = m .sinks .current; waiting = 0; output = m .sinks .output }) (droppedStreams (s .streams)) =
           record { waiting = none-held streams owners; written = r .sinks .written; current = r .sinks .current } in
           let w : Front wrap 0 [] = record { text-is = refl; inside = omega arith } in

@@ -12,9 +12,9 @@ use Rattle.expander.specs.declared.machine.Went.the-variants as went
 use Rattle.expander.specs.Machine.{Memory, Means, Gives, turned}
 use Rattle.expander.proofs.MachineLaws.{gives-next, gives-refused, gives-room}
 
--- another way to say the outcome
-pub gives-by : {a : Setting} {b : Memory} {t : Turn} {o p : Outcome} → o ≡ p → Gives a p b t → Gives a o b t
-gives-by e g = rw e g
+-- by another way to say the outcome, and what the code hands back
+pub gives-by : {a : Setting} {o o′ : Outcome} {b : Memory} {t t′ : Turn} → o ≡ o′ → t ≡ t′ → Gives a o′ b t′ → Gives a o b t
+gives-by e f g = rw (e, f) g
 
 module _ {a : Setting} {b : Memory} {m : Machine} {o : Outcome} {t : Turn} where
   pub turned-on : {u : State} → Means a b m u → o ≡ next u → t ≡ turned went.On m → Gives a o b t

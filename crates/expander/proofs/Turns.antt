@@ -10,7 +10,7 @@ use native.Mathlib.Omega.{arith}
 use borrow.Author.Tests.{eq-eqb, ne-eqb, leb-true}
 use lib.Dec.{leb}
 use lib.IntN.{ℤ, pos, negsuc}
-use lib.ListN.{length, drop, getD, length-drop, drop-of-length-le}
+use lib.ListN.{length, drop, getD, drop-of-length-le}
 use lib.Seq.{drop-cons}
 use Rattle.numerals.specs.declared.Natural.the-variants as natural
 use Rattle.numerals.specs.Answers.{naturalOf}
@@ -22,7 +22,7 @@ use Rattle.expander.specs.declared.arguments.Arguments.{Arguments}
 use Rattle.expander.specs.Arguments.{ArgumentsIn}
 use Rattle.expander.specs.Streams.{IsStream}
 use Rattle.expander.specs.Diverting.{orZero, streamOf, allNamed, streamsOf, turns}
-use Rattle.expander.proofs.Packing.{count-is}
+use Rattle.expander.proofs.ArgumentLaws.{few-arguments, reads-some, reads-none}
 
 -- ---- the streams that arguments name
 
@@ -39,20 +39,12 @@ bounded-stream (some (pos k)) n e = go (leb 1 k) refl (leb k 9) refl e
 
 module _ (a : Bytes) where
   pub stream-named : {n : ℕ} → naturalOf (bounded 1 9 (number a)) ≡ natural.Number n → n ≡ streamOf a
-  unfolding naturalOf streamOf orZero
-  stream-named {n} e = go (bounded 1 9 (number a)) e
-    where
-      go : (o : Option ℕ) → naturalOf o ≡ natural.Number n → n ≡ orZero o
-      go none q = let z : _≡_ {A = ℕ} 0 1 = cc in absurd (omega arith)
-      go (some k) q = cc
+  unfolding streamOf orZero
+  stream-named {n} e = sym (ap orZero (reads-some {o = bounded 1 9 (number a)} refl n e))
 
   pub stream-unnamed : naturalOf (bounded 1 9 (number a)) ≡ natural.NoNumber → 0 ≡ streamOf a
-  unfolding naturalOf streamOf orZero
-  stream-unnamed e = go (bounded 1 9 (number a)) e
-    where
-      go : (o : Option ℕ) → naturalOf o ≡ natural.NoNumber → 0 ≡ orZero o
-      go none q = refl
-      go (some k) q = let z : _≡_ {A = ℕ} 0 1 = cc in absurd (omega arith)
+  unfolding streamOf orZero
+  stream-unnamed e = sym (ap orZero (reads-none {o = bounded 1 9 (number a)} refl e))
 
   -- it is one of the nine
   named-number : (streamOf a ≡ 0 → ⊥) → bounded 1 9 (number a) ≡ some (streamOf a)
@@ -192,9 +184,6 @@ turn-each (a ∷ more) e k h =
     rw (streams-at (a ∷ more) k l) (streams-each (a ∷ more) e k l)
 
 -- there are few
-pub few-arguments : {bytes : Bytes} {ends : List ℕ} {x : Arguments} {args : List Bytes} → ArgumentsIn bytes ends x args → length args ≤ 320
-few-arguments {x = x} h = omega (arith, ap length (h .are), length-drop (x .base) (h .strings), count-is (h .packs), h .few)
-
 pub few-turns : {bytes : Bytes} {ends : List ℕ} {x : Arguments} {args : List Bytes} → ArgumentsIn bytes ends x args → length (turns args) ≤ 320
 few-turns {args = args} h = go (ℕ-discrete (length args) 0)
   where

@@ -4,13 +4,15 @@ use native.Mathlib.Decide.{ℕ-discrete}
 use native.Mathlib.Omega.{arith}
 use mathlib.Core.Path.{_≡_, refl, sym, ap, ap₂, subst, subst₂, _∙_}
 use mathlib.Core.List.{List, [], _∷_, _++_, append-nil}
-use lib.ListN.{length, take, drop, getD, set, replicate, length-append, length-take, length-set, length-replicate, getD-replicate}
+use lib.ListN.{length, take, getD, set, replicate, length-take, length-set, length-replicate, getD-replicate}
 use lib.Seq.{length-take-le, getD-take, getD-set-same, getD-set-other, set-getD}
 use Rattle.rules.specs.Bytes.{Bytes}
 use Rattle.rules.specs.Streams.{nineEmpty}
 use Rattle.expander.specs.Streams.{ownedBy, ownedCount, IsStream, Owned, StreamsIn, extended, behindStream}
-use Rattle.expander.proofs.Parts.{front-of}
+use Rattle.expander.specs.Filled.{Filled}
 use Rattle.expander.proofs.Owned.{notOwned, owned-append, run-mine, run-other, owned-length, kept-all, kept-gone, kept-others}
+use Rattle.expander.proofs.FilledLaws.{filled-front, filled-long}
+use Rattle.expander.proofs.Parts.{empty-of}
 
 -- a rule that holds of every element of two lists holds of every one of both
 all-append : (P : ℕ → Type 0) (xs ys : List ℕ) → ((k : ℕ) → k < length xs → P (getD xs k 0)) → ((k : ℕ) → k < length ys → P (getD ys k 0)) → (k : ℕ) → k < length (xs ++ ys) → P (getD (xs ++ ys) k 0)
@@ -88,21 +90,12 @@ module _ {b o : List ℕ} {u : ℕ} {ws : List Bytes} (m : StreamsIn b o u ws) (
       (λ j h d. m .texts j h ∙ sym (owned-append (suc j) os (replicate (length w) i) bs w l ∙ ap (λ (x : List ℕ). ownedBy (suc j) os bs ++ x) (run-other i (suc j) d w) ∙ append-nil (ownedBy (suc j) os bs))))
 
 -- the same where w was written into both in its place
-pub appended-at : {b o : List ℕ} {u : ℕ} {ws : List Bytes} → StreamsIn b o u ws → (i : ℕ) → IsStream i → (w b′ o′ : List ℕ) → u + length w ≤ length b → u + length w ≤ length o
-    → b′ ≡ take u b ++ (w ++ drop (u + length w) b) → o′ ≡ take u o ++ (replicate (length w) i ++ drop (u + length w) o) → StreamsIn b′ o′ (u + length w) (extended i w ws)
-appended-at {b} {o} {u} m i s w b′ o′ hb ho eb eo =
-    let n = length w in
-    let fb : take (u + n) b′ ≡ take u b ++ w = ap (take (u + n)) eb ∙ front-of b w u n (omega arith) refl in
-    let fo : take (u + n) o′ ≡ take u o ++ replicate n i = ap (take (u + n)) eo ∙ front-of o (replicate n i) u n (omega arith) (length-replicate n i) in
-    appended m i s w b′ o′
-    (omega (arith, ap length fb, length-take (u + n) b′, length-append (take u b) w, length-take u b))
-    (omega (arith, ap length fo, length-take (u + n) o′, length-append (take u o) (replicate n i), length-take u o, length-replicate n i))
-    fb
-    fo
-
-empty-of : (w : Bytes) → length w ≡ 0 → w ≡ []
-empty-of [] h = refl
-empty-of (x ∷ w) h = absurd (omega arith)
+pub appended-at : {b o : List ℕ} {u : ℕ} {ws : List Bytes} → StreamsIn b o u ws → (i : ℕ) → IsStream i → {w b′ o′ : List ℕ} → Filled b u w b′ → Filled o u (replicate (length w) i) o′
+    → StreamsIn b′ o′ (u + length w) (extended i w ws)
+appended-at {u = u} m i s {w} {b′} {o′} f g =
+    let n = length-replicate (length w) i in
+    appended m i s w b′ o′ (omega (arith, filled-long f, f .fits)) (omega (arith, filled-long g, g .fits, n)) (filled-front f)
+    (ap (λ (k : ℕ). take (u + k) o′) (sym n) ∙ filled-front g)
 
 -- a stream that has no bytes is empty already, and moves nothing
 pub nothing-out : (ws : List Bytes) (i : ℕ) → length (getD ws (i - 1) []) ≡ 0 → set ws (i - 1) [] ≡ ws

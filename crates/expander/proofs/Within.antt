@@ -24,7 +24,7 @@ use Rattle.expander.proofs.Reading.{token-end, token-comment, token-quo
 
 -- the same by cases
 abbrev TokenIn : Bytes → Token → Type 0
-TokenIn text token.End = Unit {0}
+TokenIn text token.End = length text ≡ 0
 TokenIn text (token.Comment e) = e ≤ length text
 TokenIn text (token.Quoted b e n) = (b ≤ e) × (e ≤ n) × (n ≤ length text)
 TokenIn text (token.Name e) = (1 ≤ e) × (e ≤ length text)
@@ -38,6 +38,7 @@ ReadingIn text OpenComment = Unit {0}
 by-cases : (text : Bytes) (r : Reading) → ReadingIn text r → Within text r
 by-cases text r h =
     record {
+      end = λ q. subst (ReadingIn text) q h;
       comment = λ e q. subst (ReadingIn text) q h;
       quoted = λ b e n q. subst (ReadingIn text) q h;
       name = λ e q. subst (ReadingIn text) q h;
@@ -120,7 +121,7 @@ plain-in text h = go (beginsName (getD text 0 0)) refl
     go false e = subst (ReadingIn text) (plain-byte text (getD text 0 0) refl e) (h, refl)
 
 token-in : (m : MarkTexts) (text : Bytes) → ReadingIn text (readToken m text)
-token-in m [] = subst (ReadingIn []) (token-end m [] refl) tt
+token-in m [] = subst (ReadingIn []) (token-end m [] refl) refl
 token-in m (x ∷ xs) = go (metAt (m .beginComment) (m .beginQuote) (x ∷ xs)) refl (omega arith)
   where
     go : (k : Met) → metAt (m .beginComment) (m .beginQuote) (x ∷ xs) ≡ k → 1 ≤ length (x ∷ xs) → ReadingIn (x ∷ xs) (readToken m (x ∷ xs))

@@ -7,10 +7,13 @@ pub mod Diverting
 pub mod Filled
 pub mod Front
 pub mod Machine
+pub mod Macros
 pub mod Packed
 pub mod Results
+pub mod Run
 pub mod Sinks
 pub mod Source
+pub mod Step
 pub mod Streams
 pub mod Substitution
 pub mod Table

@@ -83,6 +83,7 @@ plainRead text = elim (beginsName (getD text 0 0)) [ true ↦ Is (token.Name (na
 
 -- the places of a token lie in the text ahead
 pub record Within (text : Bytes) (r : Reading) : Type 0 where
+  pub end : r ≡ Is token.End → length text ≡ 0
   pub comment : (end : ℕ) → r ≡ Is (token.Comment end) → end ≤ length text
   pub quoted : (begins ends end : ℕ) → r ≡ Is (token.Quoted begins ends end) → (begins ≤ ends) × (ends ≤ end) × (end ≤ length text)
   pub name : (end : ℕ) → r ≡ Is (token.Name end) → (1 ≤ end) × (end ≤ length text)

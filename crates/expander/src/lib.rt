@@ -1,7 +1,9 @@
-// The expander.
+// The expander: the run of a text in the seven lent buffers. Its links and its own error text and output are local, and what it wrote is
+// copied out at the end.
 mod ahead;
 mod arguments;
 mod calls;
+mod closing;
 mod collect;
 mod cuts;
 mod defining;
@@ -13,14 +15,250 @@ mod fill;
 mod giving;
 mod lists;
 mod machine;
+mod macros;
 mod marking;
 mod packed;
 mod pending;
 mod remarking;
+mod run;
 mod sinks;
 mod source;
+mod step;
 mod streams;
 mod substitution;
 mod table;
 mod texts;
 mod tokens;
+
+use rules::Answer;
+use rules::Report;
+ghost use mathlib.Core.Path.{_≡_};
+ghost use mathlib.Core.List.{List, [], _∷_};
+ghost use Prim.Native.Nat.{ℕ, _≤_};
+ghost use lib.ListN.{length};
+ghost use Rattle.rules.specs.State.{freshStart, startState};
+ghost use Rattle.rules.specs.Run.{lengths, runFrom, allLendable};
+ghost use Rattle.rules.specs.Contract.{settingOf, Buffers, Expanded};
+ghost use Rattle.expander.specs.Run.{Lent, LinkLengths, Wrote, Zeroed};
+
+// The run over given links, with what it wrote copied out.
+fn copied(
+    text: &[u8],
+    pending: &mut [u8],
+    calls: &mut [u8],
+    ends: &mut [u32],
+    stack: &mut [u32],
+    definitions: &mut [u8],
+    table_ends: &mut [u32],
+    streams: &mut [u8],
+    owners: &mut [u8],
+    wrap: &mut [u8],
+    error_text: &mut [u8],
+    output_text: &mut [u8],
+    scratch: &mut [u8],
+    errors: &mut [u8],
+    output: &mut [u8],
+    budget: u32,
+) -> Report
+    requires { ⌜ Lent (length (now text)) (length (now pending)) (length (now calls)) (length (now definitions)) (length (now streams)) (length (now wrap)) (length (now errors)) (length (now output)) ⌝ }
+    requires { ⌜ LinkLengths (now ends) (now stack) (now «table_ends») (now owners) × (length (now «error_text») ≡ length (now errors)) × (length (now «output_text») ≡ length (now output)) × (length (now scratch) ≡ 65536) ⌝ }
+    ensures { λ r. ⌜ Wrote (runFrom (lengths (settingOf (record { pending = now (pending .entry); calls = now (calls .entry); definitions = now (definitions .entry); streams = now (streams .entry); wrap = now (wrap .entry); errors = now (errors .entry); output = now (output .entry) }) budget)) budget 0 (startState (freshStart (now (text .entry))))) (now (errors .entry)) (now (output .entry)) (now (errors .exit)) (now (output .exit)) r ⌝ }
+{
+    let r = run::run(
+        text,
+        pending,
+        calls,
+        ends,
+        stack,
+        definitions,
+        table_ends,
+        streams,
+        owners,
+        wrap,
+        error_text,
+        output_text,
+        scratch,
+        budget,
+    );
+    let n = r.output as usize;
+    let k = r.errors as usize;
+    pending::copy_front(&output_text[..n], output);
+    pending::copy_front(&error_text[..k], errors);
+    r
+}
+
+// The same over texts of full length, of which the run gets as much as is lent.
+fn sized(
+    text: &[u8],
+    pending: &mut [u8],
+    calls: &mut [u8],
+    ends: &mut [u32],
+    stack: &mut [u32],
+    definitions: &mut [u8],
+    table_ends: &mut [u32],
+    streams: &mut [u8],
+    owners: &mut [u8],
+    wrap: &mut [u8],
+    error_text: &mut [u8],
+    output_text: &mut [u8],
+    scratch: &mut [u8],
+    errors: &mut [u8],
+    output: &mut [u8],
+    budget: u32,
+) -> Report
+    requires { ⌜ Lent (length (now text)) (length (now pending)) (length (now calls)) (length (now definitions)) (length (now streams)) (length (now wrap)) (length (now errors)) (length (now output)) ⌝ }
+    requires { ⌜ LinkLengths (now ends) (now stack) (now «table_ends») (now owners) × (length (now «error_text») ≡ 65536) × (length (now «output_text») ≡ 65536) × (length (now scratch) ≡ 65536) ⌝ }
+    ensures { λ r. ⌜ Wrote (runFrom (lengths (settingOf (record { pending = now (pending .entry); calls = now (calls .entry); definitions = now (definitions .entry); streams = now (streams .entry); wrap = now (wrap .entry); errors = now (errors .entry); output = now (output .entry) }) budget)) budget 0 (startState (freshStart (now (text .entry))))) (now (errors .entry)) (now (output .entry)) (now (errors .exit)) (now (output .exit)) r ⌝ }
+{
+    let n = output.len();
+    let k = errors.len();
+    copied(
+        text,
+        pending,
+        calls,
+        ends,
+        stack,
+        definitions,
+        table_ends,
+        streams,
+        owners,
+        wrap,
+        &mut error_text[..k],
+        &mut output_text[..n],
+        scratch,
+        errors,
+        output,
+        budget,
+    )
+}
+
+// The same over local links.
+fn work(
+    text: &[u8],
+    pending: &mut [u8],
+    calls: &mut [u8],
+    definitions: &mut [u8],
+    streams: &mut [u8],
+    wrap: &mut [u8],
+    errors: &mut [u8],
+    output: &mut [u8],
+    budget: u32,
+) -> Report
+    requires { ⌜ Lent (length (now text)) (length (now pending)) (length (now calls)) (length (now definitions)) (length (now streams)) (length (now wrap)) (length (now errors)) (length (now output)) ⌝ }
+    ensures { λ r. ⌜ Wrote (runFrom (lengths (settingOf (record { pending = now (pending .entry); calls = now (calls .entry); definitions = now (definitions .entry); streams = now (streams .entry); wrap = now (wrap .entry); errors = now (errors .entry); output = now (output .entry) }) budget)) budget 0 (startState (freshStart (now (text .entry))))) (now (errors .entry)) (now (output .entry)) (now (errors .exit)) (now (output .exit)) r ⌝ }
+{
+    let mut ends = [0u32; 320];
+    let mut stack = [0u32; 192];
+    let mut table_ends = [0u32; 131072];
+    let mut owners = [0u8; 65536];
+    let mut error_text = [0u8; 65536];
+    let mut output_text = [0u8; 65536];
+    let mut scratch = [0u8; 65536];
+    sized(
+        text,
+        pending,
+        calls,
+        &mut ends,
+        &mut stack,
+        definitions,
+        &mut table_ends,
+        streams,
+        &mut owners,
+        wrap,
+        &mut error_text,
+        &mut output_text,
+        &mut scratch,
+        errors,
+        output,
+        budget,
+    )
+}
+
+// The five working buffers are all zero.
+fn clear_five(a: &mut [u8], b: &mut [u8], c: &mut [u8], d: &mut [u8], e: &mut [u8])
+    ensures { λ _. ⌜ Zeroed (now (a .entry)) (now (a .exit)) × Zeroed (now (b .entry)) (now (b .exit)) × Zeroed (now (c .entry)) (now (c .exit)) × Zeroed (now (d .entry)) (now (d .exit)) × Zeroed (now (e .entry)) (now (e .exit)) ⌝ }
+{
+    pending::clear(a);
+    pending::clear(b);
+    pending::clear(c);
+    pending::clear(d);
+    pending::clear(e);
+}
+
+// None of the lengths is above 65,536 bytes.
+fn lendable(t: usize, a: usize, b: usize, c: usize, d: usize, e: usize, f: usize, g: usize) -> bool
+    ensures { λ r. ⌜ r ≡ allLendable (t ∷ a ∷ b ∷ c ∷ d ∷ e ∷ f ∷ g ∷ []) ⌝ }
+{
+    if 65536 < t {
+        return false;
+    }
+    if 65536 < a {
+        return false;
+    }
+    if 65536 < b {
+        return false;
+    }
+    if 65536 < c {
+        return false;
+    }
+    if 65536 < d {
+        return false;
+    }
+    if 65536 < e {
+        return false;
+    }
+    if 65536 < f {
+        return false;
+    }
+    if 65536 < g {
+        return false;
+    }
+    true
+}
+
+// Expands a text in lent buffers, under a budget of steps.
+pub fn expand(
+    text: &[u8],
+    pending: &mut [u8],
+    calls: &mut [u8],
+    definitions: &mut [u8],
+    streams: &mut [u8],
+    wrap: &mut [u8],
+    errors: &mut [u8],
+    output: &mut [u8],
+    budget: u32,
+) -> Report
+    ensures { λ r. ⌜ Expanded (now (text .entry)) budget (record { pending = now (pending .entry); calls = now (calls .entry); definitions = now (definitions .entry); streams = now (streams .entry); wrap = now (wrap .entry); errors = now (errors .entry); output = now (output .entry) }) (record { pending = now (pending .exit); calls = now (calls .exit); definitions = now (definitions .exit); streams = now (streams .exit); wrap = now (wrap .exit); errors = now (errors .exit); output = now (output .exit) }) r ⌝ }
+{
+    if lendable(
+        text.len(),
+        pending.len(),
+        calls.len(),
+        definitions.len(),
+        streams.len(),
+        wrap.len(),
+        errors.len(),
+        output.len(),
+    ) {
+        let r = work(
+            text,
+            pending,
+            calls,
+            definitions,
+            streams,
+            wrap,
+            errors,
+            output,
+            budget,
+        );
+        clear_five(pending, calls, definitions, streams, wrap);
+        return r;
+    }
+    Report {
+        answer: Answer::Lend,
+        steps: 0,
+        place: 0,
+        output: 0,
+        errors: 0,
+    }
+}

@@ -1,4 +1,5 @@
 // Byte strings packed one after the other from the front of a lent buffer, the end of each in `ends` beside it.
+use crate::fill;
 ghost use mathlib.Core.Path.{_≡_};
 ghost use mathlib.Core.List.{List, [], _∷_, _++_, map};
 ghost use Prim.Native.Nat.{ℕ, _+_, _-_, _^_, _≤_, _<_};
@@ -96,9 +97,7 @@ pub(crate) fn push_slice(bytes: &mut [u8], ends: &mut [u32], p: Packed, s: &[u8]
     ensures { λ r. ⌜ ((ss : List Bytes) → Packs (now (ends .entry)) (p .count) (now (bytes .entry)) (p .used) ss → Packs (now (ends .exit)) (r .count) (now (bytes .exit)) (r .used) (lastMore ss (now (s .entry)))) ⌝ }
     ensures { λ r. ⌜ (r .count ≡ p .count) × (r .used ≡ p .used + length (now (s .entry))) ⌝ }
 {
-    let used = p.used;
-    let more = used + s.len();
-    ascii::copy(s, &mut bytes[used..more]);
+    fill::fill_slice(s, bytes, p.used);
     grow_last(ends, p, s.len())
 }
 
@@ -231,7 +230,6 @@ pub(crate) fn replace(bytes: &mut [u8], ends: &mut [u32], p: Packed, k: usize, s
 {
     let a = start(ends, k);
     let sized = resize(bytes, ends, p, k, s.len());
-    let e = a + s.len();
-    ascii::copy(s, &mut bytes[a..e]);
+    fill::fill_slice(s, bytes, a);
     sized
 }

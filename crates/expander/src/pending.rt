@@ -1,4 +1,5 @@
 // Pending text lies at the end of a lent buffer: it is what stands from `from` on. With it, the other ways to fill a buffer.
+use crate::fill;
 ghost use mathlib.Core.Path.{_≡_};
 ghost use mathlib.Core.List.{_++_};
 ghost use Prim.Native.Nat.{_-_, _≤_};
@@ -10,9 +11,9 @@ pub(crate) fn push(buffer: &mut [u8], from: usize, s: &[u8]) -> usize
     requires { ⌜ (length (now s) ≤ from) × (from ≤ length (now buffer)) ⌝ }
     ensures { λ r. ⌜ (r ≡ from - length (now (s .entry))) × (drop r (now (buffer .exit)) ≡ now (s .entry) ++ drop from (now (buffer .entry))) ⌝ }
 {
-    let a = from - s.len();
-    ascii::copy(s, &mut buffer[a..from]);
-    a
+    let at = from - s.len();
+    fill::fill_slice(s, buffer, at);
+    at
 }
 
 // All zero.
@@ -31,6 +32,5 @@ pub(crate) fn copy_front(src: &[u8], dst: &mut [u8])
     requires { ⌜ length (now src) ≤ length (now dst) ⌝ }
     ensures { λ _. ⌜ now (dst .exit) ≡ fronted (now (src .entry)) (now (dst .entry)) ⌝ }
 {
-    let n = src.len();
-    ascii::copy(src, &mut dst[..n]);
+    fill::fill_slice(src, dst, 0);
 }

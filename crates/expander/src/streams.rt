@@ -1,5 +1,6 @@
 // Streams 1 to 9 in one lent buffer, in order of arrival: beside each of the first `used` bytes stands its owner, the number of
 // its stream. An append moves nothing; whatever else there is takes a fixed number of passes.
+use crate::fill;
 ghost use mathlib.Core.Path.{_≡_};
 ghost use mathlib.Core.List.{List, [], _++_};
 ghost use Prim.Native.Nat.{ℕ, _+_, _-_, _^_, _≤_, _<_};
@@ -33,10 +34,9 @@ pub(crate) fn append(bytes: &mut [u8], owners: &mut [u8], used: usize, i: u8, s:
     ensures { λ r. ⌜ (r ≡ used + length (now (s .entry))) × ((ws : List Bytes) → IsStream i → StreamsIn (now (bytes .entry)) (now (owners .entry)) used ws → StreamsIn (now (bytes .exit)) (now (owners .exit)) r (extended i (now (s .entry)) ws)) ⌝ }
 {
     let n = s.len();
-    let more = used + n;
-    ascii::copy(s, &mut bytes[used..more]);
+    fill::fill_slice(s, bytes, used);
     own(owners, used, n, i);
-    more
+    used + n
 }
 
 // How many bytes stream i has.

@@ -5,7 +5,8 @@ use mathlib.Core.List.{_++_}
 use lib.ListN.{length}
 use lib.Seq.{length-take-le}
 use borrow.Author.Needs.{needs}
-use Rattle.expander.proofs.Border.{part-size, out-of-rest, out-of-front, out-of-both, second-part, written-twice}
+use Rattle.expander.proofs.Border.{out-of-rest, out-of-front, out-of-both, second-part, written-twice}
+use Rattle.expander.proofs.Parts.{part-size}
 use Rattle.expander.proofs.ahead.copy_ahead.Statement.{statement}
 use Rattle.expander.proofs.ahead.copy_ahead.Tie as tie
 

@@ -1,10 +1,8 @@
+-- `expander::calls::closed` meets its contract. Assumes nothing.
 use Rattle.expander.proofs.CallsLaws.{calls-closed}
 use borrow.Author.Needs.{needs}
 use Rattle.expander.proofs.calls.closed.Statement.{statement}
 use Rattle.expander.proofs.calls.closed.Tie as tie
-use Rattle.expander.proofs.calls.closed.Reads as reads
-use Rattle.expander.proofs.calls.closed.Lts as lts
-use Rattle.expander.proofs.packed.start.Reads as start-reads
 
 start-requires : tie.Need-start-requires
 start-requires c κs = search needs

@@ -1,11 +1,10 @@
+-- `expander::calls::collected` meets its contract. Assumes nothing.
 use Rattle.expander.proofs.CallsLaws.{calls-collected, some-strings}
 use native.Mathlib.Omega.{arith}
 use lib.ListN.{length-set}
 use borrow.Author.Needs.{needs}
 use Rattle.expander.proofs.calls.collected.Statement.{statement}
 use Rattle.expander.proofs.calls.collected.Tie as tie
-use Rattle.expander.proofs.calls.collected.Reads as reads
-use Rattle.expander.proofs.calls.collected.Lts as lts
 
 add-used : tie.Need-add-used
 add-used c = search needs

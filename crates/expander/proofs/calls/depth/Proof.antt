@@ -1,9 +1,8 @@
+-- `expander::calls::depth` meets its contract. Assumes nothing.
 use Rattle.expander.proofs.CallsLaws.{top-depth}
 use borrow.Author.Needs.{needs}
 use Rattle.expander.proofs.calls.depth.Statement.{statement}
 use Rattle.expander.proofs.calls.depth.Tie as tie
-use Rattle.expander.proofs.calls.depth.Reads as reads
-use Rattle.expander.proofs.calls.depth.Lts as lts
 
 sub-top : tie.Need-sub-top
 sub-top c = search needs

@@ -1,11 +1,10 @@
+-- `expander::calls::first_string` meets its contract. Assumes nothing.
 use Prim.Native.Nat.{_*_, _-_}
 use Rattle.expander.proofs.CallsLaws.{top-first}
 use native.Mathlib.Omega.{arith}
 use borrow.Author.Needs.{needs}
 use Rattle.expander.proofs.calls.first_string.Statement.{statement}
 use Rattle.expander.proofs.calls.first_string.Tie as tie
-use Rattle.expander.proofs.calls.first_string.Reads as reads
-use Rattle.expander.proofs.calls.first_string.Lts as lts
 
 sub-top : tie.Need-sub-top
 sub-top c = search needs

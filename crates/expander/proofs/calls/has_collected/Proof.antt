@@ -1,9 +1,8 @@
+-- `expander::calls::has_collected` meets its contract. Assumes nothing.
 use Rattle.expander.proofs.CallsLaws.{top-collected}
 use borrow.Author.Needs.{needs}
 use Rattle.expander.proofs.calls.has_collected.Statement.{statement}
 use Rattle.expander.proofs.calls.has_collected.Tie as tie
-use Rattle.expander.proofs.calls.has_collected.Reads as reads
-use Rattle.expander.proofs.calls.has_collected.Lts as lts
 
 sub-top : tie.Need-sub-top
 sub-top c = search needs

@@ -1,11 +1,10 @@
+-- `expander::calls::opened` meets its contract. Assumes nothing.
 use Rattle.expander.proofs.CallsLaws.{calls-opened}
 use native.Mathlib.Omega.{arith}
 use lib.ListN.{length-set}
 use borrow.Author.Needs.{needs}
 use Rattle.expander.proofs.calls.opened.Statement.{statement}
 use Rattle.expander.proofs.calls.opened.Tie as tie
-use Rattle.expander.proofs.calls.opened.Reads as reads
-use Rattle.expander.proofs.calls.opened.Lts as lts
 
 add-used : tie.Need-add-used
 add-used c = search needs

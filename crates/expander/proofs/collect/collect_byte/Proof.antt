@@ -1,12 +1,10 @@
+-- `expander::collect::collect_byte` meets its contract. Assumes nothing.
 use mathlib.Core.Path.{refl}
 use mathlib.Core.List.{[], _∷_}
 use Rattle.expander.proofs.FilledLaws.{byte-fills}
 use borrow.Author.Needs.{needs}
 use Rattle.expander.proofs.collect.collect_byte.Statement.{statement}
 use Rattle.expander.proofs.collect.collect_byte.Tie as tie
-use Rattle.expander.proofs.collect.collect_byte.Reads as reads
-use Rattle.expander.proofs.collect.collect_byte.Lts as lts
-use Rattle.expander.proofs.calls.collected.Reads as collected-reads
 
 slice-write-bytes : tie.Need-slice-write-bytes
 slice-write-bytes c = search needs

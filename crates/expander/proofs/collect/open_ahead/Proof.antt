@@ -1,3 +1,4 @@
+-- `expander::collect::open_ahead` meets its contract. Assumes nothing.
 use native.Mathlib.Omega.{arith}
 use mathlib.Core.List.{_++_}
 use lib.ListN.{take}
@@ -5,10 +6,6 @@ use Rattle.expander.proofs.SinksLaws.{ahead-taken}
 use borrow.Author.Needs.{needs}
 use Rattle.expander.proofs.collect.open_ahead.Statement.{statement}
 use Rattle.expander.proofs.collect.open_ahead.Tie as tie
-use Rattle.expander.proofs.collect.open_ahead.Reads as reads
-use Rattle.expander.proofs.collect.open_ahead.Lts as lts
-use Rattle.expander.proofs.calls.opened.Reads as opened-reads
-use Rattle.expander.proofs.fill.fill_ahead.Reads as fill-ahead-reads
 
 fill-ahead-requires : tie.Need-fill-ahead-requires
 fill-ahead-requires c κs = search needs

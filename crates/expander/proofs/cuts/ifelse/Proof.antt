@@ -2,7 +2,8 @@
 -- left. Assumes nothing.
 use Prim.Native.Nat.{_-_}
 use native.Mathlib.Omega.{arith}
-use Rattle.expander.proofs.CutLaws.{cuts-same, cuts-nothing, argument-links, Choosing, choosing-begins, choosing-on, none-left, taken-left, other-left}
+use Rattle.expander.proofs.ArgumentLaws.{argument-links}
+use Rattle.expander.proofs.CutLaws.{cuts-same, cuts-nothing, Choosing, choosing-begins, choosing-on, none-left, taken-left, other-left}
 use borrow.Author.Needs.{needs}
 use Rattle.expander.proofs.cuts.ifelse.Statement.{statement}
 use Rattle.expander.proofs.cuts.ifelse.Tie as tie

@@ -1,7 +1,8 @@
 -- `expander::cuts::substr` meets its contract. Assumes nothing.
 use native.Mathlib.Omega.{arith}
 use Rattle.rules.specs.Arguments.{arg}
-use Rattle.expander.proofs.CutLaws.{cuts-same, span-long, no-start, no-count, start-and-count}
+use Rattle.expander.proofs.ArgumentLaws.{span-long}
+use Rattle.expander.proofs.CutLaws.{cuts-same, no-start, no-count, start-and-count}
 use borrow.Author.Needs.{needs}
 use Rattle.expander.proofs.cuts.substr.Statement.{statement}
 use Rattle.expander.proofs.cuts.substr.Tie as tie

@@ -3,8 +3,9 @@ use native.Mathlib.Omega.{arith}
 use mathlib.Core.Path.{refl, ap}
 use lib.ListN.{length}
 use Rattle.rules.specs.Table.{defined}
+use Rattle.expander.proofs.ArgumentLaws.{argument-short}
 use Rattle.expander.proofs.Rows.{sound}
-use Rattle.expander.proofs.DefiningLaws.{argument-short, name-long, define-is, unnamed, overfilled, named}
+use Rattle.expander.proofs.DefiningLaws.{name-long, define-is, unnamed, overfilled, named}
 use borrow.Author.Needs.{needs}
 use Rattle.expander.proofs.defining.define.Statement.{statement}
 use Rattle.expander.proofs.defining.define.Tie as tie

@@ -8,8 +8,9 @@ use Rattle.rules.specs.Bytes.{Bytes}
 use Rattle.rules.specs.Table.{Table, undefined}
 use Rattle.expander.specs.Arguments.{ArgumentsIn}
 use Rattle.expander.specs.Table.{TableIn}
+use Rattle.expander.proofs.ArgumentLaws.{few-arguments}
 use Rattle.expander.proofs.Rows.{sound}
-use Rattle.expander.proofs.DefiningLaws.{arguments-few, undefine-is, removed, InTurn, turns-begin, turns-on, turns-end}
+use Rattle.expander.proofs.DefiningLaws.{undefine-is, removed, InTurn, turns-begin, turns-on, turns-end}
 use borrow.Author.Needs.{needs}
 use Rattle.expander.proofs.defining.undefine.Statement.{statement}
 use Rattle.expander.proofs.defining.undefine.Tie as tie
@@ -38,7 +39,7 @@ have-is c args h = c .before .before .before .count .ensures (entry c .args .cal
 have-few : (c : tie.In-loop Inv-loop μ-loop) → c .before .before .before .count .result ≤ 320
 have-few c =
     let g = entry c .pre .1 in
-    omega (arith, have-is c (g .args) (g .holds), arguments-few (g .holds))
+    omega (arith, have-is c (g .args) (g .holds), few-arguments (g .holds))
 
 add-k : tie.Need-add-k Inv-loop μ-loop
 add-k c = omega (arith, c .loop-test .taken, have-few c)

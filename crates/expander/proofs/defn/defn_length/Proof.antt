@@ -7,8 +7,8 @@ use Rattle.rules.specs.Marks.{markTexts}
 use Rattle.rules.specs.Table.{Table}
 use Rattle.expander.specs.Arguments.{ArgumentsIn}
 use Rattle.expander.specs.Table.{TableIn}
+use Rattle.expander.proofs.ArgumentLaws.{few-arguments}
 use Rattle.expander.proofs.DefnLaws.{Measured, measured-begins, measured-on, measured-none, measured-ends}
-use Rattle.expander.proofs.SubstitutionLaws.{few-arguments}
 use borrow.Author.Needs.{needs}
 use Rattle.expander.proofs.defn.defn_length.Statement.{statement}
 use Rattle.expander.proofs.defn.defn_length.Tie as tie

@@ -9,8 +9,8 @@ use Rattle.rules.specs.Marks.{markTexts}
 use Rattle.rules.specs.Table.{Table}
 use Rattle.expander.specs.Arguments.{ArgumentsIn}
 use Rattle.expander.specs.Table.{TableIn}
+use Rattle.expander.proofs.ArgumentLaws.{few-arguments}
 use Rattle.expander.proofs.DefnLaws.{Joining, joining-begins, joining-room, joining-on, joining-ends}
-use Rattle.expander.proofs.SubstitutionLaws.{few-arguments}
 use borrow.Author.Needs.{needs}
 use Rattle.expander.proofs.defn.fill_defn.Statement.{statement}
 use Rattle.expander.proofs.defn.fill_defn.Tie as tie

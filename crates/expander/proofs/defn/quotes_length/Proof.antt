@@ -1,9 +1,9 @@
--- `expander::defn::quotes_length` meets its contract: the law `quoted-long`. Assumes nothing.
+-- `expander::defn::quotes_length` meets its contract: the law `quoted-size`. Assumes nothing.
 use native.Mathlib.Omega.{arith}
-use Rattle.expander.proofs.DefnLaws.{quoted-long}
 use borrow.Author.Needs.{needs}
 use Rattle.expander.proofs.defn.quotes_length.Statement.{statement}
 use Rattle.expander.proofs.defn.quotes_length.Tie as tie
+use Rattle.expander.proofs.ListLaws.{quotes-are, quoted-size}
 
 cast-result : tie.Need-cast-result
 cast-result c = search needs
@@ -17,7 +17,7 @@ add-result c = search needs
 returns : tie.Need-returns
 returns c =
     let s = c .before .before in
-    (quoted-long (s .args .marks) (search needs) (search needs) (s .pre), omega arith)
+    (λ w. omega (arith, quoted-size (quotes-are (s .args .marks) (search needs) (search needs) (s .pre)) w), omega arith)
 
 pub quotes-length-spec : {M : Type 1} → statement M
 quotes-length-spec = tie.close (tie.spec cast-result cast-result-2 add-result returns)

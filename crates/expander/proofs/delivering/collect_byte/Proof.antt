@@ -1,11 +1,13 @@
 -- `expander::delivering::collect_byte` meets its contract: the byte does not fit, or the innermost call has it. Assumes nothing.
 use native.Mathlib.Omega.{arith}
 use mathlib.Core.List.{[], _∷_}
-use mathlib.Core.Path.{ap, _∙_}
+use mathlib.Core.Path.{refl, ap, _∙_}
 use Rattle.rules.specs.Step.{collecting}
 use Rattle.expander.specs.declared.machine.Went.the-variants as went
 use Rattle.expander.specs.Machine.{turned}
-use Rattle.expander.proofs.DeliveringLaws.{gives-by, call-room, top-call, collect-one-full, calls-changed}
+use Rattle.expander.proofs.DeliveringLaws.{call-room, collect-one-full, calls-changed}
+use Rattle.expander.proofs.TurnLaws.{gives-by}
+use Rattle.expander.proofs.MachineLaws.{top-call}
 use borrow.Author.Needs.{needs}
 use Rattle.expander.proofs.delivering.collect_byte.Statement.{statement}
 use Rattle.expander.proofs.delivering.collect_byte.Tie as tie
@@ -16,7 +18,7 @@ refused-requires c κs = search needs
 returns : tie.Need-returns
 returns c =
     let e = c .before .before .before .before .before .before in
-    λ a s b x xs r q h. gives-by (c .refused .ensures) (collect-one-full r (e .args .x) (e .args .depth) x xs q (c .before .if1 .taken))
+    λ a s b x xs r q h. gives-by refl (c .refused .ensures) (collect-one-full r (e .args .x) (e .args .depth) x xs q (c .before .if1 .taken))
 
 collect-byte-requires : tie.Need-collect-byte-requires
 collect-byte-requires c κs =
@@ -44,7 +46,7 @@ returns-2 c =
     let k = c .before .before .before .before .before .before .before .before .collect-byte in
     let l = k .kept .1 .1 in
     λ a s b x xs r q h.
-    gives-by (c .on .ensures ∙ ap (turned went.On) (c .before .with-calls .ensures))
+    gives-by refl (c .on .ensures ∙ ap (turned went.On) (c .before .with-calls .ensures))
     (calls-changed r (l .0) (l .1 .0) (l .1 .1 .0) (collecting (e .args .x ∷ []) (e .args .depth) x ∷ xs) (k .ensures x xs (top-call r q) h))
 
 pub collect-byte-spec : {M : Type 1} → statement M

@@ -1,11 +1,13 @@
 -- `expander::delivering::collect_token` meets its contract: the bytes do not fit, or the innermost call has them and the token is taken. Assumes nothing.
 use native.Mathlib.Omega.{arith}
-use mathlib.Core.Path.{ap, _∙_}
+use mathlib.Core.Path.{refl, ap, _∙_}
 use lib.ListN.{take, drop}
 use Rattle.rules.specs.Source.{ahead}
 use Rattle.expander.specs.declared.machine.Went.the-variants as went
 use Rattle.expander.specs.Machine.{turned, callsSet}
-use Rattle.expander.proofs.DeliveringLaws.{gives-by, reach-advances, reach-lent, reach-whole, reach-taken, call-room, top-call, collect-full, token-collected}
+use Rattle.expander.proofs.DeliveringLaws.{reach-advances, reach-lent, reach-whole, reach-taken, call-room, collect-full, token-collected}
+use Rattle.expander.proofs.TurnLaws.{gives-by}
+use Rattle.expander.proofs.MachineLaws.{top-call}
 use borrow.Author.Needs.{needs}
 use Rattle.expander.proofs.delivering.collect_token.Statement.{statement}
 use Rattle.expander.proofs.delivering.collect_token.Tie as tie
@@ -20,7 +22,7 @@ returns : tie.Need-returns
 returns c =
     let e = c .before .before .before .before .before .before .before .before .before in
     λ a s b x xs r q.
-    gives-by (c .refused .ensures)
+    gives-by refl (c .refused .ensures)
     (collect-full r (take (e .args .n) (drop (e .args .start) (ahead (s .source)))) (e .args .n) (x .depth) (e .args .width) x xs q (reach-taken r (e .pre .1 .0)) (c .before .if1 .taken))
 
 sub-collect-ahead : tie.Need-sub-collect-ahead
@@ -75,7 +77,7 @@ returns-2 c =
     let l = k .kept .1 .1 .1 .1 in
     let p = c .before .before .before .advanced in
     λ a s b x xs r q.
-    gives-by (c .on .ensures ∙ ap (turned went.On) (c .before .with-calls .ensures ∙ ap (callsSet (k .result)) (c .before .before .with-source .ensures)))
+    gives-by refl (c .on .ensures ∙ ap (turned went.On) (c .before .with-calls .ensures ∙ ap (callsSet (k .result)) (c .before .before .with-source .ensures)))
     (token-collected r (l .0) (l .1 .0) (l .1 .1 .0) (e .args .start) (e .args .n) (e .args .width) x xs (k .ensures x xs (top-call r q))
     (p .ensures (e .args .text .now) (s .source) (r .source) (reach-whole r (e .pre .1 .0))))
 

@@ -1,8 +1,9 @@
 -- `expander::delivering::emit_byte` meets its contract: the byte does not fit, or it is placed. Assumes nothing.
-use mathlib.Core.Path.{ap, _∙_}
+use mathlib.Core.Path.{refl, ap, _∙_}
 use Rattle.expander.specs.declared.machine.Went.the-variants as went
 use Rattle.expander.specs.Machine.{turned}
-use Rattle.expander.proofs.DeliveringLaws.{gives-by, byte-full, byte-emitted}
+use Rattle.expander.proofs.DeliveringLaws.{byte-full, byte-emitted}
+use Rattle.expander.proofs.TurnLaws.{gives-by}
 use borrow.Author.Needs.{needs}
 use Rattle.expander.proofs.delivering.emit_byte.Statement.{statement}
 use Rattle.expander.proofs.delivering.emit_byte.Tie as tie
@@ -15,7 +16,7 @@ refused-requires c κs = search needs
 
 returns : tie.Need-returns
 returns c =
-    λ a s b r. gives-by (c .refused .ensures) (byte-full r (c .before .before .before .before .before .before .args .x) (c .before .before .full .result) (c .before .before .full .ensures) (c .before .if1 .taken))
+    λ a s b r. gives-by refl (c .refused .ensures) (byte-full r (c .before .before .before .before .before .before .args .x) (c .before .before .full .result) (c .before .before .full .ensures) (c .before .if1 .taken))
 
 emit-byte-requires : tie.Need-emit-byte-requires
 emit-byte-requires c κs = search needs
@@ -39,7 +40,7 @@ returns-2 : tie.Need-returns-2
 returns-2 c =
     let k = c .before .before .before .before .before .before .before .before .emit-byte in
     λ a s b r.
-    gives-by (c .on .ensures ∙ ap (turned went.On) (c .before .with-sinks .ensures))
+    gives-by refl (c .on .ensures ∙ ap (turned went.On) (c .before .with-sinks .ensures))
     (byte-emitted r (k .kept .0) (k .kept .1 .0) (k .kept .1 .1 .0) (c .before .before .before .before .before .before .before .before .before .before .before .before .before .before .before .before .before .args .x) (k .ensures (s .streams) (r .sinks)))
 
 pub emit-byte-spec : {M : Type 1} → statement M

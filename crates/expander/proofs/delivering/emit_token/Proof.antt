@@ -1,10 +1,11 @@
 -- `expander::delivering::emit_token` meets its contract: the bytes do not fit, or they are placed and the token is taken. Assumes nothing.
-use mathlib.Core.Path.{ap, _∙_}
+use mathlib.Core.Path.{refl, ap, _∙_}
 use lib.ListN.{take, drop}
 use Rattle.rules.specs.Source.{ahead}
 use Rattle.expander.specs.declared.machine.Went.the-variants as went
 use Rattle.expander.specs.Machine.{turned, sinksSet}
-use Rattle.expander.proofs.DeliveringLaws.{gives-by, reach-advances, reach-whole, reach-taken, token-full, token-emitted}
+use Rattle.expander.proofs.DeliveringLaws.{reach-advances, reach-whole, reach-taken, token-full, token-emitted}
+use Rattle.expander.proofs.TurnLaws.{gives-by}
 use borrow.Author.Needs.{needs}
 use Rattle.expander.proofs.delivering.emit_token.Statement.{statement}
 use Rattle.expander.proofs.delivering.emit_token.Tie as tie
@@ -19,7 +20,7 @@ returns : tie.Need-returns
 returns c =
     let e = c .before .before .before .before .before .before .before .before .before in
     λ a s b r.
-    gives-by (c .refused .ensures)
+    gives-by refl (c .refused .ensures)
     (token-full r (take (e .args .n) (drop (e .args .start) (ahead (s .source)))) (e .args .n) (e .args .width) (c .before .before .full .result) (reach-taken r (e .pre .1)) (c .before .before .full .ensures) (c .before .if1 .taken))
 
 sub-emit-ahead : tie.Need-sub-emit-ahead
@@ -71,7 +72,7 @@ returns-2 c =
     let l = k .kept .1 .1 .1 .1 in
     let p = c .before .before .before .advanced in
     λ a s b r.
-    gives-by (c .on .ensures ∙ ap (turned went.On) (c .before .with-sinks .ensures ∙ ap (sinksSet (k .result)) (c .before .before .with-source .ensures)))
+    gives-by refl (c .on .ensures ∙ ap (turned went.On) (c .before .with-sinks .ensures ∙ ap (sinksSet (k .result)) (c .before .before .with-source .ensures)))
     (token-emitted r (l .0) (l .1 .0) (l .1 .1 .0) (e .args .start) (e .args .n) (e .args .width) (k .ensures (s .streams) (r .sinks))
     (p .ensures (e .args .text .now) (s .source) (r .source) (reach-whole r (e .pre .1))))
 

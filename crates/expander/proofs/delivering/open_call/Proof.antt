@@ -1,13 +1,14 @@
 -- `expander::delivering::open_call` meets its contract: too many calls or arguments, no room for the name, or the call is open. Assumes nothing.
 use Prim.Native.Nat.{suc}
 use native.Mathlib.Omega.{arith}
-use mathlib.Core.Path.{ap, _∙_}
+use mathlib.Core.Path.{refl, ap, _∙_}
 use lib.ListN.{take}
 use Rattle.rules.specs.Source.{ahead}
 use Rattle.expander.specs.declared.machine.Went.the-variants as went
 use Rattle.expander.specs.Machine.{turned, callsSet}
 use Rattle.expander.proofs.CallsLaws.{some-strings}
-use Rattle.expander.proofs.DeliveringLaws.{gives-by, reach-advances, reach-first, reach-name, reach-whole, reach-taken, call-room, open-deep, open-many, open-full, call-opened}
+use Rattle.expander.proofs.DeliveringLaws.{reach-advances, reach-first, reach-name, reach-whole, reach-taken, call-room, open-deep, open-many, open-full, call-opened}
+use Rattle.expander.proofs.TurnLaws.{gives-by}
 use borrow.Author.Needs.{needs}
 use Rattle.expander.proofs.delivering.open_call.Statement.{statement}
 use Rattle.expander.proofs.delivering.open_call.Tie as tie
@@ -17,7 +18,7 @@ refused-requires c κs = search needs
 
 returns : tie.Need-returns
 returns c =
-    λ a s b r. gives-by (c .refused .ensures) (open-deep r (take (c .before .before .before .before .before .before .before .before .args .n) (ahead (s .source))) (suc (c .before .before .before .before .before .before .before .before .args .n)) (c .before .if1 .taken))
+    λ a s b r. gives-by refl (c .refused .ensures) (open-deep r (take (c .before .before .before .before .before .before .before .before .args .n) (ahead (s .source))) (suc (c .before .before .before .before .before .before .before .before .args .n)) (c .before .if1 .taken))
 
 sub-if2 : tie.Need-sub-if2
 sub-if2 c = some-strings (c .before .before .before .before .before .before .before .before .pre .0 .means .calls)
@@ -27,7 +28,7 @@ refused-requires-2 c κs = search needs
 
 returns-2 : tie.Need-returns-2
 returns-2 c =
-    λ a s b r. gives-by (c .refused2 .ensures) (open-many r (take (c .before .before .before .before .before .before .before .before .before .before .args .n) (ahead (s .source))) (suc (c .before .before .before .before .before .before .before .before .before .before .args .n)) (c .before .if2 .taken))
+    λ a s b r. gives-by refl (c .refused2 .ensures) (open-many r (take (c .before .before .before .before .before .before .before .before .before .before .args .n) (ahead (s .source))) (suc (c .before .before .before .before .before .before .before .before .before .before .args .n)) (c .before .if2 .taken))
 
 sub-if3 : tie.Need-sub-if3
 sub-if3 c = c .before .before .before .before .before .before .before .before .before .before .pre .0 .means .calls .strings .used-in
@@ -39,7 +40,7 @@ returns-3 : tie.Need-returns-3
 returns-3 c =
     let e = c .before .before .before .before .before .before .before .before .before .before .before .before in
     λ a s b r.
-    gives-by (c .refused3 .ensures)
+    gives-by refl (c .refused3 .ensures)
     (open-full r (take (e .args .n) (ahead (s .source))) (e .args .n) (suc (e .args .n)) (c .before .before .before .before .before .if1 .left) (c .before .before .before .if2 .left) (reach-taken r (e .pre .1)) (c .before .if3 .taken))
 
 sub-open-ahead : tie.Need-sub-open-ahead
@@ -99,7 +100,7 @@ returns-4 c =
     let l = k .kept .1 .1 .1 in
     let p = c .before .before .before .advanced in
     λ a s b r.
-    gives-by (c .on .ensures ∙ ap (turned went.On) (c .before .with-calls .ensures ∙ ap (callsSet (k .result)) (c .before .before .with-source .ensures)))
+    gives-by refl (c .on .ensures ∙ ap (turned went.On) (c .before .with-calls .ensures ∙ ap (callsSet (k .result)) (c .before .before .with-source .ensures)))
     (call-opened r (l .0) (l .1 .0) (l .1 .1 .0) (e .args .n) (c .before .before .before .before .before .before .before .before .before .before .before .before .before .before .before .before .before .before .before .before .if1 .left) (c .before .before .before .before .before .before .before .before .before .before .before .before .before .before .before .before .before .before .if2 .left) (k .ensures (s .calls) (r .calls))
     (p .ensures (e .args .text .now) (s .source) (r .source) (reach-whole r (reach-name (e .pre .1)))))
 

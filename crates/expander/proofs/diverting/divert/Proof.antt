@@ -1,9 +1,9 @@
 -- `expander::diverting::divert` meets its contract: no number, or another current stream. Assumes nothing.
-use mathlib.Core.Path.{sym, ap, _∙_}
+use mathlib.Core.Path.{refl, sym, ap, _∙_}
 use Rattle.expander.specs.declared.machine.Went.the-variants as went
 use Rattle.expander.specs.Machine.{turned}
 use Rattle.expander.proofs.DivertingLaws.{divert-unread, divert-read}
-use Rattle.expander.proofs.DeliveringLaws.{gives-by}
+use Rattle.expander.proofs.TurnLaws.{gives-by}
 use borrow.Author.Needs.{needs}
 use Rattle.expander.proofs.diverting.divert.Statement.{statement}
 use Rattle.expander.proofs.diverting.divert.Tie as tie
@@ -22,7 +22,7 @@ refused-requires c κs = search needs
 
 returns : tie.Need-returns
 returns c =
-    λ a s b args r h. gives-by (c .refused .ensures) (divert-unread r args (sym (c .before .before .before .decimal-or .ensures args h) ∙ c .before .enum-told .given .1))
+    λ a s b args r h. gives-by refl (c .refused .ensures) (divert-unread r args (sym (c .before .before .before .decimal-or .ensures args h) ∙ c .before .enum-told .given .1))
 
 with-sinks-requires : tie.Need-with-sinks-requires
 with-sinks-requires c κs = search needs
@@ -33,7 +33,7 @@ on-requires c κs = search needs
 returns-2 : tie.Need-returns-2
 returns-2 c =
     λ a s b args r h.
-    gives-by (c .on .ensures ∙ ap (turned went.On) (c .before .with-sinks .ensures)) (divert-read r args _ (sym (c .before .before .before .before .before .decimal-or .ensures args h) ∙ c .before .before .before .current .given .1))
+    gives-by refl (c .on .ensures ∙ ap (turned went.On) (c .before .with-sinks .ensures)) (divert-read r args _ (sym (c .before .before .before .before .before .decimal-or .ensures args h) ∙ c .before .before .before .current .given .1))
 
 pub divert-spec : {M : Type 1} → statement M
 divert-spec =

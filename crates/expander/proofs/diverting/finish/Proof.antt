@@ -1,10 +1,10 @@
 -- `expander::diverting::finish` meets its contract: what waits does not fit, or it stands behind the output. Assumes nothing.
-use mathlib.Core.Path.{ap, _∙_}
+use mathlib.Core.Path.{refl, ap, _∙_}
 use Rattle.rules.specs.declared.Answer.the-variants as answer
 use Rattle.expander.specs.declared.machine.Went.the-variants as went
 use Rattle.expander.specs.Machine.{turned}
 use Rattle.expander.proofs.DivertingLaws.{finish-full, finish-ends}
-use Rattle.expander.proofs.DeliveringLaws.{gives-by}
+use Rattle.expander.proofs.TurnLaws.{gives-by}
 use borrow.Author.Needs.{needs}
 use Rattle.expander.proofs.diverting.finish.Statement.{statement}
 use Rattle.expander.proofs.diverting.finish.Tie as tie
@@ -16,7 +16,7 @@ refused-requires : tie.Need-refused-requires
 refused-requires c κs = search needs
 
 returns : tie.Need-returns
-returns c = λ a s b r. gives-by (c .refused .ensures) (finish-full r (c .before .if1 .taken))
+returns c = λ a s b r. gives-by refl (c .refused .ensures) (finish-full r (c .before .if1 .taken))
 
 add-end : tie.Need-add-end
 add-end c = search needs
@@ -46,7 +46,7 @@ returns-2 : tie.Need-returns-2
 returns-2 c =
     let f = c .before .before .before .before .finish in
     λ a s b r.
-    gives-by (c .ended .ensures ∙ ap (turned (went.Ended answer.Done)) (c .before .with-sinks .ensures))
+    gives-by refl (c .ended .ensures ∙ ap (turned (went.Ended answer.Done)) (c .before .with-sinks .ensures))
     (finish-ends r (f .last .1 .1 .1 .0) (f .ensures (s .streams .waiting) (r .sinks .waiting)) (c .before .before .before .before .before .before .if1 .left))
 
 pub finish-spec : {M : Type 1} → statement M

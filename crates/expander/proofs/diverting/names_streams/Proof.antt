@@ -7,7 +7,8 @@ use lib.ListN.{drop}
 use Rattle.rules.specs.Bytes.{Bytes}
 use Rattle.expander.specs.Arguments.{ArgumentsIn}
 use Rattle.expander.specs.Diverting.{allNamed}
-use Rattle.expander.proofs.Turns.{named-on, named-not, named-all, few-arguments}
+use Rattle.expander.proofs.ArgumentLaws.{few-arguments}
+use Rattle.expander.proofs.Turns.{named-on, named-not, named-all}
 use borrow.Author.Needs.{needs}
 use Rattle.expander.proofs.diverting.names_streams.Statement.{statement}
 use Rattle.expander.proofs.diverting.names_streams.Tie as tie

@@ -5,7 +5,7 @@ use borrow.Author.Tests.{not-true, not-false}
 use Rattle.expander.specs.declared.machine.Went.the-variants as went
 use Rattle.expander.specs.Machine.{turned}
 use Rattle.expander.proofs.DivertingLaws.{undivert-bad, undivert-full, undivert-on}
-use Rattle.expander.proofs.DeliveringLaws.{gives-by}
+use Rattle.expander.proofs.TurnLaws.{gives-by}
 use borrow.Author.Needs.{needs}
 use Rattle.expander.proofs.diverting.undivert.Statement.{statement}
 use Rattle.expander.proofs.diverting.undivert.Tie as tie
@@ -19,7 +19,7 @@ refused-requires c κs = search needs
 returns : tie.Need-returns
 returns c =
     let n = c .before .before .names-streams in
-    λ a s b args r h. gives-by (c .refused .ensures) (undivert-bad r args (sym (n .ensures args h) ∙ not-true (n .result) (c .before .if1 .taken)))
+    λ a s b args r h. gives-by refl (c .refused .ensures) (undivert-bad r args (sym (n .ensures args h) ∙ not-true (n .result) (c .before .if1 .taken)))
 
 move-streams-requires : tie.Need-move-streams-requires
 move-streams-requires c κs =
@@ -50,7 +50,7 @@ returns-2 c =
     let n = c .before .before .before .before .before .before .before .before .before .before .before .before .before .before .before .before .before .before .names-streams in
     let k = c .before .before .before .before .before .before .before .before .before .before .before .move-streams in
     λ a s b args r h.
-    gives-by (c .refused2 .ensures)
+    gives-by refl (c .refused2 .ensures)
     (undivert-full r args (sym (n .ensures args h) ∙ not-false (n .result) (c .before .before .before .before .before .before .before .before .before .before .before .before .before .before .before .before .before .if1 .left)) (k .ensures (s .streams) args (r .sinks) h) (k .kept .1 .1 .1 .1 .0) (not-true (k .result .fits) (c .before .if2 .taken)))
 
 with-sinks-requires : tie.Need-with-sinks-requires
@@ -77,7 +77,7 @@ returns-3 c =
     let k = c .before .before .before .before .before .before .before .before .before .before .before .before .move-streams in
     let l = k .kept .1 .1 in
     λ a s b args r h.
-    gives-by (c .on .ensures ∙ ap (turned went.On) (c .before .with-sinks .ensures))
+    gives-by refl (c .on .ensures ∙ ap (turned went.On) (c .before .with-sinks .ensures))
     (undivert-on r args (sym (n .ensures args h) ∙ not-false (n .result) (c .before .before .before .before .before .before .before .before .before .before .before .before .before .before .before .before .before .before .if1 .left)) (k .ensures (s .streams) args (r .sinks) h) (l .0) (l .1 .0) (l .1 .1 .0) (not-false (k .result .fits) (c .before .before .if2 .left)))
 
 pub undivert-spec : {M : Type 1} → statement M

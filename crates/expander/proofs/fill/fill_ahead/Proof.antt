@@ -1,3 +1,4 @@
+-- `expander::fill::fill_ahead` meets its contract. Assumes nothing.
 use native.Mathlib.Omega.{arith}
 use mathlib.Core.List.{_++_}
 use lib.ListN.{drop, length-drop, length-append}
@@ -5,9 +6,6 @@ use Rattle.expander.proofs.FilledLaws.{fills-front}
 use borrow.Author.Needs.{needs}
 use Rattle.expander.proofs.fill.fill_ahead.Statement.{statement}
 use Rattle.expander.proofs.fill.fill_ahead.Tie as tie
-use Rattle.expander.proofs.fill.fill_ahead.Reads as reads
-use Rattle.expander.proofs.fill.fill_ahead.Lts as lts
-use Rattle.expander.proofs.ahead.copy_ahead.Reads as copy-ahead-reads
 
 add-end : tie.Need-add-end
 add-end c = search needs

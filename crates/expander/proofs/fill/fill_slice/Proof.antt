@@ -1,12 +1,10 @@
+-- `expander::fill::fill_slice` meets its contract. Assumes nothing.
 use mathlib.Core.Path.{refl}
 use lib.ListN.{length}
 use Rattle.expander.proofs.FilledLaws.{fills-copy}
 use borrow.Author.Needs.{needs}
 use Rattle.expander.proofs.fill.fill_slice.Statement.{statement}
 use Rattle.expander.proofs.fill.fill_slice.Tie as tie
-use Rattle.expander.proofs.fill.fill_slice.Reads as reads
-use Rattle.expander.proofs.fill.fill_slice.Lts as lts
-use Rattle.ascii.proofs.copy.Reads as copy-reads
 
 add-end : tie.Need-add-end
 add-end c = search needs

@@ -4,7 +4,8 @@ use mathlib.Core.Path.{refl}
 use native.Mathlib.Omega.{arith}
 use lib.ListN.{length}
 use Rattle.rules.specs.Answers.{faultAnswer, noNumber}
-use Rattle.expander.proofs.GivingLaws.{gives-by, gives-fault, giving-yields, giving-fails, cut-inside, cut-yields, cut-fails}
+use Rattle.expander.proofs.GivingLaws.{giving-yields, giving-fails, cut-inside, cut-yields, cut-fails}
+use Rattle.expander.proofs.TurnLaws.{turned-refused, gives-by}
 use borrow.Author.Needs.{needs}
 use Rattle.expander.proofs.giving.give_cut.Statement.{statement}
 use Rattle.expander.proofs.giving.give_cut.Tie as tie
@@ -20,7 +21,7 @@ refused-requires c κs = search needs
 
 returns : tie.Need-returns
 unfolding faultAnswer
-returns c = λ a s b w r h. gives-fault noNumber (giving-fails s (cut-fails h (c .before .enum-told .given .1))) (c .refused .ensures)
+returns c = λ a s b w r h. turned-refused noNumber (giving-fails s (cut-fails h (c .before .enum-told .given .1))) (c .refused .ensures)
 
 inside : (c : tie.After-give-slice-arg) → (c .before .before .c .given .0 .0 ≤ c .before .before .c .given .0 .1 .0) × (c .before .before .c .given .0 .1 .0 ≤ length (c .before .before .before .before .before .before .args .calls .now))
 inside c = cut-inside _ (c .before .before .before .before .before .before .pre .1) (c .before .before .c .given .1)

@@ -3,7 +3,9 @@ use mathlib.Core.Path.{sym, ap, _∙_}
 use native.Mathlib.Omega.{arith}
 use Rattle.rules.specs.Answers.{faultAnswer, noText}
 use Rattle.expander.specs.declared.defn.DefnLength.the-variants as defnLength
-use Rattle.expander.proofs.GivingLaws.{gives-by, gives-fault, giving-room, giving-part, gap-long, defn-gives, defn-refused, defn-measured, defn-text, defn-fails}
+use Rattle.expander.proofs.GivingLaws.{giving-room, giving-part, gap-long, defn-gives, defn-refused, defn-measured}
+use Rattle.expander.proofs.TurnLaws.{turned-refused, gives-by}
+use Rattle.expander.proofs.DefnLaws.{defn-fails, same-text}
 use borrow.Author.Needs.{needs}
 use Rattle.expander.proofs.giving.give_defn.Statement.{statement}
 use Rattle.expander.proofs.giving.give_defn.Tie as tie
@@ -25,7 +27,7 @@ unfolding faultAnswer
 returns c =
     λ a s b args r x.
     let e = c .before .before .before .defn-length .ensures args (s .table) x (r .table) in
-    gives-fault noText (defn-refused s args (r .marks) (defn-fails _ (s .table) args (sym e ∙ c .before .enum-told .given .1))) (c .refused .ensures)
+    turned-refused noText (defn-refused s args (r .marks) (defn-fails _ (s .table) args (sym e ∙ c .before .enum-told .given .1))) (c .refused .ensures)
 
 refused-requires-2 : tie.Need-refused-requires-2
 refused-requires-2 c κs = search needs
@@ -65,7 +67,7 @@ returns-3 c =
     λ a s b args r x.
     let q = defn-measured _ (n .0 .0) (sym (c .before .before .before .before .before .before .before .before .before .defn-length .ensures args (s .table) x (r .table)) ∙ n .1) in
     gives-by (defn-gives s args (r .marks) (q .is)) (c .pushed .ensures)
-    (giving-part r (q .text) (n .0 .0) (q .long) (omega (arith, c .before .before .before .before .before .if1 .left)) (defn-text q (c .before .before .before .fill-defn .ensures args (s .table) x (r .table))))
+    (giving-part r (q .text) (n .0 .0) (q .long) (omega (arith, c .before .before .before .before .before .if1 .left)) (same-text (c .before .before .before .fill-defn .ensures args (s .table) x (r .table)) (q .is)))
 
 pub give-defn-spec : {M : Type 1} → statement M
 give-defn-spec =

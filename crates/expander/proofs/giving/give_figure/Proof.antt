@@ -2,7 +2,8 @@
 use mathlib.Core.Path.{refl}
 use Rattle.rules.specs.Answers.{faultAnswer, noNumber, noExpression, divisor}
 use Rattle.expander.specs.Results.{figureResult}
-use Rattle.expander.proofs.GivingLaws.{gives-by, gives-fault, giving-yields, giving-fails, figure-fails, figure-yields, figure-radix}
+use Rattle.expander.proofs.GivingLaws.{giving-yields, giving-fails, figure-fails, figure-yields, figure-radix}
+use Rattle.expander.proofs.TurnLaws.{turned-refused, gives-by}
 use borrow.Author.Needs.{needs}
 use Rattle.expander.proofs.giving.give_figure.Statement.{statement}
 use Rattle.expander.proofs.giving.give_figure.Tie as tie
@@ -33,15 +34,15 @@ give-number-requires c κs = search needs
 
 returns : tie.Need-returns
 unfolding figureResult faultAnswer
-returns c = λ a s b w r h. gives-fault noNumber (giving-fails s (figure-fails h (c .before .enum-told .given .1) refl)) (c .refused .ensures)
+returns c = λ a s b w r h. turned-refused noNumber (giving-fails s (figure-fails h (c .before .enum-told .given .1) refl)) (c .refused .ensures)
 
 returns-2 : tie.Need-returns-2
 unfolding figureResult faultAnswer
-returns-2 c = λ a s b w r h. gives-fault noExpression (giving-fails s (figure-fails h (c .before .enum-told2 .given .1) refl)) (c .refused2 .ensures)
+returns-2 c = λ a s b w r h. turned-refused noExpression (giving-fails s (figure-fails h (c .before .enum-told2 .given .1) refl)) (c .refused2 .ensures)
 
 returns-3 : tie.Need-returns-3
 unfolding figureResult faultAnswer
-returns-3 c = λ a s b w r h. gives-fault divisor (giving-fails s (figure-fails h (c .before .enum-told3 .given .1) refl)) (c .refused3 .ensures)
+returns-3 c = λ a s b w r h. turned-refused divisor (giving-fails s (figure-fails h (c .before .enum-told3 .given .1) refl)) (c .refused3 .ensures)
 
 same-length : tie.Need-same-length
 same-length c = search needs

@@ -5,7 +5,8 @@ use native.Mathlib.Omega.{arith}
 use lib.ListN.{length}
 use Rattle.rules.specs.Words.{signedValue}
 use Rattle.rules.specs.Numerals.{writtenIn}
-use Rattle.expander.proofs.GivingLaws.{gives-by, giving-room, giving-part, number-long, number-measured, number-written, gap-long}
+use Rattle.expander.proofs.GivingLaws.{giving-room, giving-part, number-long, number-measured, number-written, gap-long}
+use Rattle.expander.proofs.TurnLaws.{gives-by}
 use borrow.Author.Needs.{needs}
 use Rattle.expander.proofs.giving.give_number.Statement.{statement}
 use Rattle.expander.proofs.giving.give_number.Tie as tie

@@ -1,7 +1,8 @@
 -- `expander::giving::give_shift` meets its contract: the list is written at its place in the buffer. Assumes nothing.
 use mathlib.Core.Path.{sym}
 use native.Mathlib.Omega.{arith}
-use Rattle.expander.proofs.GivingLaws.{gives-by, giving-room, giving-filled, shift-gives}
+use Rattle.expander.proofs.GivingLaws.{giving-room, giving-filled, shift-gives}
+use Rattle.expander.proofs.TurnLaws.{gives-by}
 use borrow.Author.Needs.{needs}
 use Rattle.expander.proofs.giving.give_shift.Statement.{statement}
 use Rattle.expander.proofs.giving.give_shift.Tie as tie

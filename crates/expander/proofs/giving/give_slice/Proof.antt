@@ -2,7 +2,8 @@
 use mathlib.Core.Path.{refl}
 use native.Mathlib.Omega.{arith}
 use lib.ListN.{length}
-use Rattle.expander.proofs.GivingLaws.{gives-by, giving-room, giving-front}
+use Rattle.expander.proofs.GivingLaws.{giving-room, giving-front}
+use Rattle.expander.proofs.TurnLaws.{gives-by}
 use borrow.Author.Needs.{needs}
 use Rattle.expander.proofs.giving.give_slice.Statement.{statement}
 use Rattle.expander.proofs.giving.give_slice.Tie as tie

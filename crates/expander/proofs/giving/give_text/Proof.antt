@@ -4,7 +4,8 @@ use mathlib.Core.Path.{sym, _∙_}
 use native.Mathlib.Omega.{arith}
 use lib.ListN.{length}
 use denote.Ref.{now}
-use Rattle.expander.proofs.GivingLaws.{gives-by, giving-room, giving-part, gap-long, text-short, text-gives}
+use Rattle.expander.proofs.GivingLaws.{giving-room, giving-part, gap-long, text-short, text-gives}
+use Rattle.expander.proofs.TurnLaws.{gives-by}
 use borrow.Author.Needs.{needs}
 use Rattle.expander.proofs.giving.give_text.Statement.{statement}
 use Rattle.expander.proofs.giving.give_text.Tie as tie

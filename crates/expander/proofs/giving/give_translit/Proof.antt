@@ -3,7 +3,8 @@ use Prim.Native.Nat.{_≤_}
 use mathlib.Core.Path.{sym, _∙_}
 use native.Mathlib.Omega.{arith}
 use Rattle.expander.proofs.Parts.{copied-whole}
-use Rattle.expander.proofs.GivingLaws.{gives-by, giving-room, giving-part, gap-long, translit-gives}
+use Rattle.expander.proofs.GivingLaws.{giving-room, giving-part, gap-long, translit-gives}
+use Rattle.expander.proofs.TurnLaws.{gives-by}
 use borrow.Author.Needs.{needs}
 use Rattle.expander.proofs.giving.give_translit.Statement.{statement}
 use Rattle.expander.proofs.giving.give_translit.Tie as tie

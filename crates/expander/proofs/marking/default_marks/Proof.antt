@@ -1,10 +1,9 @@
+-- `expander::marking::default_marks` meets its contract. Assumes nothing.
 use mathlib.Core.Path.{refl}
 use Rattle.rules.specs.Marks.{markTexts, markText, defaultMarks}
 use borrow.Author.Needs.{needs}
 use Rattle.expander.proofs.marking.default_marks.Statement.{statement}
 use Rattle.expander.proofs.marking.default_marks.Tie as tie
-use Rattle.expander.proofs.marking.default_marks.Reads as reads
-use Rattle.expander.proofs.marking.default_marks.Lts as lts
 
 returns : tie.Need-returns
 unfolding markTexts markText defaultMarks

@@ -1,13 +1,10 @@
+-- `expander::marking::is_barred` meets its contract. Assumes nothing.
 use native.Mathlib.Omega.{arith}
-use mathlib.Core.Path.{_≡_, refl, sym, ap, _∙_}
+use mathlib.Core.Path.{sym, _∙_}
 use Rattle.expander.proofs.MarkLaws.{barred-by-name, barred-by-blank, barred-open, barred-close, barred-comma, not-barred}
 use borrow.Author.Needs.{needs}
 use Rattle.expander.proofs.marking.is_barred.Statement.{statement}
 use Rattle.expander.proofs.marking.is_barred.Tie as tie
-use Rattle.expander.proofs.marking.is_barred.Reads as reads
-use Rattle.expander.proofs.marking.is_barred.Lts as lts
-use Rattle.ascii.proofs.continues_name.Reads as continues-name-reads
-use Rattle.ascii.proofs.is_blank.Reads as is-blank-reads
 
 continues-name-requires : tie.Need-continues-name-requires
 continues-name-requires c κs = search needs

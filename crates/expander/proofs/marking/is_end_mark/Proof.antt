@@ -1,12 +1,9 @@
+-- `expander::marking::is_end_mark` meets its contract. Assumes nothing.
 use mathlib.Core.Path.{sym, _∙_}
 use Rattle.expander.proofs.MarkLaws.{end-mark-is, end-mark-newline}
 use borrow.Author.Needs.{needs}
 use Rattle.expander.proofs.marking.is_end_mark.Statement.{statement}
 use Rattle.expander.proofs.marking.is_end_mark.Tie as tie
-use Rattle.expander.proofs.marking.is_end_mark.Reads as reads
-use Rattle.expander.proofs.marking.is_end_mark.Lts as lts
-use Rattle.ascii.proofs.same.Reads as same-reads
-use Rattle.expander.proofs.marking.is_mark.Reads as is-mark-reads
 
 is-mark-requires : tie.Need-is-mark-requires
 is-mark-requires c κs = search needs

@@ -1,11 +1,9 @@
+-- `expander::marking::is_mark` meets its contract. Assumes nothing.
 use mathlib.Core.Path.{sym, _∙_}
 use Rattle.expander.proofs.MarkLaws.{mark-empty, mark-long, mark-tested}
 use borrow.Author.Needs.{needs}
 use Rattle.expander.proofs.marking.is_mark.Statement.{statement}
 use Rattle.expander.proofs.marking.is_mark.Tie as tie
-use Rattle.expander.proofs.marking.is_mark.Reads as reads
-use Rattle.expander.proofs.marking.is_mark.Lts as lts
-use Rattle.expander.proofs.marking.none_barred.Reads as none-barred-reads
 
 returns : tie.Need-returns
 returns c = mark-empty _ (c .if1 .taken)

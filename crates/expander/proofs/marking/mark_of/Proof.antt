@@ -1,14 +1,13 @@
+-- `expander::marking::mark_of` meets its contract. Assumes nothing.
 use Rattle.expander.proofs.MarkLaws.{made}
-use Prim.Native.Nat.{_+_, _-_, _≤_, _<_}
-use mathlib.Core.Path.{_≡_, refl, sym, ap, _∙_}
+use Prim.Native.Nat.{_-_, _≤_}
+use mathlib.Core.Path.{_≡_, refl}
 use native.Mathlib.Omega.{arith}
 use lib.ListN.{length, take, length-set}
 use Rattle.expander.proofs.MarkLaws.{written-on}
 use borrow.Author.Needs.{needs}
 use Rattle.expander.proofs.marking.mark_of.Statement.{statement}
 use Rattle.expander.proofs.marking.mark_of.Tie as tie
-use Rattle.expander.proofs.marking.mark_of.Reads as reads
-use Rattle.expander.proofs.marking.mark_of.Lts as lts
 
 abbrev Inv-loop : tie.InvT-loop
 Inv-loop w bytes₀ i₀ bytes i = (i ≤ length w) × (length bytes ≡ 5) × (take i bytes ≡ take i w)

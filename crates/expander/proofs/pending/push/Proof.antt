@@ -1,27 +1,19 @@
--- `expander::pending::push` meets its contract: s is copied into the part before the pending text. Assumes nothing.
-use Prim.Native.Nat.{_-_}
+-- `expander::pending::push` meets its contract: s is written into the part before the pending text. Assumes nothing.
+use Prim.Native.Nat.{ℕ, _+_, _-_}
 use native.Mathlib.Omega.{arith}
-use mathlib.Core.Path.{refl}
-use lib.ListN.{length}
-use Rattle.expander.proofs.Parts.{part-front, copied-part}
+use mathlib.Core.Path.{_≡_, refl, ap, _∙_}
+use mathlib.Core.List.{_++_}
+use lib.ListN.{length, drop}
+use Rattle.expander.proofs.FilledLaws.{filled-from}
 use borrow.Author.Needs.{needs}
 use Rattle.expander.proofs.pending.push.Statement.{statement}
 use Rattle.expander.proofs.pending.push.Tie as tie
 
-sub-a : tie.Need-sub-a
-sub-a c = search needs
+sub-at : tie.Need-sub-at
+sub-at c = search needs
 
-sub-copy : tie.Need-sub-copy
-sub-copy c = search needs
-
-part-copy-start : tie.Need-part-copy-start
-part-copy-start c = search needs
-
-part-copy-end : tie.Need-part-copy-end
-part-copy-end c = search needs
-
-copy-requires : tie.Need-copy-requires
-copy-requires c κs = search needs
+fill-slice-requires : tie.Need-fill-slice-requires
+fill-slice-requires c κs = search needs
 
 same-length : tie.Need-same-length
 same-length c = search needs
@@ -29,11 +21,9 @@ same-length c = search needs
 returns : tie.Need-returns
 returns c =
     let a = c .before .before .before .before .before .before .args in
-    let y = c .before .before .copy in
-    let at = a .from - length (a .s .now) in
-    (refl, part-front (a .buffer .now) (y .last .1 .0) (a .s .now) at (a .from) (omega arith) (omega arith) (copied-part (a .buffer .now) at (a .from) (y .ensures) (omega arith) (omega arith)))
+    let s = a .s .now in
+    let e : a .from - length s + length s ≡ a .from = omega arith in
+    (refl, filled-from (c .before .before .fill-slice .ensures) ∙ ap (λ (i : ℕ). s ++ drop i (a .buffer .now)) e)
 
 pub push-spec : {M : Type 1} → statement M
-push-spec =
-    tie.close
-    (tie.spec sub-a sub-copy part-copy-start part-copy-end copy-requires same-length returns)
+push-spec = tie.close (tie.spec sub-at fill-slice-requires same-length returns)

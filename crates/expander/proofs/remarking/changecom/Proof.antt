@@ -1,6 +1,6 @@
 -- `expander::remarking::changecom` meets its contract, by the number of arguments. Assumes nothing.
 use native.Mathlib.Omega.{arith}
-use mathlib.Core.Path.{_≡_, _∙_}
+use mathlib.Core.Path.{_≡_, refl, _∙_}
 use lib.ListN.{length}
 use Rattle.expander.specs.Machine.{stringsAt}
 use Rattle.expander.proofs.TurnLaws.{gives-by}
@@ -49,7 +49,7 @@ returns-2 c =
     let p = c .before .before .before .before .before .before .before .before .before .args in
     λ a s b args r h.
     let n : length args ≡ 1 = omega (arith, c .before .before .if2 .taken, c .before .before .before .before .before .before .count .ensures (p .calls .now) (p .ends .now) args h) in
-    gives-by (changecom-one args s (c .before .before .before .argument .ensures args h) n) (c .remarked-comments .ensures a s (stringsAt (p .calls .now) (p .ends .now) b) r)
+    gives-by (changecom-one args s (c .before .before .before .argument .ensures args h) n) refl (c .remarked-comments .ensures a s (stringsAt (p .calls .now) (p .ends .now) b) r)
 
 argument-requires-2 : tie.Need-argument-requires-2
 argument-requires-2 c κs = search needs
@@ -64,7 +64,7 @@ returns-3 c =
     let n = c .before .before .before .before .before .before .count .ensures (p .calls .now) (p .ends .now) args h in
     gives-by
     (changecom-more args s (c .before .before .before .argument .ensures args h) (c .before .argument2 .ensures args h) (λ e. c .before .before .before .before .if1 .left (n ∙ e)) (λ e. c .before .before .if2 .left (n ∙ e)))
-    (c .remarked-comments2 .ensures a s (stringsAt (p .calls .now) (p .ends .now) b) r)
+    refl (c .remarked-comments2 .ensures a s (stringsAt (p .calls .now) (p .ends .now) b) r)
 
 pub changecom-spec : {M : Type 1} → statement M
 changecom-spec =

@@ -1,14 +1,12 @@
+-- `expander::sinks::emit_ahead` meets its contract. Assumes nothing.
 use Prim.Native.Nat.{_+_, _≤_}
 use lib.ListN.{length}
 use native.Mathlib.Omega.{arith}
-use Rattle.expander.proofs.SinksLaws.{fits-output, fits-stream, emitted-output, emitted-stream, emitted-lost, ahead-taken, owned-fills}
+use Rattle.expander.proofs.SinksLaws.{fits-output, fits-stream, emitted-output, emitted-stream, emitted-lost, ahead-taken}
+use Rattle.expander.proofs.FilledLaws.{owned-fills}
 use borrow.Author.Needs.{needs}
 use Rattle.expander.proofs.sinks.emit_ahead.Statement.{statement}
 use Rattle.expander.proofs.sinks.emit_ahead.Tie as tie
-use Rattle.expander.proofs.sinks.emit_ahead.Reads as reads
-use Rattle.expander.proofs.sinks.emit_ahead.Lts as lts
-use Rattle.expander.proofs.fill.fill_ahead.Reads as fill-ahead-reads
-use Rattle.expander.proofs.streams.own.Reads as own-reads
 
 fill-ahead-requires : tie.Need-fill-ahead-requires
 fill-ahead-requires c κs = (c .before .before .before .before .before .before .before .pre .1, fits-output (c .before .before .before .before .before .before .before .pre .0) (c .before .if1 .taken))

@@ -1,3 +1,4 @@
+-- `expander::sinks::emit_byte` meets its contract. Assumes nothing.
 use Rattle.expander.proofs.FilledLaws.{byte-fills}
 use Rattle.expander.proofs.SinksLaws.{fits-output, fits-stream, emitted-output, emitted-stream, emitted-lost}
 use native.Mathlib.Omega.{arith}
@@ -5,8 +6,6 @@ use mathlib.Core.Path.{refl}
 use borrow.Author.Needs.{needs}
 use Rattle.expander.proofs.sinks.emit_byte.Statement.{statement}
 use Rattle.expander.proofs.sinks.emit_byte.Tie as tie
-use Rattle.expander.proofs.sinks.emit_byte.Reads as reads
-use Rattle.expander.proofs.sinks.emit_byte.Lts as lts
 
 slice-write-output : tie.Need-slice-write-output
 slice-write-output c = omega (arith, fits-output (c .before .pre) (c .if1 .taken))

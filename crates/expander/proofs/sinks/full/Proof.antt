@@ -1,10 +1,8 @@
+-- `expander::sinks::full` meets its contract. Assumes nothing.
 use Rattle.expander.proofs.SinksLaws.{full-output, free-output, free-lost, full-stream, free-stream}
-use native.Mathlib.Omega.{arith}
 use borrow.Author.Needs.{needs}
 use Rattle.expander.proofs.sinks.full.Statement.{statement}
 use Rattle.expander.proofs.sinks.full.Tie as tie
-use Rattle.expander.proofs.sinks.full.Reads as reads
-use Rattle.expander.proofs.sinks.full.Lts as lts
 
 sub-if2 : tie.Need-sub-if2
 sub-if2 c = search needs

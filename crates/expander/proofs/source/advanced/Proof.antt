@@ -1,9 +1,8 @@
+-- `expander::source::advanced` meets its contract. Assumes nothing.
 use Rattle.expander.proofs.SourceLaws.{taken-first, taken-past}
 use borrow.Author.Needs.{needs}
 use Rattle.expander.proofs.source.advanced.Statement.{statement}
 use Rattle.expander.proofs.source.advanced.Tie as tie
-use Rattle.expander.proofs.source.advanced.Reads as reads
-use Rattle.expander.proofs.source.advanced.Lts as lts
 
 sub-have : tie.Need-sub-have
 sub-have c = search needs

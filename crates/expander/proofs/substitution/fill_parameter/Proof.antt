@@ -12,7 +12,8 @@ use Rattle.rules.specs.Arguments.{commas}
 use Rattle.expander.specs.Arguments.{ArgumentsIn}
 use Rattle.expander.specs.Substitution.{parameterText, OneDigit}
 use Rattle.expander.specs.declared.substitution.Parameter.{Parameter}
-use Rattle.expander.proofs.SubstitutionLaws.{same-lays, lays-as, byte-lays, few-arguments}
+use Rattle.expander.proofs.ArgumentLaws.{few-arguments}
+use Rattle.expander.proofs.SubstitutionLaws.{same-lays, lays-as, byte-lays}
 use borrow.Author.Needs.{needs}
 use Rattle.expander.proofs.substitution.fill_parameter.Statement.{statement}
 use Rattle.expander.proofs.substitution.fill_parameter.Tie as tie

@@ -10,7 +10,8 @@ use Rattle.rules.specs.Numerals.{decimal}
 use Rattle.rules.specs.Arguments.{arg, commas}
 use Rattle.expander.specs.Arguments.{SpanIs}
 use Rattle.expander.specs.Substitution.{parameterText, OneDigit}
-use Rattle.expander.proofs.SubstitutionLaws.{decimal-long, decimal-few, same-long, span-long, few-arguments}
+use Rattle.expander.proofs.ArgumentLaws.{few-arguments, span-long}
+use Rattle.expander.proofs.SubstitutionLaws.{decimal-long, decimal-few, same-long}
 use borrow.Author.Needs.{needs}
 use Rattle.expander.proofs.substitution.parameter_length.Statement.{statement}
 use Rattle.expander.proofs.substitution.parameter_length.Tie as tie

@@ -1,0 +1,129 @@
+// Expands the text on standard input in 65,536 bytes of each buffer and with a budget of 16,777,216 steps: the output goes to standard output,
+// the error text and a line "number steps place detail" to standard error. A failed read or write is told by a message, and no such
+// line follows.
+use libc::STDERR_FILENO;
+use libc::STDIN_FILENO;
+use libc::STDOUT_FILENO;
+use rules::Answer;
+use rules::Report;
+ghost use mathlib.Core.Path.{_≡_};
+ghost use Prim.Native.Nat.{_≤_};
+ghost use lib.ListN.{length};
+ghost use Rattle.expand.specs.Input.{Fits};
+
+// What was read: so many bytes, up to the end of the input or of the buffer; or a read failed.
+enum Input {
+    Bytes(usize),
+    Failed,
+}
+
+// One byte more than a text may have: a longer one is then answered 2.
+fn text_buffer() -> [u8; 65537]
+    ensures { λ r. ⌜ 65537 ≡ length r ⌝ }
+{
+    [0; 65537]
+}
+
+// Reads standard input to its end, or until the buffer is full.
+fn read_text(buffer: &mut [u8]) -> Input
+    ensures { λ r. ⌜ Fits r (now (buffer .exit)) ⌝ }
+{
+    let mut done = 0;
+    while done < buffer.len() {
+        let got = libc::read(STDIN_FILENO, &mut buffer[done..]);
+        if got < 0 {
+            return Input::Failed;
+        }
+        let n = io::count(got, &buffer[done..]);
+        if n == 0 {
+            return Input::Bytes(done);
+        }
+        done += n;
+    }
+    Input::Bytes(done)
+}
+
+fn number_of(a: Answer) -> u32 {
+    match a {
+        Answer::Done => 0,
+        Answer::Exit(_) => 1,
+        Answer::Lend => 2,
+        Answer::Spent => 3,
+        Answer::Room(_) => 4,
+        Answer::Unclosed(_) => 5,
+        Answer::Name => 6,
+        Answer::Number => 7,
+        Answer::Expression => 8,
+        Answer::Divisor => 9,
+        Answer::Mark => 10,
+        Answer::NoText => 11,
+        Answer::Gone => 12,
+        Answer::Deep => 13,
+    }
+}
+
+fn detail_of(a: Answer) -> u32 {
+    match a {
+        Answer::Exit(code) => code,
+        Answer::Room(buffer) => buffer,
+        Answer::Unclosed(what) => what,
+        _ => 0,
+    }
+}
+
+fn print(n: u32, after: &[u8]) {
+    io::print_decimal(STDERR_FILENO, n as u64);
+    io::write_all(STDERR_FILENO, after);
+}
+
+// The answer line.
+fn print_report(r: Report) {
+    let answer = r.answer;
+    print(number_of(answer), b" ");
+    print(r.steps, b" ");
+    print(r.place, b" ");
+    print(detail_of(answer), b"\n");
+}
+
+fn complain(message: &[u8]) {
+    io::write_all(STDERR_FILENO, message);
+}
+
+fn expand_text(text: &[u8]) {
+    let mut pending = io::large_buffer();
+    let mut calls = io::large_buffer();
+    let mut definitions = io::large_buffer();
+    let mut streams = io::large_buffer();
+    let mut wrap = io::large_buffer();
+    let mut errors = io::large_buffer();
+    let mut output = io::large_buffer();
+    let r = expander::expand(
+        text,
+        &mut pending,
+        &mut calls,
+        &mut definitions,
+        &mut streams,
+        &mut wrap,
+        &mut errors,
+        &mut output,
+        16777216,
+    );
+    let n = r.output as usize;
+    let k = r.errors as usize;
+    if !io::write_all(STDOUT_FILENO, &output[..n]) {
+        complain(b"expand: the output could not be written\n");
+        return;
+    }
+    if !io::write_all(STDERR_FILENO, &errors[..k]) {
+        return;
+    }
+    print_report(r);
+}
+
+fn main() {
+    let mut buffer = text_buffer();
+    match read_text(&mut buffer) {
+        Input::Failed => complain(b"expand: standard input could not be read\n"),
+        Input::Bytes(n) => expand_text(&buffer[..n]),
+    }
+}

@@ -1,0 +1,380 @@
+-- One step by what the code goes by: the open calls, a byte in a call, a name's meaning, the end, and the token ahead. Assumes nothing.
+use Prim.Native.Nat.{ℕ, zero, suc, _+_, _-_, _≤_, _<_}
+use mathlib.Core.Path.{_≡_, refl, sym, ap, subst, _∙_}
+use mathlib.Core.Bool.{Bool, true, false}
+use mathlib.Core.Logic.{_⊎_, inl, inr}
+use mathlib.Core.List.{List, [], _∷_, _++_}
+use mathlib.Core.Option.{Option, some}
+use native.Mathlib.Omega.{arith}
+use borrow.Author.Tests.{ne-eqb, eqb-true}
+use lib.Dec.{eqb}
+use lib.ListN.{length, take, drop, getD, length-append}
+use Rattle.rules.specs.declared.Answer.the-variants as answer
+use Rattle.rules.specs.declared.Reading.{Reading}
+use Rattle.rules.specs.declared.Reading.the-variants.{Is, OpenQuote, OpenComment}
+use Rattle.rules.specs.declared.Token.{Token}
+use Rattle.rules.specs.declared.Token.the-variants as token
+use Rattle.rules.specs.Bytes.{Bytes, isBlank}
+use Rattle.rules.specs.Answers.{done, unclosedQuote, unclosedComment, unclosedCall, faultAnswer}
+use Rattle.rules.specs.Marks.{MarkTexts, markTexts}
+use Rattle.rules.specs.Source.{Source, ahead, advance, pushBack}
+use Rattle.rules.specs.Streams.{finishedStreams}
+use Rattle.rules.specs.Table.{Meaning, Definition}
+use Rattle.rules.specs.State.{Call, State, Outcome, next, stop, refused, withCalls, withSource, withStreams, withWrap, taking, resulting, emitting}
+use Rattle.rules.specs.Macros.{called}
+use Rattle.rules.specs.Tokens.{readToken}
+use Rattle.rules.specs.Run.{Setting, callsCost}
+use Rattle.rules.specs.Step.{atEnd, collecting, delivered, opened, named, commaAt, rightMet, otherMet, inCall, singleByte, act, reacted, step}
+use Rattle.expander.specs.declared.machine.Machine.{Machine}
+use Rattle.expander.specs.declared.machine.Turn.{Turn}
+use Rattle.expander.specs.declared.machine.Went.the-variants as went
+use Rattle.expander.specs.declared.source.Position.{Position}
+use Rattle.expander.specs.declared.step.Class.{Class}
+use Rattle.expander.specs.declared.step.Class.the-variants as class
+use Rattle.expander.specs.declared.table.Meaning.{Meaning as Looked}
+use Rattle.expander.specs.declared.table.Meaning.the-variants as looked
+use Rattle.expander.specs.Calls.{CallsIn, bit}
+use Rattle.expander.specs.Front.{Front}
+use Rattle.expander.specs.Machine.{Memory, Means, Sound, Gives, Reach, aheadOf, pendingAt, sourceSet, wrapSet, turned}
+use Rattle.expander.specs.Source.{SourceIn}
+use Rattle.expander.specs.Step.{classed, deepAt, Classifies, TokenWithin}
+use Rattle.expander.specs.Table.{Finds, meaningFor}
+use Rattle.expander.specs.Tokens.{Within}
+use Rattle.expander.proofs.Parts.{part-all}
+use Rattle.expander.proofs.CallsLaws.{calls-held, depth-in}
+use Rattle.expander.proofs.MachineLaws.{front-long, over-pending, gives-next, gives-refused, gives-room}
+use Rattle.expander.proofs.Parted.{with-source, with-wrap}
+use Rattle.expander.proofs.SourceLaws.{ahead-is, ahead-long, pushed-back}
+
+-- ---- promises handed on
+
+-- what a callee is lent is sound, where it belongs to what the caller is lent
+pub lends : {lent part : Memory → Memory} {m : Machine} (p : Sound lent m) → part (lent (p .others)) ≡ lent (p .others) → Sound part m
+lends {lent} {m} p e =
+    record { others = lent (p .others); setting = p .setting; state = p .state; means = subst (λ (b : Memory). Means (p .setting) b m (p .state)) (sym e) (p .means) }
+
+pub by : {a : Setting} {o o′ : Outcome} {b : Memory} {t : Turn} → o′ ≡ o → Gives a o b t → Gives a o′ b t
+by {a} {b} {t} e g = subst (λ (x : Outcome). Gives a x b t) (sym e) g
+
+pub turns : {a : Setting} {o : Outcome} {b : Memory} {t t′ : Turn} → t′ ≡ t → Gives a o b t → Gives a o b t′
+turns {a} {o} {b} e g = subst (λ (x : Turn). Gives a o b x) (sym e) g
+
+-- ---- whether a call is open
+
+pub record Innermost (cs : List Call) : Type 0 where
+  pub top : Call
+  pub rest : List Call
+  pub is : cs ≡ top ∷ rest
+
+none-of : (cs : List Call) → length cs ≡ 0 → cs ≡ []
+none-of [] e = refl
+none-of (c ∷ cs) e = absurd (omega arith)
+
+some-of : (cs : List Call) → 0 < length cs → Innermost cs
+some-of [] h = absurd (omega arith)
+some-of (c ∷ cs) h = record { top = c; rest = cs; is = refl }
+
+module _ {a : Setting} {b : Memory} {m : Machine} {s : State} (r : Means a b m s) where
+  pub no-calls : m .calls .opens ≡ 0 → s .calls ≡ []
+  no-calls e = none-of (s .calls) (r .calls .open-is ∙ e)
+
+  pub some-calls : 0 < m .calls .opens → Innermost (s .calls)
+  some-calls h = some-of (s .calls) (omega (arith, r .calls .open-is))
+
+  pub calls-top : {c : Call} {cs : List Call} → s .calls ≡ c ∷ cs → CallsIn (b .calls) (b .callEnds) (b .stack) (m .calls) (c ∷ cs)
+  calls-top e = subst (CallsIn (b .calls) (b .callEnds) (b .stack) (m .calls)) e (r .calls)
+
+  -- the innermost call's depth is small
+  pub depth-few : (d : ℕ) → 0 < m .calls .opens → ((bytes : Bytes) (ends : List ℕ) (c : Call) (cs : List Call) → CallsIn bytes ends (b .stack) (m .calls) (c ∷ cs) → d ≡ c .depth) → d < 4294967295
+  unfolding callsCost
+  depth-few d h f =
+      let i = some-calls h in
+      let k = calls-top (i .is) in
+      omega (arith, f (b .calls) (b .callEnds) (i .top) (i .rest) k, depth-in k, calls-held k, k .strings .used-in, r .limits .calls-most)
+
+-- ---- a byte in a call
+
+comma-deep : (d : ℕ) (c : Call) (cs : List Call) (s : State) → (d ≡ 0 → ⊥) → commaAt d c cs s ≡ next (withCalls (collecting (44 ∷ []) d c ∷ cs) s)
+unfolding commaAt
+comma-deep zero c cs s f = absurd (f refl)
+comma-deep (suc d) c cs s f = refl
+
+right-deep : (d : ℕ) (c : Call) (cs : List Call) (s : State) → (d ≡ 0 → ⊥) → rightMet d c cs s ≡ next (withCalls (collecting (41 ∷ []) (d - 1) c ∷ cs) s)
+unfolding rightMet
+right-deep zero c cs s f = absurd (f refl)
+right-deep (suc d) c cs s f = ap (λ (n : ℕ). next (withCalls (collecting (41 ∷ []) n c ∷ cs) s)) (omega arith)
+
+bit-none : (b : Bool) → bit b ≡ 0 → b ≡ false
+unfolding bit
+bit-none true e = absurd (omega arith)
+bit-none false e = refl
+
+bit-some : (b : Bool) → (bit b ≡ 0 → ⊥) → b ≡ true
+unfolding bit
+bit-some true f = refl
+bit-some false f = absurd (f refl)
+
+module _ (x d k : ℕ) where
+  pub class-left : x ≡ 40 → Classifies x d k (class.Collected (d + 1))
+  unfolding inCall classed deepAt
+  class-left e =
+      record {
+        is = λ c cs s ed ek. rw e (ap (λ (n : ℕ). next (withCalls (collecting (40 ∷ []) n c ∷ cs) s)) (omega (arith, ed)));
+        deep = omega arith;
+      }
+
+  pub class-closes : x ≡ 41 → d ≡ 0 → Classifies x d k class.Closes
+  unfolding inCall classed deepAt rightMet
+  class-closes e z = record { is = λ c cs s ed ek. rw e (ap (λ (n : ℕ). rightMet n c cs s) (ed ∙ z)); deep = omega arith }
+
+  pub class-right : x ≡ 41 → (d ≡ 0 → ⊥) → Classifies x d k (class.Collected (d - 1))
+  unfolding inCall classed deepAt
+  class-right e f =
+      record { is = λ c cs s ed ek. rw e (ap (λ (n : ℕ). rightMet n c cs s) ed ∙ right-deep d c cs s f); deep = omega arith }
+
+  pub class-separates : x ≡ 44 → d ≡ 0 → Classifies x d k class.Separates
+  unfolding inCall classed deepAt commaAt
+  class-separates e z = record { is = λ c cs s ed ek. rw e (ap (λ (n : ℕ). commaAt n c cs s) (ed ∙ z)); deep = omega arith }
+
+  pub class-comma : x ≡ 44 → (d ≡ 0 → ⊥) → Classifies x d k (class.Collected d)
+  unfolding inCall classed deepAt
+  class-comma e f =
+      record { is = λ c cs s ed ek. rw e (ap (λ (n : ℕ). commaAt n c cs s) ed ∙ comma-deep d c cs s f); deep = omega arith }
+
+  module _ (e0 : x ≡ 40 → ⊥) (e1 : x ≡ 41 → ⊥) (e2 : x ≡ 44 → ⊥) where
+    other-in : (c : Call) (cs : List Call) (s : State) → inCall x c cs s ≡ otherMet x c cs s
+    unfolding inCall
+    other-in c cs s = rw (ne-eqb x 40 e0, ne-eqb x 41 e1, ne-eqb x 44 e2, inCall)
+
+    kept-at : (c : Call) (cs : List Call) (s : State) → c .depth ≡ d → next (withCalls (collecting (x ∷ []) (c .depth) c ∷ cs) s) ≡ next (withCalls (collecting (x ∷ []) d c ∷ cs) s)
+    kept-at c cs s ed = ap (λ (n : ℕ). next (withCalls (collecting (x ∷ []) n c ∷ cs) s)) ed
+
+    pub class-dropped : isBlank x ≡ true → k ≡ 0 → Classifies x d k class.Dropped
+    unfolding classed deepAt otherMet
+    class-dropped t z =
+        record { is = λ c cs s ed ek. other-in c cs s ∙ rw (t, bit-none (c .collected) (ek ∙ z), otherMet); deep = omega arith }
+
+    blank-in : (c : Call) (cs : List Call) (s : State) → isBlank x ≡ true → c .collected ≡ true → otherMet x c cs s ≡ next (withCalls (collecting (x ∷ []) (c .depth) c ∷ cs) s)
+    unfolding otherMet
+    blank-in c cs s t e =
+        rw (t, otherMet) (ap (λ (b : Bool). elim b [ true ↦ next (withCalls (collecting (x ∷ []) (c .depth) c ∷ cs) s) | false ↦ next s ]) e)
+
+    pub class-blank : isBlank x ≡ true → (k ≡ 0 → ⊥) → Classifies x d k (class.Collected d)
+    unfolding classed deepAt
+    class-blank t f =
+        record {
+          is = λ c cs s ed ek. other-in c cs s ∙ blank-in c cs s t (bit-some (c .collected) (λ z. f (sym ek ∙ z))) ∙ kept-at c cs s ed;
+          deep = omega arith;
+        }
+
+    pub class-other : isBlank x ≡ false → Classifies x d k (class.Collected d)
+    unfolding classed deepAt otherMet
+    class-other t = record { is = λ c cs s ed ek. other-in c cs s ∙ rw (t, otherMet) (kept-at c cs s ed); deep = omega arith }
+
+-- what follows by the class
+pub class-is :
+    {x d k : ℕ} {r w : Class} → Classifies x d k r → r ≡ w → (c : Call) (cs : List Call) (s : State) → d ≡ c .depth → k ≡ bit (c .collected)
+    → inCall x c cs s ≡ classed w x c cs s
+class-is {x} h e c cs s ed ek = h .is c cs s (sym ed) (sym ek) ∙ ap (λ (y : Class). classed y x c cs s) e
+
+pub class-deep : {x d k n : ℕ} {r : Class} (c : Call) → Classifies x d k r → r ≡ class.Collected n → d ≡ c .depth → c .depth ≤ length (c .current) → n ≤ length (c .current) + 1
+unfolding deepAt
+class-deep c h e ed l = omega (arith, h .deep, ap deepAt e, ed, l)
+
+-- ---- a byte
+
+module _ (x : ℕ) (s : State) where
+  pub byte-none : s .calls ≡ [] → singleByte x (s .calls) s ≡ next (emitting (x ∷ []) s)
+  unfolding singleByte
+  byte-none e = rw (e, singleByte)
+
+  pub byte-some : (c : Call) (cs : List Call) → s .calls ≡ c ∷ cs → singleByte x (s .calls) s ≡ inCall x c cs s
+  unfolding singleByte
+  byte-some c cs e = rw (e, singleByte)
+
+-- ---- a name
+
+-- the text ahead as the parts of the two buffers that the code reads
+pub ahead-parts :
+    {text pending : Bytes} {p : Position} {x : Source} → SourceIn text pending p x
+    → take (length pending - p .from) (drop (p .from) pending) ++ take (length text - p .taken) (drop (p .taken) text) ≡ ahead x
+ahead-parts {text} {pending} {p} m =
+    ap (λ (l : Bytes). l ++ take (length text - p .taken) (drop (p .taken) text)) (part-all pending (p .from))
+    ∙ ap (λ (l : Bytes). drop (p .from) pending ++ l) (part-all text (p .taken))
+    ∙ sym (ahead-is m)
+
+at-within : (xs : Bytes) (n : ℕ) → getD xs n 0 ≡ 40 → n < length xs
+at-within [] n e = absurd (omega arith)
+at-within (x ∷ xs) zero e = omega arith
+at-within (x ∷ xs) (suc n) e = omega (arith, at-within xs n e)
+
+pub reach-open :
+    {text pending : Bytes} {p : Position} {x : Source} {n : ℕ} {t : Bool} → SourceIn text pending p x → Reach text pending p 0 n n
+    → t ≡ eqb (getD (ahead x) n 0) 40 → t ≡ true → Reach text pending p 0 n (suc n)
+reach-open {x} {n} m h e t =
+    record { some = h .some; whole = omega (arith, at-within (ahead x) n (eqb-true (getD (ahead x) n 0) 40 (sym e ∙ t)), ahead-long m) }
+
+module _ (w : Bytes) (n : ℕ) (m : Meaning) (s : State) {t : Bool} (e : t ≡ eqb (getD (ahead (s .source)) n 0) 40) where
+  pub named-opened : t ≡ true → named w n (some m) s ≡ opened w (taking (suc n) s)
+  unfolding named
+  named-opened g = rw (sym e ∙ g, named)
+
+  pub named-called : t ≡ false → named w n (some m) s ≡ called (some m) w [] (taking n s)
+  unfolding named
+  named-called g = rw (sym e ∙ g, named)
+
+-- what looking a name up answers says whether it means anything
+pub named-nothing : {ds : List Definition} {o : Option Meaning} {r : Looked} (w : Bytes) (n : ℕ) (s : State) → Finds ds o r → r ≡ looked.Undefined
+    → named w n o s ≡ next (delivered w (s .calls) (taking n s))
+unfolding named meaningFor
+named-nothing w n s f e = rw (f .is, e, named)
+
+-- a name that means something
+pub record Known (ds : List Definition) (o : Option Meaning) (r : Looked) : Type 0 where
+  pub meaning : Meaning
+  pub is : o ≡ some meaning
+  pub finds : Finds ds (some meaning) r
+
+pub known : {ds : List Definition} {o : Option Meaning} {r : Looked} → Finds ds o r → (r ≡ looked.Undefined → ⊥) → Known ds o r
+unfolding meaningFor
+known {r = looked.Text i} f g = record { meaning = _; is = f .is; finds = record { is = refl; within = f .within } }
+known {r = looked.Predefined k} f g = record { meaning = _; is = f .is; finds = record { is = refl; within = f .within } }
+known {r = looked.Undefined} f g = absurd (g refl)
+
+pub named-known : {ds : List Definition} {o : Option Meaning} {r : Looked} (w : Bytes) (n : ℕ) (s : State) (k : Known ds o r) → named w n o s ≡ named w n (some (k .meaning)) s
+named-known w n s k = ap (λ (m : Option Meaning). named w n m s) (k .is)
+
+pub not-third : {k : ℕ} → (k ≡ 0) ⊎ (k ≡ 1) → k ≡ 2 → ⊥
+not-third (inl e) f = omega arith
+not-third (inr e) f = omega arith
+
+-- ---- the end
+
+end-open : (c : Call) (cs : List Call) (w : Bytes) (s : State) → atEnd (c ∷ cs) w s ≡ refused unclosedCall
+unfolding atEnd
+end-open c cs w s = refl
+
+end-wrapped : (w : Bytes) (s : State) → 0 < length w → atEnd [] w s ≡ next (resulting w (withWrap [] s))
+unfolding atEnd
+end-wrapped [] s h = absurd (omega arith)
+end-wrapped (x ∷ xs) s h = refl
+
+end-done : (w : Bytes) (s : State) → length w ≡ 0 → atEnd [] w s ≡ stop done (withStreams (finishedStreams (s .streams)) s)
+unfolding atEnd
+end-done [] s e = refl
+end-done (x ∷ xs) s e = absurd (omega arith)
+
+module _ {a : Setting} {b : Memory} {m : Machine} {s : State} (r : Means a b m s) where
+  -- a call is open
+  pub end-refused : (m .calls .opens ≡ 0 → ⊥) → Gives a (atEnd (s .calls) (s .wrap) s) b (turned (went.Refused (answer.Unclosed 3)) m)
+  unfolding faultAnswer
+  end-refused f =
+      let i = some-calls r (omega (arith, f)) in
+      by (ap (λ (cs : List Call). atEnd cs (s .wrap) s) (i .is) ∙ end-open (i .top) (i .rest) (s .wrap) s) (gives-refused unclosedCall)
+
+  module _ (e : m .calls .opens ≡ 0) where
+    -- no wrap text waits
+    pub end-finished : m .wrap ≡ 0 → atEnd (s .calls) (s .wrap) s ≡ stop done (withStreams (finishedStreams (s .streams)) s)
+    end-finished z = ap (λ (cs : List Call). atEnd cs (s .wrap) s) (no-calls r e) ∙ end-done (s .wrap) s (front-long (r .wrap) ∙ z)
+
+    module _ (f : m .wrap ≡ 0 → ⊥) where
+      end-pushes : atEnd (s .calls) (s .wrap) s ≡ next (resulting (s .wrap) (withWrap [] s))
+      end-pushes =
+          ap (λ (cs : List Call). atEnd cs (s .wrap) s) (no-calls r e) ∙ end-wrapped (s .wrap) s (omega (arith, f, front-long (r .wrap)))
+
+      -- it doesn't fit the buffer
+      pub end-full : length (b .pending) < m .wrap → Gives a (atEnd (s .calls) (s .wrap) s) b (turned (went.Refused (answer.Room 1)) m)
+      unfolding resulting withWrap withSource pushBack
+      end-full h =
+          let t = resulting (s .wrap) (withWrap [] s) in
+          let l : a .pending < length (t .source .pending) =
+          omega (arith, r .limits .pending, front-long (r .wrap), length-append (s .wrap) (s .source .pending)) in
+          by end-pushes (gives-room t 0 (over-pending a t l))
+
+      -- it becomes pending
+      pub end-pending :
+          (pending : Bytes) (from : ℕ) → length pending ≡ length (b .pending) → from ≤ length pending
+          → drop from pending ≡ take (m .wrap) (b .wrap) ++ drop (m .source .from) (b .pending)
+          → Gives a (atEnd (s .calls) (s .wrap) s) (pendingAt pending b)
+          (turned went.On (wrapSet 0 (sourceSet (record { from = from; taken = m .source .taken }) m)))
+      unfolding resulting withWrap withSource
+      end-pending pending from l h d =
+          let w : Front (b .wrap) 0 [] = record { text-is = refl; inside = omega arith } in
+          by end-pushes
+          (gives-next
+          (with-source (with-wrap r w refl)
+          (pushed-back (s .wrap) from (r .source) h (d ∙ ap (λ (x : Bytes). x ++ drop (m .source .from) (b .pending)) (r .wrap .text-is))) l))
+
+-- ---- the token ahead
+
+pub acts : {t w : Token} → t ≡ w → (s : State) → act t s ≡ act w s
+acts e s = ap (λ (t : Token). act t s) e
+
+module _ {text pending : Bytes} {p : Position} {t : Token} where
+  pub reach-comment : {n : ℕ} → t ≡ token.Comment n → TokenWithin text pending p t → Reach text pending p 0 n n
+  unfolding TokenWithin
+  reach-comment e w = let h = subst (TokenWithin text pending p) e w in record { some = omega (arith, h); whole = h }
+
+  pub reach-quoted : {i j n : ℕ} → t ≡ token.Quoted i j n → TokenWithin text pending p t → Reach text pending p i (j - i) n
+  unfolding TokenWithin
+  reach-quoted e w =
+      let h = subst (TokenWithin text pending p) e w in
+      record { some = omega (arith, h .0, h .1, h .2); whole = h .2 }
+
+  pub reach-name : {n : ℕ} → t ≡ token.Name n → TokenWithin text pending p t → Reach text pending p 0 n n
+  unfolding TokenWithin
+  reach-name e w = let h = subst (TokenWithin text pending p) e w in record { some = omega (arith, h .1); whole = h .1 }
+
+  pub end-place : {x : Source} → SourceIn text pending p x → t ≡ token.End → TokenWithin text pending p t → p .from ≡ length pending
+  unfolding TokenWithin
+  end-place m e w = omega (arith, subst (TokenWithin text pending p) e w, m .from-in)
+
+pub quoted-order : (text pending : Bytes) (p : Position) {t : Token} {i j n : ℕ} → t ≡ token.Quoted i j n → TokenWithin text pending p t → i ≤ j
+unfolding TokenWithin
+quoted-order text pending p e w = subst (TokenWithin text pending p) e w .0
+
+-- a byte was taken
+pub byte-taken :
+    {a : Setting} {b : Memory} {m m′ : Machine} {s : State} {t : Token} {x : ℕ} {to : Position} → Means a b m s → t ≡ token.Byte x
+    → TokenWithin (b .text) (b .pending) (m .source) t
+    → ((text : Bytes) (y : Source) → SourceIn text (b .pending) (m .source) y → 1 ≤ length (ahead y) → SourceIn text (b .pending) to (advance 1 y))
+    → m′ ≡ sourceSet to m → Means a b m′ (taking 1 s)
+unfolding TokenWithin taking
+byte-taken {a} {b} {m} {s} r e w f g =
+    let l : 1 ≤ length (ahead (s .source)) = omega (arith, subst (TokenWithin (b .text) (b .pending) (m .source)) e w, ahead-long (r .source)) in
+    subst (λ (k : Machine). Means a b k (taking 1 s)) (sym g) (with-source r (f (b .text) (s .source) (r .source) l) refl)
+
+module _ {a : Setting} {b : Memory} {m : Machine} {s : State} (r : Means a b m s) where
+  abbrev parts : Bytes
+  parts = take (length (b .pending) - m .source .from) (drop (m .source .from) (b .pending)) ++ take (length (b .text) - m .source .taken) (drop (m .source .taken) (b .text))
+
+  module _ {g : Reading} (e : g ≡ readToken (markTexts (m .marks)) parts) where
+    step-reads : step s ≡ reacted g s
+    unfolding step
+    step-reads =
+        ap (λ (y : Reading). reacted y s)
+        (ap (λ (k : MarkTexts). readToken k (ahead (s .source))) (r .marks) ∙ ap (readToken (markTexts (m .marks))) (sym (ahead-parts (r .source))) ∙ sym e)
+
+    pub step-token : {t : Token} → g ≡ Is t → step s ≡ act t s
+    unfolding reacted
+    step-token q = step-reads ∙ ap (λ (y : Reading). reacted y s) q
+
+    pub step-quote : {n : ℕ} → g ≡ OpenQuote n → step s ≡ refused unclosedQuote
+    unfolding reacted
+    step-quote q = step-reads ∙ ap (λ (y : Reading). reacted y s) q
+
+    pub step-comment : g ≡ OpenComment → step s ≡ refused unclosedComment
+    unfolding reacted
+    step-comment q = step-reads ∙ ap (λ (y : Reading). reacted y s) q
+
+  -- where its parts lie
+  pub token-lies : {g : Reading} → Within parts g → (t : Token) → g ≡ Is t → TokenWithin (b .text) (b .pending) (m .source) t
+  unfolding TokenWithin
+  token-lies {g} w t q = go t q (ap length (ahead-parts (r .source)) ∙ ahead-long (r .source))
+    where
+      go : (t : Token) → g ≡ Is t → length parts ≡ aheadOf (b .text) (b .pending) (m .source) → TokenWithin (b .text) (b .pending) (m .source) t
+      go token.End q l = sym l ∙ w .end q
+      go (token.Comment n) q l = subst (λ (k : ℕ). n ≤ k) l (w .comment n q)
+      go (token.Quoted i j n) q l = (w .quoted i j n q .0, w .quoted i j n q .1, subst (λ (k : ℕ). n ≤ k) l (w .quoted i j n q .2))
+      go (token.Name n) q l = (w .name n q .0, subst (λ (k : ℕ). n ≤ k) l (w .name n q .1))
+      go (token.Byte x) q l = subst (λ (k : ℕ). 1 ≤ k) l (w .byte x q .0)

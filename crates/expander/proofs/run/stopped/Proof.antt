@@ -1,0 +1,17 @@
+use Rattle.expander.specs.Run.{stoppedReport}
+use mathlib.Core.Path.{refl}
+use borrow.Author.Needs.{needs}
+use Rattle.expander.proofs.run.stopped.Statement.{statement}
+use Rattle.expander.proofs.run.stopped.Tie as tie
+use Rattle.expander.proofs.run.stopped.Reads as reads
+use Rattle.expander.proofs.run.stopped.Lts as lts
+
+cast-place : tie.Need-cast-place
+cast-place c = search needs
+
+returns : tie.Need-returns
+unfolding stoppedReport
+returns c = refl
+
+pub stopped-spec : {M : Type 1} → statement M
+stopped-spec = tie.close (tie.spec cast-place returns)

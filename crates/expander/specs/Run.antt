@@ -1,0 +1,65 @@
+-- What the run leaves, and what its functions ask.
+use Prim.Native.Nat.{ℕ, _≤_}
+use mathlib.Core.Path.{_≡_}
+use mathlib.Core.List.{List}
+use lib.ListN.{length, replicate}
+use Rattle.rules.specs.declared.Answer.{Answer}
+use Rattle.rules.specs.declared.Report.{Report}
+use Rattle.rules.specs.Bytes.{Bytes}
+use Rattle.rules.specs.State.{State}
+use Rattle.rules.specs.Run.{Setting, Ended, lengths, runFrom}
+use Rattle.rules.specs.Contract.{reportOf, errorsOf, outputOf, fronted}
+use Rattle.expander.specs.declared.machine.Machine.{Machine}
+use Rattle.expander.specs.Front.{Front}
+use Rattle.expander.specs.Machine.{Memory, Limits, Means}
+
+-- there are limits: what the run asks
+pub record Roomy (b : Memory) : Type 0 where
+  pub setting : Setting
+  pub limits : Limits setting b
+
+-- what the loop has in hand after `count` steps, of which `left` more may follow: the whole run is the run from here
+pub record Running (a : Setting) (b : Memory) (m : Machine) (left count : ℕ) (whole : Ended) : Type 0 where
+  pub state : State
+  pub means : Means a b m state
+  pub so-far : whole ≡ runFrom (lengths a) left count state
+
+-- a run's report, and its error text and output at the front of buffers
+pub record Ran (e : Ended) (errors output : Bytes) (r : Report) : Type 0 where
+  pub report : r ≡ reportOf e
+  pub errors-are : Front errors (r .errors) (errorsOf e)
+  pub output-are : Front output (r .output) (outputOf e)
+
+-- the same, copied out
+pub record Wrote (e : Ended) (errors output errors′ output′ : Bytes) (r : Report) : Type 0 where
+  pub report : r ≡ reportOf e
+  pub errors-are : errors′ ≡ fronted (errorsOf e) errors
+  pub output-are : output′ ≡ fronted (outputOf e) output
+
+unfoldable pub finishedReport : Answer → ℕ → Machine → Report
+finishedReport answer steps m = record { answer = answer; steps = steps; place = m .source .taken; output = m .sinks .output; errors = m .errors }
+
+unfoldable pub stoppedReport : Answer → ℕ → Machine → Report
+stoppedReport answer steps m = record { answer = answer; steps = steps; place = m .source .taken; output = 0; errors = 0 }
+
+-- no length is above 65,536
+pub record Lent (text pending calls definitions streams wrap errors output : ℕ) : Type 0 where
+  pub text-in : text ≤ 65536
+  pub pending-in : pending ≤ 65536
+  pub calls-in : calls ≤ 65536
+  pub definitions-in : definitions ≤ 65536
+  pub streams-in : streams ≤ 65536
+  pub wrap-in : wrap ≤ 65536
+  pub errors-in : errors ≤ 65536
+  pub output-in : output ≤ 65536
+
+-- how long the links are
+pub record LinkLengths (ends stack tableEnds owners : List ℕ) : Type 0 where
+  pub ends-are : length ends ≡ 320
+  pub stack-are : length stack ≡ 192
+  pub table-ends-are : length tableEnds ≡ 131072
+  pub owners-are : length owners ≡ 65536
+
+-- a buffer that is all zero
+pub record Zeroed (before after : Bytes) : Type 0 where
+  pub is : after ≡ replicate (length before) 0
