@@ -13,8 +13,6 @@ import tempfile
 
 PROGRAM = os.path.join(os.path.dirname(os.path.abspath(__file__)), "..", "target", "bin", "expand")
 SMALL, LARGE, MOST = 15000, 60000, 5.0
-# A step below this cost at both sizes has no ratio worth the name.
-FLOOR = 20000
 
 
 def words(n):
@@ -79,8 +77,7 @@ for name, texts in pairs():
     for n in (SMALL, LARGE):
         without, whole = texts(n)
         costs.append(instructions(whole) - instructions(without))
-    small, large = (max(c, FLOOR) for c in costs)
-    ratio = large / small
+    ratio = costs[1] / costs[0]
     print("%-15s %12d %12d %7.1f" % (name, costs[0], costs[1], ratio))
     count += 1
     if ratio > MOST:
