@@ -6,7 +6,7 @@ use mathlib.Core.Bool.{Bool, true, false}
 use mathlib.Core.List.{List, [], _∷_, _++_}
 use mathlib.Core.Option.{Option, none, some}
 use lib.ListN.{length, take, drop, getD, length-append, length-drop, drop-of-length-le}
-use lib.Seq.{length-take-le, take-at}
+use lib.Seq.{length-take-le, take-at, take-append-le}
 use Rattle.rules.specs.Bytes.{Bytes, bytesOf, sameBytes}
 use Rattle.rules.specs.declared.Answer.the-variants as answer
 use Rattle.rules.specs.Arguments.{substituted}
@@ -14,32 +14,38 @@ use Rattle.rules.specs.Results.{yields}
 use Rattle.rules.specs.Streams.{totalLength}
 use Rattle.rules.specs.Table.{Meaning, text, predefined, Table, predefinedNames, numberFrom, predefinedNumber, keepsOwn, ownMeaning, newestPlace, meaningAt, meaningOf}
 use Rattle.rules.specs.Source.{ahead, advance}
-use Rattle.rules.specs.State.{Call, State, withCalls, withSource, taking}
+use Rattle.rules.specs.State.{Call, State, Outcome, withCalls, withSource, taking}
 use Rattle.rules.specs.Macros.{giving, perform, performed, called}
 use Rattle.rules.specs.Step.{closed}
 use Rattle.rules.specs.Run.{Setting}
 use Rattle.expander.specs.declared.arguments.Arguments.{Arguments}
 use Rattle.expander.specs.declared.calls.Calls.{Calls}
+use Rattle.expander.specs.declared.giving.Given.{Given}
 use Rattle.expander.specs.declared.machine.Machine.{Machine}
 use Rattle.expander.specs.declared.machine.Turn.{Turn}
 use Rattle.expander.specs.declared.machine.Went.the-variants as went
+use Rattle.expander.specs.declared.macros.Sort.{Sort}
+use Rattle.expander.specs.declared.macros.Sort.the-variants as sort
 use Rattle.expander.specs.declared.packed.Packed.{Packed}
 use Rattle.expander.specs.declared.source.Position.{Position}
 use Rattle.expander.specs.declared.table.Meaning.{Meaning as Looked}
 use Rattle.expander.specs.declared.table.Meaning.the-variants as looked
 use Rattle.expander.specs.Arguments.{ArgumentsIn}
 use Rattle.expander.specs.Calls.{openStrings, CallsIn}
+use Rattle.expander.specs.Giving.{givenTurn}
 use Rattle.expander.specs.Machine.{Memory, Means, Gives, Reach, callsSet, sourceSet, turned}
+use Rattle.expander.specs.Macros.{SortIs}
 use Rattle.expander.specs.Packed.{Packs}
 use Rattle.expander.specs.Source.{SourceIn}
 use Rattle.expander.specs.Table.{rows, meaningText, meaningFor, textEnd, TableIn, Finds}
-use Rattle.expander.proofs.Parts.{part-all}
+use Rattle.expander.proofs.Parts.{part-all, empty-of}
 use Rattle.expander.proofs.CallsLaws.{first-in, closed-arguments, closed-name}
 use Rattle.expander.proofs.Changing.{same-is, newest-name}
 use Rattle.expander.proofs.MacroLaws.{gives-as, gives-gone}
 use Rattle.expander.proofs.Packing.{count-is, string-fits}
 use Rattle.expander.proofs.Parted.{with-source, with-calls}
 use Rattle.expander.proofs.SourceLaws.{ahead-is, ahead-long}
+use Rattle.expander.proofs.TurnLaws.{gives-by}
 use Rattle.expander.proofs.Rows.{blank, name-at, plain-at, meaning-at, newest-in, string-count, finds-text, finds-within}
 
 -- ---- a name that means something
@@ -207,6 +213,10 @@ module _ {a : Setting} {b : Memory} {m : Machine} {x : Arguments} {w : Option Me
   pub text-within : {i : ℕ} → r ≡ looked.Text i → 2 * i + 2 ≤ m .table .packed .count
   text-within e = omega (arith, finds-within (q .means .table .holds) (found-as e))
 
+  -- in a machine that was made the same
+  pub ready-in : {after : Machine} → after ≡ m → Ready a b after x w r args s
+  ready-in e = subst (λ (k : Machine). Ready a b k x w r args s) (sym e) q
+
   -- what it gives, by what was found
   module _ (name : Bytes) {b′ : Memory} {t : Turn} where
     pub calls-text :
@@ -222,9 +232,26 @@ module _ {a : Setting} {b : Memory} {m : Machine} {x : Arguments} {w : Option Me
     unfolding called performed meaningFor
     calls-number e g = gives-as (ap (λ (o : Option Meaning). called o name args s) (found-as e .is)) g
 
+    pub calls-search : {k : ℕ} → r ≡ looked.Predefined k → k ≡ 14 → Gives a (perform 14 args s) b′ t → Gives a (called w name args s) b′ t
+    calls-search e i g = calls-number (e ∙ ap looked.Predefined i) g
+
     pub calls-nothing : {m′ : Machine} → r ≡ looked.Undefined → t ≡ turned (went.Refused answer.Gone) m′ → Gives a (called w name args s) b′ t
     unfolding called meaningFor
     calls-nothing e g = gives-as (ap (λ (o : Option Meaning). called o name args s) (found-as e .is)) (gives-gone g)
+
+-- what the macro of a number does, once it is told
+pub sorted : (k : ℕ) {r y : Sort} → r ≡ y → SortIs k r → SortIs k y
+sorted k e h = subst (λ (y : Sort). SortIs k y) e h
+
+pub sorted-search : {k : ℕ} {r : Sort} → r ≡ sort.Search → SortIs k r → k ≡ 14
+unfolding SortIs
+sorted-search {k} e h = sorted k e h
+
+-- the turn that a machine makes of what is given, once it was made the same
+pub gives-after :
+    {a : Setting} {o : Outcome} {b : Memory} {m after : Machine} (g : Given) {t : Turn} → after ≡ m → t ≡ givenTurn after g
+    → Gives a o b (givenTurn m g) → Gives a o b t
+gives-after g e f h = gives-by refl (f ∙ ap (λ (k : Machine). givenTurn k g) e) h
 
 -- the innermost call, when it is closed
 module _ {a : Setting} {b : Memory} {m : Machine} {s : State} {c : Call} {cs : List Call} (h : Means a b m s) (e : s .calls ≡ c ∷ cs) where
@@ -232,17 +259,17 @@ module _ {a : Setting} {b : Memory} {m : Machine} {s : State} {c : Call} {cs : L
   opened-calls = subst (λ (l : List Call). CallsIn (b .calls) (b .callEnds) (b .stack) (m .calls) l) e (h .calls)
 
   pub ready-closed :
-      {first : ℕ} {name : Bytes} {x : Calls} {after : Machine} {r : Looked} → first ≡ length (openStrings cs)
+      {first : ℕ} {name : Bytes} {x : Calls} {r : Looked} → first ≡ length (openStrings cs)
       → ((ss : List Bytes) → Packs (b .callEnds) (m .calls .strings .count) (b .calls) (m .calls .strings .used) ss → name ≡ getD ss first [])
-      → CallsIn (b .calls) (b .callEnds) (b .stack) x cs → after ≡ callsSet x m
+      → CallsIn (b .calls) (b .callEnds) (b .stack) x cs
       → ((t : Table) → TableIn (b .definitions) (b .tableEnds) (m .table .packed) (m .table .own) t → Finds (t .definitions) (meaningOf name t) r)
-      → Ready a b after (record { strings = m .calls .strings; base = first + 1 }) (meaningOf (c .name) (withCalls cs s .table)) r (c .finished ++ (c .current ∷ []))
-      (withCalls cs s)
+      → Ready a b (callsSet x m) (record { strings = m .calls .strings; base = first + 1 }) (meaningOf (c .name) (withCalls cs s .table)) r
+      (c .finished ++ (c .current ∷ [])) (withCalls cs s)
   unfolding withCalls
-  ready-closed {first} {name} {x} {after} {r} f n k w l =
+  ready-closed {first} {name} {x} {r} f n k l =
       let o = opened-calls in
       record {
-        means = subst (λ (m′ : Machine). Means a b m′ (withCalls cs s)) (sym w) (with-calls h k refl refl refl);
+        means = with-calls h k refl refl refl;
         arguments = arguments-closed o first f (h .limits .calls-most);
         finds = subst (λ (v : Bytes). Finds (s .table .definitions) (meaningOf v (s .table)) r) (name-closed o first f n) (l (s .table) (h .table));
       }
@@ -266,6 +293,19 @@ name-copied input pending d taken from n {y} k h e =
     let g : length y ≡ n =
     ap length f ∙ length-take-le n l (omega (arith, length-append (drop from pending) (drop taken input), length-drop from pending, length-drop taken input)) in
     take-at y (drop n d) n (omega (arith, g)) ∙ f
+
+-- where it lies in one buffer
+module _ (input pending : Bytes) (taken from n : ℕ) where
+  pub name-pending : n ≤ length pending - from → take (from + n - from) (drop from pending) ≡ take n (drop from pending ++ drop taken input)
+  name-pending h =
+      let e : from + n - from ≡ n = omega arith in
+      rw e (sym (take-append-le n (drop from pending) (drop taken input) (omega (arith, length-drop from pending))))
+
+  pub name-input : length pending - from ≡ 0 → take (taken + n - taken) (drop taken input) ≡ take n (drop from pending ++ drop taken input)
+  name-input h =
+      let e : taken + n - taken ≡ n = omega arith in
+      let f : drop from pending ≡ [] = empty-of (drop from pending) (omega (arith, length-drop from pending)) in
+      rw (e, f) refl
 
 module _ {a : Setting} {b : Memory} {m : Machine} {s : State} (h : Means a b m s) {n : ℕ} (k : Reach (b .text) (b .pending) (m .source) 0 n n) where
   pub name-ahead : n ≤ length (ahead (s .source))
@@ -291,12 +331,12 @@ module _ {a : Setting} {b : Memory} {m : Machine} {s : State} (h : Means a b m s
 
   -- and called without arguments
   pub ready-bare :
-      {to : Position} {after : Machine} {w : Option Meaning} {r : Looked} → SourceIn (b .text) (b .pending) to (advance n (s .source)) → after ≡ sourceSet to m
-      → Finds (s .table .definitions) w r → Ready a b after (record { strings = m .calls .strings; base = m .calls .strings .count }) w r [] (taking n s)
+      {to : Position} {w : Option Meaning} {r : Looked} → SourceIn (b .text) (b .pending) to (advance n (s .source)) → Finds (s .table .definitions) w r
+      → Ready a b (sourceSet to m) (record { strings = m .calls .strings; base = m .calls .strings .count }) w r [] (taking n s)
   unfolding taking withSource
-  ready-bare {to} {after} i e f =
+  ready-bare i f =
       record {
-        means = subst (λ (m′ : Machine). Means a b m′ (taking n s)) (sym e) (with-source h i refl);
+        means = with-source h i refl;
         arguments = arguments-none (h .calls) (h .limits .calls-most);
         finds = f;
       }

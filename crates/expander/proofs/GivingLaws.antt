@@ -9,10 +9,10 @@ use borrow.Author.Tests.{eq-eqb}
 use borrow.Rule.Slice.PartMut.{putMid}
 use Rattle.rules.specs.declared.Answer.the-variants as answer
 use Rattle.rules.specs.Bytes.{Bytes}
-use Rattle.rules.specs.Answers.{Fault, noNumber, noText}
+use Rattle.rules.specs.Answers.{Fault, faultAnswer, noNumber, noText}
 use Rattle.rules.specs.Marks.{MarkTexts}
 use Rattle.rules.specs.Source.{pushBack}
-use Rattle.rules.specs.State.{State, next, refused, resulting, withSource}
+use Rattle.rules.specs.State.{State, Outcome, next, refused, resulting, withSource}
 use Rattle.rules.specs.Run.{Setting}
 use Rattle.rules.specs.Table.{Definition, text}
 use Rattle.rules.specs.Words.{signedValue}
@@ -28,12 +28,14 @@ use Rattle.expander.specs.declared.cuts.Cut.the-variants as cut
 use Rattle.expander.specs.declared.defn.DefnLength.the-variants as defnLength
 use Rattle.expander.specs.declared.figures.Figure.{Figure}
 use Rattle.expander.specs.declared.figures.Figure.the-variants as figure
+use Rattle.expander.specs.declared.giving.Given.the-variants as given
 use Rattle.expander.specs.declared.machine.Machine.{Machine}
-use Rattle.expander.specs.declared.machine.Went.the-variants as went
+use Rattle.expander.specs.declared.machine.Turn.{Turn}
 use Rattle.expander.specs.declared.packed.Packed.{Packed}
 use Rattle.expander.specs.Defn.{measuredAs}
 use Rattle.expander.specs.Filled.{Filled}
-use Rattle.expander.specs.Machine.{memory, Means, Gives, sourceSet, turned}
+use Rattle.expander.specs.Giving.{givenTurn}
+use Rattle.expander.specs.Machine.{Memory, memory, Means, Gives}
 use Rattle.expander.specs.Results.{figureResult, FigureRadix, Shows, cutResult, CutInside, Cuts}
 use Rattle.expander.specs.Table.{rows, DefinitionsIn}
 use Rattle.expander.proofs.FilledLaws.{filled-long, filled-from, part-fills}
@@ -42,6 +44,18 @@ use Rattle.expander.proofs.Packing.{string-fits}
 use Rattle.expander.proofs.Parted.{with-source}
 use Rattle.expander.proofs.Parts.{part-long}
 use Rattle.expander.proofs.SourceLaws.{pending-long, pushed-back}
+use Rattle.expander.proofs.TurnLaws.{gives-by, turned-refused}
+
+-- ---- what a machine makes of what is given
+
+-- by the turn that it is
+pub gives-given : {a : Setting} {o : Outcome} {b : Memory} {t t′ : Turn} → t ≡ t′ → Gives a o b t′ → Gives a o b t
+gives-given e g = gives-by refl e g
+
+-- it is refused
+pub giving-refused : {a : Setting} {o : Outcome} {b : Memory} {m : Machine} {s : State} → Means a b m s → (f : Fault) → o ≡ refused f → Gives a o b (givenTurn m (given.Refused (faultAnswer f)))
+unfolding givenTurn
+giving-refused r f e = turned-refused f e refl
 
 -- ---- a text of n bytes in front of the text ahead
 
@@ -63,7 +77,8 @@ module _
     pub giving-room :
         m .source .from < n
         → Gives a (next (resulting w s)) (memory text pending calls callEnds stack definitions tableEnds streams owners wrap errors output)
-        (turned (went.Refused (answer.Room 1)) m)
+        (givenTurn m (given.Refused (answer.Room 1)))
+    unfolding givenTurn
     giving-room h =
         gives-room (resulting w s) 0 (over-pending a (resulting w s) (omega (arith, resulting-long, r .limits .pending, r .source .from-in)))
 
@@ -72,15 +87,15 @@ module _
       pub giving-front :
           {pending′ : Bytes} {at : ℕ} → at ≡ m .source .from - n → length pending′ ≡ length pending → drop at pending′ ≡ w ++ drop (m .source .from) pending
           → Gives a (next (resulting w s)) (memory text pending′ calls callEnds stack definitions tableEnds streams owners wrap errors output)
-          (turned went.On (sourceSet (record { from = at; taken = m .source .taken }) m))
-      unfolding resulting
+          (givenTurn m (given.At at))
+      unfolding resulting givenTurn
       giving-front {at} i l k = gives-next (with-source r (pushed-back w at (r .source) (omega (arith, r .source .from-in)) k) l)
 
       -- it was written there, into the buffer
       pub giving-filled :
           {pending′ : Bytes} → Filled pending (m .source .from - n) w pending′
           → Gives a (next (resulting w s)) (memory text pending′ calls callEnds stack definitions tableEnds streams owners wrap errors output)
-          (turned went.On (sourceSet (record { from = m .source .from - n; taken = m .source .taken }) m))
+          (givenTurn m (given.At (m .source .from - n)))
       giving-filled f =
           let k : m .source .from - n + length w ≡ m .source .from = omega arith in
           giving-front refl (filled-long f) (filled-from f ∙ ap (λ (i : ℕ). w ++ drop i pending) k)
@@ -90,7 +105,7 @@ module _
           {y : Bytes} → y ≡ w
           → Gives a (next (resulting w s))
           (memory text (putMid (m .source .from - n) (m .source .from - (m .source .from - n)) pending y) calls callEnds stack definitions tableEnds streams owners wrap errors output)
-          (turned went.On (sourceSet (record { from = m .source .from - n; taken = m .source .taken }) m))
+          (givenTurn m (given.At (m .source .from - n)))
       giving-part {y} f =
           giving-filled (rw f (part-fills pending w (m .source .from - n) (m .source .from) (omega arith) (r .source .from-in)))
 

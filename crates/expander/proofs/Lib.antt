@@ -9,6 +9,7 @@ pub mod DefiningLaws
 pub mod DefnLaws
 pub mod DeliveringLaws
 pub mod DivertingLaws
+pub mod EventLaws
 pub mod ExpandLaws
 pub mod FigureLaws
 pub mod FilledLaws
@@ -28,6 +29,7 @@ pub mod Parted
 pub mod Parts
 pub mod Passes
 pub mod Placing
+pub mod PlainLaws
 pub mod Quotes
 pub mod Reading
 pub mod RemarkingLaws

@@ -16,8 +16,8 @@ use Rattle.expander.specs.declared.figures.Figure.{Figure}
 use Rattle.expander.specs.declared.machine.Machine.{Machine}
 use Rattle.expander.specs.declared.machine.Turn.{Turn}
 use Rattle.expander.specs.declared.machine.Went.the-variants as went
-use Rattle.expander.specs.Machine.{Memory, Means, Gives, Sound, turned}
-use Rattle.expander.specs.Macros.{Resulting}
+use Rattle.expander.specs.Machine.{Memory, Means, Gives, Sound, SoundAt, turned}
+use Rattle.expander.specs.Macros.{Resulting, Changing}
 use Rattle.expander.specs.Results.{Shows}
 use Rattle.expander.proofs.MachineLaws.{gives-refused}
 
@@ -32,6 +32,16 @@ gives-gone {a} {b} e = subst (λ (t : Turn). Gives a (refused gone) b t) (sym e)
 -- what a function asks that is lent a part: the other buffers hold what they hold
 pub sound-at : {part : Memory → Memory} {m : Machine} (b : Memory) {a : Setting} {s : State} → Means a (part b) m s → Sound part m
 sound-at b {a} {s} h = record { others = b; setting = a; state = s; means = h }
+
+-- and of the machine, whose other parts are what they are
+pub sound-of : {part : Memory → Memory} {made : Machine → Machine} (b : Memory) (m : Machine) {a : Setting} {s : State} → Means a (part b) (made m) s → SoundAt part made
+sound-of b m h = record { machine = m; sound = sound-at b h }
+
+-- the same from what was asked for more parts
+pub sound-less :
+    {lent part : Memory → Memory} {made less : Machine → Machine} (p : SoundAt lent made)
+    → Means (p .sound .setting) (part (lent (p .sound .others))) (less (made (p .machine))) (p .sound .state) → SoundAt part less
+sound-less {lent} {made} p h = sound-of (lent (p .sound .others)) (made (p .machine)) h
 
 -- the macro of a number
 pub gives-at :
@@ -50,31 +60,31 @@ performed-none {k} h args s =
 over : {k : ℕ} (n : ℕ) → n < k → (k ≡ suc n → ⊥) → suc n < k
 over {k} n h ne = omega (arith, h, ne)
 
-module _ {k : ℕ} (r : Resulting k) (n3 : k ≡ 3 → ⊥) (n5 : k ≡ 5 → ⊥) (n7 : k ≡ 7 → ⊥) (n10 : k ≡ 10 → ⊥) (n11 : k ≡ 11 → ⊥) (n12 : k ≡ 12 → ⊥) (n13 : k ≡ 13 → ⊥) (n14 : k ≡ 14 → ⊥) (n15 : k ≡ 15 → ⊥) (n20 : k ≡ 20 → ⊥) (n21 : k ≡ 21 → ⊥) (n22 : k ≡ 22 → ⊥) where
+module _ {k : ℕ} (r : Resulting k) (h : Changing k) where
   past-all : 24 < k
   past-all =
       let h1 = over 0 (r .some) (r .not-changecom) in
       let h2 = over 1 h1 (r .not-changequote) in
-      let h3 = over 2 h2 n3 in
+      let h3 = over 2 h2 (h .not-decr) in
       let h4 = over 3 h3 (r .not-define) in
-      let h5 = over 4 h4 n5 in
+      let h5 = over 4 h4 (h .not-defn) in
       let h6 = over 5 h5 (r .not-divert) in
-      let h7 = over 6 h6 n7 in
+      let h7 = over 6 h6 (r .not-divnum) in
       let h8 = over 7 h7 (r .not-dnl) in
       let h9 = over 8 h8 (r .not-errprint) in
-      let h10 = over 9 h9 n10 in
-      let h11 = over 10 h10 n11 in
-      let h12 = over 11 h11 n12 in
-      let h13 = over 12 h12 n13 in
-      let h14 = over 13 h13 n14 in
-      let h15 = over 14 h14 n15 in
+      let h10 = over 9 h9 (h .not-eval) in
+      let h11 = over 10 h10 (h .not-ifdef) in
+      let h12 = over 11 h11 (h .not-ifelse) in
+      let h13 = over 12 h12 (h .not-incr) in
+      let h14 = over 13 h13 (h .not-index) in
+      let h15 = over 14 h14 (h .not-len) in
       let h16 = over 15 h15 (r .not-m4exit) in
       let h17 = over 16 h16 (r .not-m4wrap) in
       let h18 = over 17 h17 (r .not-popdef) in
       let h19 = over 18 h18 (r .not-pushdef) in
-      let h20 = over 19 h19 n20 in
-      let h21 = over 20 h20 n21 in
-      let h22 = over 21 h21 n22 in
+      let h20 = over 19 h19 (h .not-shift) in
+      let h21 = over 20 h20 (h .not-substr) in
+      let h22 = over 21 h21 (h .not-translit) in
       let h23 = over 22 h22 (r .not-undefine) in
       over 23 h23 (r .not-undivert)
 

@@ -5,10 +5,10 @@ use native.Mathlib.Numerals.{add-one}
 use mathlib.Core.Path.{_≡_, refl, sym, ap, subst, _∙_}
 use mathlib.Core.List.{[], _∷_}
 use mathlib.Core.Bool.{Bool, true, false, true≢false}
-use lib.Dec.{eqb, leb}
+use lib.Dec.{eqb, leb, ltb}
 use lib.ListN.{length, drop, getD, length-drop, drop-of-length-le}
 use lib.Seq.{drop-cons, getD-take, getD-drop, length-take-le}
-use borrow.Author.Tests.{eq-eqb, ne-eqb, leb-true, leb-false}
+use borrow.Author.Tests.{eq-eqb, ne-eqb, leb-true, leb-false, ltb-true, ltb-false}
 use Rattle.rules.specs.declared.Mark.{Mark}
 use Rattle.rules.specs.Bytes.{Bytes}
 use Rattle.rules.specs.Marks.{markText}
@@ -97,6 +97,16 @@ pub not-at : (m s : Bytes) (i : ℕ) → 1 ≤ length m → (getD m 0 0 ≡ getD
 not-at m s i h e =
     let p : i + 0 ≡ i = omega arith in
     at-begins m (drop i s) h ∙ other-byte m (drop i s) h (λ q. e (q ∙ getD-drop i s 0 0 ∙ ap (λ (n : ℕ). getD s n 0) p))
+
+-- one of a single byte, which is the byte at the place
+pub at-one : (m s : Bytes) (i : ℕ) → length m ≡ 1 → getD m 0 0 ≡ getD s i 0 → atMark m (drop i s) ≡ ltb i (length s)
+at-one m s i h e = at-begins m (drop i s) (omega arith) ∙ go (ltb i (length s)) refl
+  where
+    go : (t : Bool) → ltb i (length s) ≡ t → beginsWith m (drop i s) ≡ t
+    go true q =
+        let p : i ≡ i + 0 = omega arith in
+        ap (λ (n : ℕ). beginsWith m (drop n s)) p ∙ begins-on m s i 0 (omega arith) (omega (arith, ltb-true i (length s) q)) (e ∙ ap (λ (n : ℕ). getD s n 0) p) ∙ begins-end m s i 1 (omega arith)
+    go false q = begins-short m (drop i s) (omega (arith, ltb-false i (length s) q, length-drop i s))
 
 pub mark-room : (m text : Bytes) (i : ℕ) → i ≤ length text → beginsWith m (drop i text) ≡ true → i + length m ≤ length text
 mark-room m text i h e = omega (arith, begins-long m (drop i text) e, length-drop i text)

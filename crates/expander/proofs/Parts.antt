@@ -1,13 +1,14 @@
 -- Laws of lists and of their parts, as slices are lent. Assumes nothing.
 use Prim.Native.Nat.{ℕ, _-_, _≤_, zero, suc}
 use native.Mathlib.Omega.{arith}
-use mathlib.Core.Path.{_≡_, ap, _∙_, sym, refl}
+use mathlib.Core.Path.{_≡_, ap, ap₂, _∙_, sym, refl}
 use mathlib.Core.Bool.{Bool}
 use mathlib.Core.List.{List, _++_, append-nil, [], _∷_}
-use lib.ListN.{length, take, drop, replicate, length-take, length-drop}
+use lib.ListN.{length, take, drop, replicate, length-take, length-drop, drop-of-length-le}
 use lib.Seq.{drop-length, take-all, take-nil}
 use borrow.Author.Tests.{eq-eqb}
 use Rattle.ascii.specs.Copied.{Copied}
+use Rattle.matching.specs.Partners.{Fitted}
 
 -- the part of a slice from a place on
 pub part-all : (s : List ℕ) (i : ℕ) → take (length s - i) (drop i s) ≡ drop i s
@@ -36,6 +37,10 @@ drop-take (suc m) (suc n) (x ∷ l) =
 -- a copy into a slice of its length
 pub copied-whole : {s before after : List ℕ} {r : Bool} → Copied s before r after → length s ≡ length before → after ≡ s
 copied-whole {s} {before} c h = rw (eq-eqb (length s) (length before) h) at (c .written)
+
+-- a text written into a slice of its length
+pub fitted-whole : {w before after : List ℕ} {r : Bool} → Fitted w before r after → length w ≡ length before → after ≡ w
+fitted-whole {w} {before} f h = f .written ∙ ap₂ _++_ (take-all (length before) w (omega arith)) (drop-of-length-le before {i = length w} (omega arith)) ∙ append-nil w
 
 -- nothing is in it
 pub empty-of : {A : Type 0} (l : List A) → length l ≡ 0 → l ≡ []

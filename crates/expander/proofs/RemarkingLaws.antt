@@ -4,7 +4,7 @@ use mathlib.Core.Path.{_≡_, refl, sym, ap, _∙_}
 use mathlib.Core.Bool.{Bool, true, false, not, _&&_, _||_}
 use mathlib.Core.List.{List, [], _∷_}
 use native.Mathlib.Omega.{arith}
-use borrow.Author.Tests.{leb-true, not-true, not-false}
+use borrow.Author.Tests.{leb-true, eq-eqb, ne-eqb, not-true, not-false}
 use lib.Dec.{leb, eqb}
 use lib.ListN.{length}
 use Rattle.rules.specs.declared.Answer.the-variants as answer
@@ -20,6 +20,7 @@ use Rattle.rules.specs.State.{State, Outcome, next, withMarks}
 use Rattle.expander.specs.declared.machine.Machine.{Machine}
 use Rattle.expander.specs.declared.machine.Turn.{Turn}
 use Rattle.expander.specs.declared.machine.Went.the-variants as went
+use Rattle.expander.specs.Arguments.{secondOr}
 use Rattle.expander.specs.Machine.{Memory, Means, Gives, marksSet, turned}
 use Rattle.expander.specs.Tokens.{FullMark, GoodMarks}
 use Rattle.expander.proofs.Parted.{with-marks}
@@ -105,6 +106,16 @@ module _ {a : Setting} {b : Memory} {m : Machine} (f : Bytes → Bytes → MarkT
 
 -- ---- by the number of arguments: none, one, or more
 
+-- the second argument or the newline, as the code finds it
+module _ (w : Bytes) (args : List Bytes) where
+  pub second-only : length args ≡ 1 → w ≡ secondOr w args
+  unfolding secondOr
+  second-only h = sym (rw (eq-eqb (length args) 1 h, secondOr))
+
+  pub second-given : (length args ≡ 1 → ⊥) → {e : Bytes} → e ≡ arg 2 args → e ≡ secondOr w args
+  unfolding secondOr
+  second-given h f = f ∙ sym (rw (ne-eqb (length args) 1 h, secondOr))
+
 unfoldable byArguments : Outcome → (Bytes → Bytes → Outcome) → List Bytes → Outcome
 byArguments o f [] = o
 byArguments o f (b ∷ []) = f b newlineMark
@@ -116,17 +127,11 @@ module _ (o : Outcome) (f : Bytes → Bytes → Outcome) where
   by-none [] h = refl
   by-none (b ∷ more) h = absurd (omega arith)
 
-  by-one : (args : List Bytes) → length args ≡ 1 → byArguments o f args ≡ f (arg 1 args) newlineMark
-  unfolding byArguments arg
-  by-one [] h = absurd (omega arith)
-  by-one (b ∷ []) h = refl
-  by-one (b ∷ e ∷ more) h = absurd (omega arith)
-
-  by-more : (args : List Bytes) → (length args ≡ 0 → ⊥) → (length args ≡ 1 → ⊥) → byArguments o f args ≡ f (arg 1 args) (arg 2 args)
-  unfolding byArguments arg
-  by-more [] g h = absurd (g refl)
-  by-more (b ∷ []) g h = absurd (h refl)
-  by-more (b ∷ e ∷ more) g h = refl
+  by-some : (args : List Bytes) → (length args ≡ 0 → ⊥) → byArguments o f args ≡ f (arg 1 args) (secondOr newlineMark args)
+  unfolding byArguments arg secondOr
+  by-some [] g = absurd (g refl)
+  by-some (b ∷ []) g = refl
+  by-some (b ∷ e ∷ more) g = ap (f b) (second-given newlineMark (b ∷ e ∷ more) (λ h. omega arith) refl)
 
 module _ (s : State) where
   abbrev commentsOff : Outcome
@@ -153,19 +158,12 @@ changequote-is [] s = refl
 changequote-is (b ∷ []) s = refl
 changequote-is (b ∷ e ∷ more) s = refl
 
-module _ (args : List Bytes) (s : State) {b : Bytes} (f : b ≡ arg 1 args) where
-  pub changecom-one : length args ≡ 1 → callChangecom args s ≡ marking withComments b newlineMark s
-  changecom-one h = changecom-is args s ∙ by-one (commentsOff s) (commenting s) args h ∙ rw f
+module _ (args : List Bytes) (s : State) {b e : Bytes} (f : b ≡ arg 1 args) (g : e ≡ secondOr newlineMark args) (h : length args ≡ 0 → ⊥) where
+  pub changecom-some : callChangecom args s ≡ marking withComments b e s
+  changecom-some = changecom-is args s ∙ by-some (commentsOff s) (commenting s) args h ∙ rw (f, g)
 
-  pub changequote-one : length args ≡ 1 → callChangequote args s ≡ marking withQuotes b newlineMark s
-  changequote-one h = changequote-is args s ∙ by-one (plainQuotes s) (quoting s) args h ∙ rw f
-
-  module _ {e : Bytes} (g : e ≡ arg 2 args) (h : length args ≡ 0 → ⊥) (k : length args ≡ 1 → ⊥) where
-    pub changecom-more : callChangecom args s ≡ marking withComments b e s
-    changecom-more = changecom-is args s ∙ by-more (commentsOff s) (commenting s) args h k ∙ rw (f, g)
-
-    pub changequote-more : callChangequote args s ≡ marking withQuotes b e s
-    changequote-more = changequote-is args s ∙ by-more (plainQuotes s) (quoting s) args h k ∙ rw (f, g)
+  pub changequote-some : callChangequote args s ≡ marking withQuotes b e s
+  changequote-some = changequote-is args s ∙ by-some (plainQuotes s) (quoting s) args h ∙ rw (f, g)
 
 module _ {a : Setting} {b : Memory} {m m′ : Machine} {s : State} {t : Turn} (r : Means a b m s) (args : List Bytes) (h : length args ≡ 0) {x : Marks} (k : m′ ≡ marksSet x m) (f : t ≡ turned went.On m′) where
   -- comments are turned off

@@ -28,10 +28,15 @@ use Rattle.expander.specs.declared.machine.Machine.{Machine}
 use Rattle.expander.specs.declared.machine.Turn.{Turn}
 use Rattle.expander.specs.declared.machine.Went.{Went}
 use Rattle.expander.specs.declared.machine.Went.the-variants as went
+use Rattle.expander.specs.declared.events.Special.{Special}
+use Rattle.expander.specs.declared.stretch.Stop.{Stop}
+use Rattle.expander.specs.declared.stretch.Stop.the-variants as stop
+use Rattle.expander.specs.declared.stretch.Stretch.{Stretch}
 use Rattle.expander.specs.Front.{Front}
-use Rattle.expander.specs.Machine.{Memory, Limits, Means, Came, Gives}
+use Rattle.expander.specs.Machine.{Memory, Limits, Means, Sound, Came, Gives}
 use Rattle.expander.specs.Verdict.{Verdict, going, over, denied, roomed, verdict, followed}
-use Rattle.expander.specs.Run.{Running, Ran, Wrote, finishedReport, stoppedReport}
+use Rattle.expander.specs.Events.{SpecialWithin, SpecialIs}
+use Rattle.expander.specs.Run.{Running, Ran, Wrote, finishedReport, stoppedReport, SpecialNext, StoppedHere, Reached, Stretched}
 use Rattle.expander.proofs.MachineLaws.{front-long}
 use Rattle.expander.proofs.Rows.{fresh-in}
 use Rattle.expander.proofs.Waiting.{none-held}
@@ -283,3 +288,47 @@ module _ {a : Setting} {b : Memory} {m : Machine} {left count : ℕ} {w : Ended}
               ∙ ap (followed (lengths a) (left - 1) count (u .state)) (v .is)
               ∙ ap (λ (n : ℕ). runFrom (lengths a) (left - 1) n (v .state)) k;
         }
+
+-- ---- a stretch of plain steps
+
+-- a run can be looked at from any state
+pub from-here : {a : Setting} {b : Memory} {m : Machine} {s : State} (left count : ℕ) → Means a b m s → Running a b m left count (runFrom (lengths a) left count s)
+from-here left count h = record { state = _; means = h; so-far = refl }
+
+module _ {a : Setting} {b : Memory} {m : Machine} {left count : ℕ} {w : Ended} (u : Running a b m left count w) where
+  pub spent-here : left ≡ 0 → StoppedHere w count m answer.Spent
+  spent-here e = record { taken-in = taken-few u; ran = run-spent u e }
+
+  pub refused-here :
+      {b′ : Memory} {t : Turn} {x : Answer} → 0 < left → Gives a (step (u .state)) b′ t → t .went ≡ went.Refused x → StoppedHere w count m x
+  refused-here {x = x} more g e = record { taken-in = taken-few u; ran = run-refused u more g x e }
+
+  -- as many steps as were left before, less those left now
+  pub recount : (n : ℕ) → count ≡ n → Running a b m left n w
+  recount n e = subst (λ (k : ℕ). Running a b m left k w) e u
+
+-- what a function asks holds of a run's state
+pub running-sound : {a : Setting} {m : Machine} {left count : ℕ} {w : Ended} {part : Memory → Memory} (b : Memory) → Running a b m left count w → part b ≡ b → Sound part m
+running-sound {a} {m} b u e =
+    record { others = b; setting = a; state = u .state; means = subst (λ (k : Memory). Means a k m (u .state)) (sym e) (u .means) }
+
+-- a report by another way to say its count
+pub ran-recount :
+    {w : Ended} {errors output : Bytes} {count : ℕ} (x : Answer) (m : Machine) (n : ℕ) → count ≡ n → Ran w errors output (stoppedReport x count m)
+    → Ran w errors output (stoppedReport x n m)
+ran-recount {w} {errors} {output} x m n e h = subst (λ (k : ℕ). Ran w errors output (stoppedReport x k m)) e h
+
+pub end-recount :
+    {w : Ended} {errors output : Bytes} {count : ℕ} (x : Answer) (m : Machine) (n : ℕ) → count ≡ n → Ran w errors output (finishedReport x (count + 1) m)
+    → Ran w errors output (finishedReport x (n + 1) m)
+end-recount {w} {errors} {output} x m n e h = subst (λ (k : ℕ). Ran w errors output (finishedReport x (k + 1) m)) e h
+
+-- what a stretch came to, by why it ended
+module _ {a : Setting} {b : Memory} {w : Ended} {budget count : ℕ} {r : Stretch} (h : Stretched a b w budget count r) where
+  pub reached-stop : {x : Answer} → r .stop ≡ stop.Stopped x → StoppedHere w (count + (budget - r .left)) (r .machine) x
+  unfolding Reached
+  reached-stop e = subst (Reached a b w (count + (budget - r .left)) r) e (h .reached)
+
+  pub reached-special : {e : Special} → r .stop ≡ stop.Special e → SpecialNext a b w (count + (budget - r .left)) r e
+  unfolding Reached
+  reached-special e = subst (Reached a b w (count + (budget - r .left)) r) e (h .reached)

@@ -29,8 +29,8 @@ use Rattle.expander.specs.declared.machine.Machine.{Machine}
 use Rattle.expander.specs.declared.machine.Turn.{Turn}
 use Rattle.expander.specs.declared.machine.Went.the-variants as went
 use Rattle.expander.specs.declared.source.Position.{Position}
-use Rattle.expander.specs.declared.step.Class.{Class}
-use Rattle.expander.specs.declared.step.Class.the-variants as class
+use Rattle.expander.specs.declared.events.Class.{Class}
+use Rattle.expander.specs.declared.events.Class.the-variants as class
 use Rattle.expander.specs.declared.table.Meaning.{Meaning as Looked}
 use Rattle.expander.specs.declared.table.Meaning.the-variants as looked
 use Rattle.expander.specs.Calls.{CallsIn, bit}

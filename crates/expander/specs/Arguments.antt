@@ -3,7 +3,7 @@ use Prim.Native.Nat.{ℕ, _-_, _≤_}
 use mathlib.Core.Path.{_≡_}
 use mathlib.Core.Bool.{true, false}
 use mathlib.Core.List.{List}
-use lib.Dec.{leb}
+use lib.Dec.{leb, eqb}
 use lib.ListN.{length, take, drop}
 use Rattle.numerals.specs.declared.Decimal.{Decimal}
 use Rattle.numerals.specs.declared.Decimal.the-variants as decimal
@@ -11,6 +11,7 @@ use Rattle.numerals.specs.declared.Natural.{Natural}
 use Rattle.numerals.specs.declared.Natural.the-variants as natural
 use Rattle.rules.specs.declared.Marks.{Marks}
 use Rattle.rules.specs.Bytes.{Bytes}
+use Rattle.rules.specs.Arguments.{arg}
 use Rattle.expander.specs.declared.arguments.Arguments.{Arguments}
 use Rattle.expander.specs.declared.arguments.Span.{Span}
 use Rattle.expander.specs.Packed.{Packs}
@@ -40,6 +41,10 @@ pub record SpanIs (bytes : Bytes) (p : Span) (w : Bytes) : Type 0 where
   pub is : take (p .end - p .start) (drop (p .start) bytes) ≡ w
   pub ordered : p .start ≤ p .end
   pub inside : p .end ≤ length bytes
+
+-- the second argument, or w where there is one argument
+unfoldable pub secondOr : Bytes → List Bytes → Bytes
+secondOr w args = elim (eqb (length args) 1) [ true ↦ w | false ↦ arg 2 args ]
 
 -- the quote marks have at most five bytes each, or none
 pub record ShortQuotes (m : Marks) : Type 0 where

@@ -4,8 +4,10 @@ pub mod Arguments
 pub mod Calls
 pub mod Defn
 pub mod Diverting
+pub mod Events
 pub mod Filled
 pub mod Front
+pub mod Giving
 pub mod Machine
 pub mod Macros
 pub mod Packed

@@ -71,6 +71,10 @@ abbrev pub stringsAt : Bytes → List ℕ → Memory → Memory
 stringsAt calls callEnds b =
     memory (b .text) (b .pending) calls callEnds (b .stack) (b .definitions) (b .tableEnds) (b .streams) (b .owners) (b .wrap) (b .errors) (b .output)
 
+abbrev pub stackAt : List ℕ → Memory → Memory
+stackAt stack b =
+    memory (b .text) (b .pending) (b .calls) (b .callEnds) stack (b .definitions) (b .tableEnds) (b .streams) (b .owners) (b .wrap) (b .errors) (b .output)
+
 abbrev pub callsAt : Bytes → List ℕ → List ℕ → Memory → Memory
 callsAt calls callEnds stack b =
     memory (b .text) (b .pending) calls callEnds stack (b .definitions) (b .tableEnds) (b .streams) (b .owners) (b .wrap) (b .errors) (b .output)
@@ -163,6 +167,11 @@ pub record Sound (lent : Memory → Memory) (m : Machine) : Type 0 where
   pub setting : Setting
   pub state : State
   pub means : Means setting (lent others) m state
+
+-- the same for a function that is lent some parts of the machine, whatever the others are
+pub record SoundAt (lent : Memory → Memory) (made : Machine → Machine) : Type 0 where
+  pub machine : Machine
+  pub sound : Sound lent (made machine)
 
 -- how many bytes are ahead of a position
 abbrev pub aheadOf : Bytes → Bytes → Position → ℕ

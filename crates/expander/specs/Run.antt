@@ -1,5 +1,5 @@
 -- What the run leaves, and what its functions ask.
-use Prim.Native.Nat.{ℕ, _≤_}
+use Prim.Native.Nat.{ℕ, _+_, _-_, _≤_, _<_}
 use mathlib.Core.Path.{_≡_}
 use mathlib.Core.List.{List}
 use lib.ListN.{length, replicate}
@@ -10,6 +10,11 @@ use Rattle.rules.specs.State.{State}
 use Rattle.rules.specs.Run.{Setting, Ended, lengths, runFrom}
 use Rattle.rules.specs.Contract.{reportOf, errorsOf, outputOf, fronted}
 use Rattle.expander.specs.declared.machine.Machine.{Machine}
+use Rattle.expander.specs.declared.events.Special.{Special}
+use Rattle.expander.specs.declared.stretch.Stop.{Stop}
+use Rattle.expander.specs.declared.stretch.Stop.the-variants as stop
+use Rattle.expander.specs.declared.stretch.Stretch.{Stretch}
+use Rattle.expander.specs.Events.{SpecialWithin, SpecialIs}
 use Rattle.expander.specs.Front.{Front}
 use Rattle.expander.specs.Machine.{Memory, Limits, Means}
 
@@ -30,17 +35,38 @@ pub record Ran (e : Ended) (errors output : Bytes) (r : Report) : Type 0 where
   pub errors-are : Front errors (r .errors) (errorsOf e)
   pub output-are : Front output (r .output) (outputOf e)
 
--- the same, copied out
-pub record Wrote (e : Ended) (errors output errors′ output′ : Bytes) (r : Report) : Type 0 where
-  pub report : r ≡ reportOf e
-  pub errors-are : errors′ ≡ fronted (errorsOf e) errors
-  pub output-are : output′ ≡ fronted (outputOf e) output
-
 unfoldable pub finishedReport : Answer → ℕ → Machine → Report
 finishedReport answer steps m = record { answer = answer; steps = steps; place = m .source .taken; output = m .sinks .output; errors = m .errors }
 
 unfoldable pub stoppedReport : Answer → ℕ → Machine → Report
 stoppedReport answer steps m = record { answer = answer; steps = steps; place = m .source .taken; output = 0; errors = 0 }
+
+-- the next step is not plain, and this is what it comes to
+pub record SpecialNext (a : Setting) (b : Memory) (whole : Ended) (count : ℕ) (r : Stretch) (e : Special) : Type 0 where
+  pub running : Running a b (r .machine) (r .left) count whole
+  pub more : 0 < r .left
+  pub within : SpecialWithin (b .text) (b .pending) (r .machine) e
+  pub is : SpecialIs (running .state) e
+
+-- the run ends here, with its budget spent or a step refused
+pub record StoppedHere (whole : Ended) (count : ℕ) (m : Machine) (x : Answer) : Type 0 where
+  pub taken-in : m .source .taken ≤ 65536
+  pub ran : (errors output : Bytes) → Ran whole errors output (stoppedReport x count m)
+
+unfoldable pub Reached : Setting → Memory → Ended → ℕ → Stretch → Stop → Type 0
+Reached a b whole count r (stop.Stopped x) = StoppedHere whole count (r .machine) x
+Reached a b whole count r (stop.Special e) = SpecialNext a b whole count r e
+
+-- a stretch of plain steps of a run that had `budget` steps left after `count`
+pub record Stretched (a : Setting) (b : Memory) (whole : Ended) (budget count : ℕ) (r : Stretch) : Type 0 where
+  pub few : r .left ≤ budget
+  pub reached : Reached a b whole (count + (budget - r .left)) r (r .stop)
+
+-- the same, copied out
+pub record Wrote (e : Ended) (errors output errors′ output′ : Bytes) (r : Report) : Type 0 where
+  pub report : r ≡ reportOf e
+  pub errors-are : errors′ ≡ fronted (errorsOf e) errors
+  pub output-are : output′ ≡ fronted (outputOf e) output
 
 -- no length is above 65,536
 pub record Lent (text pending calls definitions streams wrap errors output : ℕ) : Type 0 where

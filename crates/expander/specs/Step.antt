@@ -8,8 +8,8 @@ use Rattle.rules.specs.Bytes.{Bytes}
 use Rattle.rules.specs.State.{Call, State, Outcome, next, withCalls}
 use Rattle.rules.specs.Step.{collecting, closed, commaMet, inCall}
 use Rattle.expander.specs.declared.source.Position.{Position}
-use Rattle.expander.specs.declared.step.Class.{Class}
-use Rattle.expander.specs.declared.step.Class.the-variants as class
+use Rattle.expander.specs.declared.events.Class.{Class}
+use Rattle.expander.specs.declared.events.Class.the-variants as class
 use Rattle.expander.specs.Calls.{bit}
 use Rattle.expander.specs.Machine.{aheadOf}
 

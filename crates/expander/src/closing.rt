@@ -6,16 +6,17 @@ use crate::giving;
 use crate::machine::Machine;
 use crate::machine::Turn;
 use crate::macros;
+use crate::macros::Sort;
 use crate::packed;
 use crate::source;
 use crate::source::Position;
 use crate::table;
 use crate::table::Meaning;
 use rules::Answer;
-ghost use mathlib.Core.Option.{Option};
 ghost use Rattle.expander.specs.Table.{Finds};
 ghost use mathlib.Core.Path.{_≡_};
 ghost use mathlib.Core.List.{List, [], _∷_, _++_};
+ghost use mathlib.Core.Option.{Option};
 ghost use Prim.Native.Nat.{_≤_, _<_};
 ghost use lib.ListN.{length, take, drop};
 ghost use Rattle.rules.specs.State.{State, Call, taking};
@@ -25,6 +26,7 @@ ghost use Rattle.expander.specs.Machine.{Memory, Means, Gives, Sound, Re
 ghost use Rattle.rules.specs.Step.{closed};
 ghost use Rattle.rules.specs.Macros.{called};
 ghost use Rattle.rules.specs.Table.{meaningOf, Meaning as TableMeaning};
+ghost use Rattle.expander.specs.Events.{SoundName};
 
 // The first n bytes ahead are copied to the front of `scratch`.
 fn copy_name(text: &[u8], pending: &[u8], p: Position, n: usize, scratch: &mut [u8])
@@ -51,18 +53,29 @@ pub(crate) fn meaning_ahead(
     requires { ⌜ length (now scratch) ≡ 65536 ⌝ }
     ensures { λ r. ⌜ ((a : Setting) (s : State) (b : Memory) → Means a (textAt (now (text .entry)) (pendingAt (now (pending .entry)) (definitionsAt (now (definitions .entry)) (now («table_ends» .entry)) b))) m s → Finds (s .table .definitions) (meaningOf (take n (ahead (s .source))) (s .table)) r) ⌝ }
 {
+    let p = m.source;
+    let from = p.from;
+    let taken = p.taken;
+    let packed = m.table.packed;
+    let own = m.table.own;
+    let have = pending.len() - from;
+    if n <= have {
+        let to = from + n;
+        return table::look_up(definitions, table_ends, packed, own, &pending[from..to]);
+    }
+    if have == 0 {
+        let to = taken + n;
+        return table::look_up(definitions, table_ends, packed, own, &text[taken..to]);
+    }
     if scratch.len() < n {
         return Meaning::Undefined;
     }
-    let p = m.source;
     copy_name(text, pending, p, n, scratch);
-    let packed = m.table.packed;
-    let own = m.table.own;
     table::look_up(definitions, table_ends, packed, own, &scratch[..n])
 }
 
 // The name of n bytes ahead, which means something, is called without arguments.
-pub(crate) fn call_bare(
+pub(crate) fn bare(
     text: &[u8],
     pending: &mut [u8],
     calls: &[u8],
@@ -79,9 +92,8 @@ pub(crate) fn call_bare(
     n: usize,
     meaning: Meaning,
 ) -> Turn
-    requires { ⌜ Sound (λ b. textAt (now text) (pendingAt (now pending) (stringsAt (now calls) (now ends) (definitionsAt (now definitions) (now «table_ends») (sinksAt (now streams) (now owners) (now output) (wrapAt (now wrap) (errorsAt (now errors) b))))))) m ⌝ }
+    requires { ⌜ SoundName (λ b. textAt (now text) (pendingAt (now pending) (stringsAt (now calls) (now ends) (definitionsAt (now definitions) (now «table_ends») (sinksAt (now streams) (now owners) (now output) (wrapAt (now wrap) (errorsAt (now errors) b))))))) m n meaning ⌝ }
     requires { ⌜ Reach (now text) (now pending) (m .source) 0 n n ⌝ }
-    requires { ⌜ ((a : Setting) (s : State) (b : Memory) → Means a (textAt (now text) (pendingAt (now pending) (definitionsAt (now definitions) (now «table_ends») b))) m s → Finds (s .table .definitions) (meaningOf (take n (ahead (s .source))) (s .table)) meaning) ⌝ }
     requires { ⌜ length (now scratch) ≡ 65536 ⌝ }
     ensures { λ t. ⌜ ((a : Setting) (s : State) (b : Memory) (w : Option TableMeaning) → Means a (textAt (now (text .entry)) (pendingAt (now (pending .entry)) (stringsAt (now (calls .entry)) (now (ends .entry)) (definitionsAt (now (definitions .entry)) (now («table_ends» .entry)) (sinksAt (now (streams .entry)) (now (owners .entry)) (now (output .entry)) (wrapAt (now (wrap .entry)) (errorsAt (now (errors .entry)) b))))))) m s → Finds (s .table .definitions) w meaning → Gives a (called w (take n (ahead (s .source))) [] (taking n s)) (textAt (now (text .entry)) (pendingAt (now (pending .exit)) (stringsAt (now (calls .entry)) (now (ends .entry)) (definitionsAt (now (definitions .exit)) (now («table_ends» .exit)) (sinksAt (now (streams .exit)) (now (owners .exit)) (now (output .exit)) (wrapAt (now (wrap .exit)) (errorsAt (now (errors .exit)) b))))))) t) ⌝ }
 {
@@ -90,39 +102,69 @@ pub(crate) fn call_bare(
     let x = Arguments { strings, base };
     let p = m.source;
     let to = source::advanced(pending, p, n);
-    let after = m.with_source(to);
     match meaning {
         Meaning::Text(i) => {
             copy_name(text, pending, p, n, scratch);
-            giving::give_text(
+            let marks = m.marks;
+            let table = m.table;
+            let g = giving::give_text(
                 pending,
                 calls,
                 ends,
                 definitions,
                 table_ends,
-                after,
+                table,
+                to,
+                marks,
                 &scratch[..n],
                 x,
                 i,
-            )
+            );
+            macros::given(m.with_source(to), g)
         }
-        Meaning::Predefined(k) => macros::perform(
-            text,
-            pending,
-            calls,
-            ends,
-            definitions,
-            table_ends,
-            streams,
-            owners,
-            wrap,
-            errors,
-            output,
-            scratch,
-            after,
-            x,
-            k,
-        ),
+        Meaning::Predefined(k) => match macros::sort_of(k) {
+            Sort::Result => {
+                let marks = m.marks;
+                let table = m.table;
+                let g = macros::give(
+                    pending,
+                    calls,
+                    ends,
+                    definitions,
+                    table_ends,
+                    table,
+                    to,
+                    marks,
+                    x,
+                    k,
+                );
+                macros::given(m.with_source(to), g)
+            }
+            Sort::Search => {
+                let g = macros::search(pending, calls, ends, to, x);
+                macros::given(m.with_source(to), g)
+            }
+            Sort::Change => {
+                let after = m.with_source(to);
+                macros::perform(
+                    text,
+                    pending,
+                    calls,
+                    ends,
+                    definitions,
+                    table_ends,
+                    streams,
+                    owners,
+                    wrap,
+                    errors,
+                    output,
+                    scratch,
+                    after,
+                    x,
+                    k,
+                )
+            }
+        },
         Meaning::Undefined => m.refused(Answer::Gone),
     }
 }
@@ -156,36 +198,70 @@ pub(crate) fn close(
         base: first + 1,
     };
     let name = packed::string(calls, ends, strings, first);
-    let after = m.with_calls(calls::closed(ends, m.calls, first));
+    let left = calls::closed(ends, m.calls, first);
+    let to = m.source;
     match table::look_up(definitions, table_ends, m.table.packed, m.table.own, name) {
-        Meaning::Text(i) => giving::give_text(
-            pending,
-            calls,
-            ends,
-            definitions,
-            table_ends,
-            after,
-            name,
-            x,
-            i,
-        ),
-        Meaning::Predefined(k) => macros::perform(
-            text,
-            pending,
-            calls,
-            ends,
-            definitions,
-            table_ends,
-            streams,
-            owners,
-            wrap,
-            errors,
-            output,
-            scratch,
-            after,
-            x,
-            k,
-        ),
+        Meaning::Text(i) => {
+            let marks = m.marks;
+            let table = m.table;
+            let g = giving::give_text(
+                pending,
+                calls,
+                ends,
+                definitions,
+                table_ends,
+                table,
+                to,
+                marks,
+                name,
+                x,
+                i,
+            );
+            macros::given(m.with_calls(left), g)
+        }
+        Meaning::Predefined(k) => match macros::sort_of(k) {
+            Sort::Result => {
+                let marks = m.marks;
+                let table = m.table;
+                let g = macros::give(
+                    pending,
+                    calls,
+                    ends,
+                    definitions,
+                    table_ends,
+                    table,
+                    to,
+                    marks,
+                    x,
+                    k,
+                );
+                macros::given(m.with_calls(left), g)
+            }
+            Sort::Search => {
+                let g = macros::search(pending, calls, ends, to, x);
+                macros::given(m.with_calls(left), g)
+            }
+            Sort::Change => {
+                let after = m.with_calls(left);
+                macros::perform(
+                    text,
+                    pending,
+                    calls,
+                    ends,
+                    definitions,
+                    table_ends,
+                    streams,
+                    owners,
+                    wrap,
+                    errors,
+                    output,
+                    scratch,
+                    after,
+                    x,
+                    k,
+                )
+            }
+        },
         Meaning::Undefined => m.refused(Answer::Gone),
     }
 }

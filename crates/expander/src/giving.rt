@@ -7,15 +7,14 @@ use crate::defn;
 use crate::defn::DefnLength;
 use crate::figures::Figure;
 use crate::lists;
-use crate::machine::Machine;
-use crate::machine::Turn;
 use crate::packed;
 use crate::pending;
 use crate::source::Position;
 use crate::substitution;
+use crate::table::Definitions;
 use numerals::Length;
 use rules::Answer;
-ghost use Rattle.expander.specs.declared.machine.Went.the-variants as went;
+use rules::Marks;
 ghost use mathlib.Core.Path.{_≡_};
 ghost use mathlib.Core.List.{List, []};
 ghost use Prim.Native.Nat.{_+_, _*_, _≤_};
@@ -28,75 +27,74 @@ ghost use Rattle.rules.specs.Bytes.{Bytes};
 ghost use Rattle.rules.specs.State.{State, next, resulting};
 ghost use Rattle.rules.specs.Run.{Setting};
 ghost use Rattle.expander.specs.Arguments.{ArgumentsIn, SomeArguments};
-ghost use Rattle.expander.specs.Machine.{Memory, Means, Gives, Sound, pendingAt, stringsAt, definitionsAt, sourceSet, turned};
+ghost use Rattle.expander.specs.declared.machine.Machine.{Machine};
+ghost use Rattle.expander.specs.Machine.{Memory, Means, Gives, SoundAt, pendingAt, stringsAt, definitionsAt, sourceSet, marksSet, tableSet};
+ghost use Rattle.expander.specs.Giving.{givenTurn};
 ghost use Rattle.rules.specs.Macros.{giving, callDefn, callShift, callTranslit};
 ghost use Rattle.rules.specs.Results.{Result, yields};
 ghost use Rattle.rules.specs.Arguments.{substituted};
 ghost use Rattle.expander.specs.Table.{rows};
 ghost use Rattle.expander.specs.Results.{Shows, Cuts, CutInside};
 
-// The machine with its pending text from `at` on.
-fn pushed(m: Machine, at: usize) -> Turn
-    ensures { λ r. ⌜ r ≡ turned went.On (sourceSet (record { from = at; taken = m .source .taken }) m) ⌝ }
-{
-    let taken = m.source.taken;
-    let to = Position { from: at, taken };
-    m.with_source(to).on()
+// What is given: the result was written before the text ahead, which begins at a place now; or why not.
+pub enum Given {
+    At(usize),
+    Refused(Answer),
 }
 
 // A number in a radix.
-fn give_number(pending: &mut [u8], m: Machine, bits: u32, radix: u32, least: u32) -> Turn
-    requires { ⌜ Sound (λ b. pendingAt (now pending) b) m ⌝ }
-    ensures { λ t. ⌜ ((a : Setting) (s : State) (b : Memory) → Means a (pendingAt (now (pending .entry)) b) m s → isRadix radix ≡ true → Gives a (next (resulting (writtenIn radix least (signedValue bits)) s)) (pendingAt (now (pending .exit)) b) t) ⌝ }
+fn give_number(pending: &mut [u8], p: Position, bits: u32, radix: u32, least: u32) -> Given
+    requires { ⌜ SoundAt (λ b. pendingAt (now pending) b) (λ m. sourceSet p m) ⌝ }
+    ensures { λ r. ⌜ ((a : Setting) (s : State) (b : Memory) (m : Machine) → Means a (pendingAt (now (pending .entry)) b) (sourceSet p m) s → isRadix radix ≡ true → Gives a (next (resulting (writtenIn radix least (signedValue bits)) s)) (pendingAt (now (pending .exit)) b) (givenTurn (sourceSet p m) r)) ⌝ }
 {
     let Length::Bytes(n) = numerals::written_length(bits, radix, least) else {
-        return m.refused(Answer::Number);
+        return Given::Refused(Answer::Number);
     };
-    let from = m.source.from;
+    let from = p.from;
     if from < n {
-        return m.refused(Answer::Room(1));
+        return Given::Refused(Answer::Room(1));
     }
     let at = from - n;
     numerals::write_number(&mut pending[at..from], bits, radix, least);
-    pushed(m, at)
+    Given::At(at)
 }
 
 // A slice.
-fn give_slice(pending: &mut [u8], m: Machine, s: &[u8]) -> Turn
-    requires { ⌜ Sound (λ b. pendingAt (now pending) b) m ⌝ }
-    ensures { λ t. ⌜ ((a : Setting) (u : State) (b : Memory) → Means a (pendingAt (now (pending .entry)) b) m u → Gives a (next (resulting (now (s .entry)) u)) (pendingAt (now (pending .exit)) b) t) ⌝ }
+fn give_slice(pending: &mut [u8], p: Position, s: &[u8]) -> Given
+    requires { ⌜ SoundAt (λ b. pendingAt (now pending) b) (λ m. sourceSet p m) ⌝ }
+    ensures { λ r. ⌜ ((a : Setting) (u : State) (b : Memory) (m : Machine) → Means a (pendingAt (now (pending .entry)) b) (sourceSet p m) u → Gives a (next (resulting (now (s .entry)) u)) (pendingAt (now (pending .exit)) b) (givenTurn (sourceSet p m) r)) ⌝ }
 {
-    let from = m.source.from;
+    let from = p.from;
     if from < s.len() {
-        return m.refused(Answer::Room(1));
+        return Given::Refused(Answer::Room(1));
     }
     let at = pending::push(pending, from, s);
-    pushed(m, at)
+    Given::At(at)
 }
 
 // A number.
-pub(crate) fn give_figure(pending: &mut [u8], m: Machine, f: Figure) -> Turn
-    requires { ⌜ Sound (λ b. pendingAt (now pending) b) m ⌝ }
-    ensures { λ t. ⌜ ((a : Setting) (s : State) (b : Memory) (w : Result) → Means a (pendingAt (now (pending .entry)) b) m s → Shows w f → Gives a (giving w s) (pendingAt (now (pending .exit)) b) t) ⌝ }
+pub(crate) fn give_figure(pending: &mut [u8], p: Position, f: Figure) -> Given
+    requires { ⌜ SoundAt (λ b. pendingAt (now pending) b) (λ m. sourceSet p m) ⌝ }
+    ensures { λ r. ⌜ ((a : Setting) (s : State) (b : Memory) (m : Machine) (w : Result) → Means a (pendingAt (now (pending .entry)) b) (sourceSet p m) s → Shows w f → Gives a (giving w s) (pendingAt (now (pending .exit)) b) (givenTurn (sourceSet p m) r)) ⌝ }
 {
     match f {
-        Figure::NoNumber => m.refused(Answer::Number),
-        Figure::NoExpression => m.refused(Answer::Expression),
-        Figure::Divisor => m.refused(Answer::Divisor),
-        Figure::Number { bits, radix, least } => give_number(pending, m, bits, radix, least),
+        Figure::NoNumber => Given::Refused(Answer::Number),
+        Figure::NoExpression => Given::Refused(Answer::Expression),
+        Figure::Divisor => Given::Refused(Answer::Divisor),
+        Figure::Number { bits, radix, least } => give_number(pending, p, bits, radix, least),
     }
 }
 
 // A part of buffer 2.
-pub(crate) fn give_cut(pending: &mut [u8], calls: &[u8], m: Machine, c: Cut) -> Turn
-    requires { ⌜ Sound (λ b. pendingAt (now pending) b) m ⌝ }
+pub(crate) fn give_cut(pending: &mut [u8], calls: &[u8], p: Position, c: Cut) -> Given
+    requires { ⌜ SoundAt (λ b. pendingAt (now pending) b) (λ m. sourceSet p m) ⌝ }
     requires { ⌜ CutInside (now calls) c ⌝ }
-    ensures { λ t. ⌜ ((a : Setting) (s : State) (b : Memory) (w : Result) → Means a (pendingAt (now (pending .entry)) b) m s → Cuts (now (calls .entry)) w c → Gives a (giving w s) (pendingAt (now (pending .exit)) b) t) ⌝ }
+    ensures { λ r. ⌜ ((a : Setting) (s : State) (b : Memory) (m : Machine) (w : Result) → Means a (pendingAt (now (pending .entry)) b) (sourceSet p m) s → Cuts (now (calls .entry)) w c → Gives a (giving w s) (pendingAt (now (pending .exit)) b) (givenTurn (sourceSet p m) r)) ⌝ }
 {
     let Cut::Part { start, end } = c else {
-        return m.refused(Answer::Number);
+        return Given::Refused(Answer::Number);
     };
-    give_slice(pending, m, &calls[start..end])
+    give_slice(pending, p, &calls[start..end])
 }
 
 // The arguments behind the first, quoted.
@@ -104,21 +102,22 @@ pub(crate) fn give_shift(
     pending: &mut [u8],
     calls: &[u8],
     ends: &[u32],
-    m: Machine,
+    p: Position,
+    marks: Marks,
     x: Arguments,
-) -> Turn
-    requires { ⌜ Sound (λ b. pendingAt (now pending) (stringsAt (now calls) (now ends) b)) m ⌝ }
+) -> Given
+    requires { ⌜ SoundAt (λ b. pendingAt (now pending) (stringsAt (now calls) (now ends) b)) (λ m. sourceSet p (marksSet marks m)) ⌝ }
     requires { ⌜ SomeArguments (now calls) (now ends) x ⌝ }
-    ensures { λ t. ⌜ ((a : Setting) (s : State) (b : Memory) (args : List Bytes) → Means a (pendingAt (now (pending .entry)) (stringsAt (now (calls .entry)) (now (ends .entry)) b)) m s → ArgumentsIn (now (calls .entry)) (now (ends .entry)) x args → Gives a (callShift args s) (pendingAt (now (pending .exit)) (stringsAt (now (calls .entry)) (now (ends .entry)) b)) t) ⌝ }
+    ensures { λ r. ⌜ ((a : Setting) (s : State) (b : Memory) (m : Machine) (args : List Bytes) → Means a (pendingAt (now (pending .entry)) (stringsAt (now (calls .entry)) (now (ends .entry)) b)) (sourceSet p (marksSet marks m)) s → ArgumentsIn (now (calls .entry)) (now (ends .entry)) x args → Gives a (callShift args s) (pendingAt (now (pending .exit)) (stringsAt (now (calls .entry)) (now (ends .entry)) b)) (givenTurn (sourceSet p (marksSet marks m)) r)) ⌝ }
 {
-    let n = lists::list_length(ends, x, 1, m.marks);
-    let from = m.source.from;
+    let n = lists::list_length(ends, x, 1, marks);
+    let from = p.from;
     if from < n {
-        return m.refused(Answer::Room(1));
+        return Given::Refused(Answer::Room(1));
     }
     let at = from - n;
-    lists::fill_list(calls, ends, x, 1, m.marks, b',', pending, at);
-    pushed(m, at)
+    lists::fill_list(calls, ends, x, 1, marks, b',', pending, at);
+    Given::At(at)
 }
 
 // The first argument with its bytes replaced.
@@ -126,24 +125,25 @@ pub(crate) fn give_translit(
     pending: &mut [u8],
     calls: &[u8],
     ends: &[u32],
-    m: Machine,
+    p: Position,
     x: Arguments,
-) -> Turn
-    requires { ⌜ Sound (λ b. pendingAt (now pending) (stringsAt (now calls) (now ends) b)) m ⌝ }
+) -> Given
+    requires { ⌜ SoundAt (λ b. pendingAt (now pending) (stringsAt (now calls) (now ends) b)) (λ m. sourceSet p m) ⌝ }
     requires { ⌜ SomeArguments (now calls) (now ends) x ⌝ }
-    ensures { λ t. ⌜ ((a : Setting) (s : State) (b : Memory) (args : List Bytes) → Means a (pendingAt (now (pending .entry)) (stringsAt (now (calls .entry)) (now (ends .entry)) b)) m s → ArgumentsIn (now (calls .entry)) (now (ends .entry)) x args → Gives a (callTranslit args s) (pendingAt (now (pending .exit)) (stringsAt (now (calls .entry)) (now (ends .entry)) b)) t) ⌝ }
+    ensures { λ r. ⌜ ((a : Setting) (s : State) (b : Memory) (m : Machine) (args : List Bytes) → Means a (pendingAt (now (pending .entry)) (stringsAt (now (calls .entry)) (now (ends .entry)) b)) (sourceSet p m) s → ArgumentsIn (now (calls .entry)) (now (ends .entry)) x args → Gives a (callTranslit args s) (pendingAt (now (pending .exit)) (stringsAt (now (calls .entry)) (now (ends .entry)) b)) (givenTurn (sourceSet p m) r)) ⌝ }
 {
     let s = arguments::argument(calls, ends, x, 1);
     let old = arguments::argument(calls, ends, x, 2);
     let new = arguments::argument(calls, ends, x, 3);
-    let n = matching::translit_length(old, new, s);
-    let from = m.source.from;
+    let table = matching::partners_of(old, new);
+    let n = matching::translit_length(&table, s);
+    let from = p.from;
     if from < n {
-        return m.refused(Answer::Room(1));
+        return Given::Refused(Answer::Room(1));
     }
     let at = from - n;
-    matching::translit(old, new, s, &mut pending[at..from]);
-    pushed(m, at)
+    matching::translit(&table, s, &mut pending[at..from]);
+    Given::At(at)
 }
 
 // The texts that the arguments name, quoted.
@@ -153,40 +153,42 @@ pub(crate) fn give_defn(
     ends: &[u32],
     definitions: &[u8],
     table_ends: &[u32],
-    m: Machine,
+    table: Definitions,
+    p: Position,
+    marks: Marks,
     x: Arguments,
-) -> Turn
-    requires { ⌜ Sound (λ b. pendingAt (now pending) (stringsAt (now calls) (now ends) (definitionsAt (now definitions) (now «table_ends») b))) m ⌝ }
+) -> Given
+    requires { ⌜ SoundAt (λ b. pendingAt (now pending) (stringsAt (now calls) (now ends) (definitionsAt (now definitions) (now «table_ends») b))) (λ m. sourceSet p (marksSet marks (tableSet table m))) ⌝ }
     requires { ⌜ SomeArguments (now calls) (now ends) x ⌝ }
-    ensures { λ t. ⌜ ((a : Setting) (s : State) (b : Memory) (args : List Bytes) → Means a (pendingAt (now (pending .entry)) (stringsAt (now (calls .entry)) (now (ends .entry)) (definitionsAt (now (definitions .entry)) (now («table_ends» .entry)) b))) m s → ArgumentsIn (now (calls .entry)) (now (ends .entry)) x args → Gives a (callDefn args s) (pendingAt (now (pending .exit)) (stringsAt (now (calls .entry)) (now (ends .entry)) (definitionsAt (now (definitions .entry)) (now («table_ends» .entry)) b))) t) ⌝ }
+    ensures { λ r. ⌜ ((a : Setting) (s : State) (b : Memory) (m : Machine) (args : List Bytes) → Means a (pendingAt (now (pending .entry)) (stringsAt (now (calls .entry)) (now (ends .entry)) (definitionsAt (now (definitions .entry)) (now («table_ends» .entry)) b))) (sourceSet p (marksSet marks (tableSet table m))) s → ArgumentsIn (now (calls .entry)) (now (ends .entry)) x args → Gives a (callDefn args s) (pendingAt (now (pending .exit)) (stringsAt (now (calls .entry)) (now (ends .entry)) (definitionsAt (now (definitions .entry)) (now («table_ends» .entry)) b))) (givenTurn (sourceSet p (marksSet marks (tableSet table m))) r)) ⌝ }
 {
     let DefnLength::Bytes(n) = defn::defn_length(
         calls,
         ends,
         x,
-        m.marks,
+        marks,
         definitions,
         table_ends,
-        m.table,
+        table,
     ) else {
-        return m.refused(Answer::NoText);
+        return Given::Refused(Answer::NoText);
     };
-    let from = m.source.from;
+    let from = p.from;
     if from < n {
-        return m.refused(Answer::Room(1));
+        return Given::Refused(Answer::Room(1));
     }
     let at = from - n;
     defn::fill_defn(
         calls,
         ends,
         x,
-        m.marks,
+        marks,
         definitions,
         table_ends,
-        m.table,
+        table,
         &mut pending[at..from],
     );
-    pushed(m, at)
+    Given::At(at)
 }
 
 // The text of the definition at `place`, with the arguments put in.
@@ -196,24 +198,26 @@ pub(crate) fn give_text(
     ends: &[u32],
     definitions: &[u8],
     table_ends: &[u32],
-    m: Machine,
+    table: Definitions,
+    p: Position,
+    marks: Marks,
     name: &[u8],
     x: Arguments,
     place: usize,
-) -> Turn
-    requires { ⌜ Sound (λ b. pendingAt (now pending) (stringsAt (now calls) (now ends) (definitionsAt (now definitions) (now «table_ends») b))) m ⌝ }
+) -> Given
+    requires { ⌜ SoundAt (λ b. pendingAt (now pending) (stringsAt (now calls) (now ends) (definitionsAt (now definitions) (now «table_ends») b))) (λ m. sourceSet p (marksSet marks (tableSet table m))) ⌝ }
     requires { ⌜ SomeArguments (now calls) (now ends) x ⌝ }
-    requires { ⌜ (length (now name) ≤ 65536) × (2 * place + 2 ≤ m .table .packed .count) ⌝ }
-    ensures { λ t. ⌜ ((a : Setting) (s : State) (b : Memory) (args : List Bytes) → Means a (pendingAt (now (pending .entry)) (stringsAt (now (calls .entry)) (now (ends .entry)) (definitionsAt (now (definitions .entry)) (now («table_ends» .entry)) b))) m s → ArgumentsIn (now (calls .entry)) (now (ends .entry)) x args → Gives a (giving (yields (substituted (now (name .entry)) args (s .marks) (getD (rows (s .table .definitions)) (2 * place + 1) []))) s) (pendingAt (now (pending .exit)) (stringsAt (now (calls .entry)) (now (ends .entry)) (definitionsAt (now (definitions .entry)) (now («table_ends» .entry)) b))) t) ⌝ }
+    requires { ⌜ (length (now name) ≤ 65536) × (2 * place + 2 ≤ table .packed .count) ⌝ }
+    ensures { λ r. ⌜ ((a : Setting) (s : State) (b : Memory) (m : Machine) (args : List Bytes) → Means a (pendingAt (now (pending .entry)) (stringsAt (now (calls .entry)) (now (ends .entry)) (definitionsAt (now (definitions .entry)) (now («table_ends» .entry)) b))) (sourceSet p (marksSet marks (tableSet table m))) s → ArgumentsIn (now (calls .entry)) (now (ends .entry)) x args → Gives a (giving (yields (substituted (now (name .entry)) args (s .marks) (getD (rows (s .table .definitions)) (2 * place + 1) []))) s) (pendingAt (now (pending .exit)) (stringsAt (now (calls .entry)) (now (ends .entry)) (definitionsAt (now (definitions .entry)) (now («table_ends» .entry)) b))) (givenTurn (sourceSet p (marksSet marks (tableSet table m))) r)) ⌝ }
 {
     let k = 2 * place + 1;
-    let body = packed::string(definitions, table_ends, m.table.packed, k);
-    let n = substitution::substituted_length(name, ends, x, m.marks, body);
-    let from = m.source.from;
+    let body = packed::string(definitions, table_ends, table.packed, k);
+    let n = substitution::substituted_length(name, ends, x, marks, body);
+    let from = p.from;
     if from < n {
-        return m.refused(Answer::Room(1));
+        return Given::Refused(Answer::Room(1));
     }
     let at = from - n;
-    substitution::fill_substituted(name, calls, ends, x, m.marks, body, &mut pending[at..from]);
-    pushed(m, at)
+    substitution::fill_substituted(name, calls, ends, x, marks, body, &mut pending[at..from]);
+    Given::At(at)
 }

@@ -5,11 +5,15 @@ use crate::defining;
 use crate::diverting;
 use crate::figures;
 use crate::giving;
+use crate::giving::Given;
 use crate::machine::Machine;
 use crate::machine::Turn;
 use crate::remarking;
+use crate::source::Position;
+use crate::table::Definitions;
 use crate::texts;
 use rules::Answer;
+use rules::Marks;
 ghost use mathlib.Core.Path.{_≡_};
 ghost use mathlib.Core.List.{List};
 ghost use Prim.Native.Nat.{_<_};
@@ -18,44 +22,113 @@ ghost use Rattle.rules.specs.Bytes.{Bytes};
 ghost use Rattle.rules.specs.State.{State};
 ghost use Rattle.rules.specs.Run.{Setting};
 ghost use Rattle.expander.specs.Arguments.{ArgumentsIn, SomeArguments};
-ghost use Rattle.expander.specs.Machine.{Memory, Means, Gives, Sound, textAt, pendingAt, stringsAt, definitionsAt, sinksAt, wrapAt, errorsAt};
+ghost use Rattle.expander.specs.Machine.{Memory, Means, Gives, Sound, SoundAt, textAt, pendingAt, stringsAt, definitionsAt, sinksAt, wrapAt, errorsAt, sourceSet, marksSet, tableSet};
+ghost use Rattle.expander.specs.declared.machine.Machine.{Machine};
+ghost use Rattle.expander.specs.Giving.{givenTurn};
 ghost use Rattle.rules.specs.Macros.{perform};
-ghost use Rattle.expander.specs.Macros.{Resulting};
+ghost use Rattle.expander.specs.Macros.{SortIs};
+ghost use Rattle.expander.specs.declared.macros.Sort.the-variants as sort;
+
+// What a macro does: it only gives a result; it gives one by a search, which takes much stack; or it changes other things.
+pub enum Sort {
+    Result,
+    Search,
+    Change,
+}
+
+// What the macro of a number does.
+pub(crate) fn sort_of(k: u8) -> Sort
+    ensures { λ r. ⌜ SortIs k r ⌝ }
+{
+    match k {
+        3 => Sort::Result,
+        5 => Sort::Result,
+        10 => Sort::Result,
+        11 => Sort::Result,
+        12 => Sort::Result,
+        13 => Sort::Result,
+        14 => Sort::Search,
+        15 => Sort::Result,
+        20 => Sort::Result,
+        21 => Sort::Result,
+        22 => Sort::Result,
+        _ => Sort::Change,
+    }
+}
 
 // Those that only give a result.
-fn give(
+pub(crate) fn give(
     pending: &mut [u8],
     calls: &[u8],
     ends: &[u32],
     definitions: &[u8],
     table_ends: &[u32],
-    m: Machine,
+    table: Definitions,
+    p: Position,
+    marks: Marks,
     x: Arguments,
     k: u8,
-) -> Turn
-    requires { ⌜ Sound (λ b. pendingAt (now pending) (stringsAt (now calls) (now ends) (definitionsAt (now definitions) (now «table_ends») b))) m ⌝ }
-    requires { ⌜ SomeArguments (now calls) (now ends) x × Resulting k ⌝ }
-    ensures { λ t. ⌜ ((a : Setting) (s : State) (b : Memory) (args : List Bytes) → Means a (pendingAt (now (pending .entry)) (stringsAt (now (calls .entry)) (now (ends .entry)) (definitionsAt (now (definitions .entry)) (now («table_ends» .entry)) b))) m s → ArgumentsIn (now (calls .entry)) (now (ends .entry)) x args → Gives a (perform k args s) (pendingAt (now (pending .exit)) (stringsAt (now (calls .entry)) (now (ends .entry)) (definitionsAt (now (definitions .entry)) (now («table_ends» .entry)) b))) t) ⌝ }
+) -> Given
+    requires { ⌜ SoundAt (λ b. pendingAt (now pending) (stringsAt (now calls) (now ends) (definitionsAt (now definitions) (now «table_ends») b))) (λ m. sourceSet p (marksSet marks (tableSet table m))) ⌝ }
+    requires { ⌜ SomeArguments (now calls) (now ends) x × SortIs k sort.Result ⌝ }
+    ensures { λ r. ⌜ ((a : Setting) (s : State) (b : Memory) (m : Machine) (args : List Bytes) → Means a (pendingAt (now (pending .entry)) (stringsAt (now (calls .entry)) (now (ends .entry)) (definitionsAt (now (definitions .entry)) (now («table_ends» .entry)) b))) (sourceSet p (marksSet marks (tableSet table m))) s → ArgumentsIn (now (calls .entry)) (now (ends .entry)) x args → Gives a (perform k args s) (pendingAt (now (pending .exit)) (stringsAt (now (calls .entry)) (now (ends .entry)) (definitionsAt (now (definitions .entry)) (now («table_ends» .entry)) b))) (givenTurn (sourceSet p (marksSet marks (tableSet table m))) r)) ⌝ }
 {
     match k {
-        3 => giving::give_figure(pending, m, figures::decr(calls, ends, x)),
-        5 => giving::give_defn(pending, calls, ends, definitions, table_ends, m, x),
-        7 => giving::give_figure(pending, m, figures::divnum(m.sinks.current)),
-        10 => giving::give_figure(pending, m, figures::eval(calls, ends, x)),
+        3 => giving::give_figure(pending, p, figures::decr(calls, ends, x)),
+        5 => giving::give_defn(
+            pending,
+            calls,
+            ends,
+            definitions,
+            table_ends,
+            table,
+            p,
+            marks,
+            x,
+        ),
+        10 => giving::give_figure(pending, p, figures::eval(calls, ends, x)),
         11 => giving::give_cut(
             pending,
             calls,
-            m,
-            cuts::ifdef(calls, ends, x, definitions, table_ends, m.table),
+            p,
+            cuts::ifdef(calls, ends, x, definitions, table_ends, table),
         ),
-        12 => giving::give_cut(pending, calls, m, cuts::ifelse(calls, ends, x)),
-        13 => giving::give_figure(pending, m, figures::incr(calls, ends, x)),
-        14 => giving::give_figure(pending, m, figures::index(calls, ends, x)),
-        15 => giving::give_figure(pending, m, figures::len(calls, ends, x)),
-        20 => giving::give_shift(pending, calls, ends, m, x),
-        21 => giving::give_cut(pending, calls, m, cuts::substr(calls, ends, x)),
-        22 => giving::give_translit(pending, calls, ends, m, x),
-        _ => m.refused(Answer::Gone),
+        12 => giving::give_cut(pending, calls, p, cuts::ifelse(calls, ends, x)),
+        13 => giving::give_figure(pending, p, figures::incr(calls, ends, x)),
+        15 => giving::give_figure(pending, p, figures::len(calls, ends, x)),
+        20 => giving::give_shift(pending, calls, ends, p, marks, x),
+        21 => giving::give_cut(pending, calls, p, cuts::substr(calls, ends, x)),
+        22 => giving::give_translit(pending, calls, ends, p, x),
+        _ => Given::Refused(Answer::Gone),
+    }
+}
+
+// index, apart from the others, so that its table is not set up for them.
+pub(crate) fn search(
+    pending: &mut [u8],
+    calls: &[u8],
+    ends: &[u32],
+    p: Position,
+    x: Arguments,
+) -> Given
+    requires { ⌜ SoundAt (λ b. pendingAt (now pending) (stringsAt (now calls) (now ends) b)) (λ m. sourceSet p m) ⌝ }
+    requires { ⌜ SomeArguments (now calls) (now ends) x ⌝ }
+    ensures { λ r. ⌜ ((a : Setting) (s : State) (b : Memory) (m : Machine) (args : List Bytes) → Means a (pendingAt (now (pending .entry)) (stringsAt (now (calls .entry)) (now (ends .entry)) b)) (sourceSet p m) s → ArgumentsIn (now (calls .entry)) (now (ends .entry)) x args → Gives a (perform 14 args s) (pendingAt (now (pending .exit)) (stringsAt (now (calls .entry)) (now (ends .entry)) b)) (givenTurn (sourceSet p m) r)) ⌝ }
+{
+    giving::give_figure(pending, p, figures::index(calls, ends, x))
+}
+
+// The machine with what is given before its text ahead.
+pub(crate) fn given(m: Machine, g: Given) -> Turn
+    ensures { λ r. ⌜ r ≡ givenTurn m g ⌝ }
+{
+    match g {
+        Given::Refused(answer) => m.refused(answer),
+        Given::At(from) => {
+            let taken = m.source.taken;
+            let to = Position { from, taken };
+            m.with_source(to).on()
+        }
     }
 }
 
@@ -78,7 +151,7 @@ pub(crate) fn perform(
     k: u8,
 ) -> Turn
     requires { ⌜ Sound (λ b. textAt (now text) (pendingAt (now pending) (stringsAt (now calls) (now ends) (definitionsAt (now definitions) (now «table_ends») (sinksAt (now streams) (now owners) (now output) (wrapAt (now wrap) (errorsAt (now errors) b))))))) m ⌝ }
-    requires { ⌜ SomeArguments (now calls) (now ends) x × (0 < k) × (length (now scratch) ≡ 65536) ⌝ }
+    requires { ⌜ SomeArguments (now calls) (now ends) x × (0 < k) × SortIs k sort.Change × (length (now scratch) ≡ 65536) ⌝ }
     ensures { λ t. ⌜ ((a : Setting) (s : State) (b : Memory) (args : List Bytes) → Means a (textAt (now (text .entry)) (pendingAt (now (pending .entry)) (stringsAt (now (calls .entry)) (now (ends .entry)) (definitionsAt (now (definitions .entry)) (now («table_ends» .entry)) (sinksAt (now (streams .entry)) (now (owners .entry)) (now (output .entry)) (wrapAt (now (wrap .entry)) (errorsAt (now (errors .entry)) b))))))) m s → ArgumentsIn (now (calls .entry)) (now (ends .entry)) x args → Gives a (perform k args s) (textAt (now (text .entry)) (pendingAt (now (pending .exit)) (stringsAt (now (calls .entry)) (now (ends .entry)) (definitionsAt (now (definitions .exit)) (now («table_ends» .exit)) (sinksAt (now (streams .exit)) (now (owners .exit)) (now (output .exit)) (wrapAt (now (wrap .exit)) (errorsAt (now (errors .exit)) b))))))) t) ⌝ }
 {
     match k {
@@ -94,6 +167,10 @@ pub(crate) fn perform(
         19 => defining::pushdef(calls, ends, definitions, table_ends, m, x),
         23 => defining::undefine(calls, ends, definitions, table_ends, m, x),
         24 => diverting::undivert(calls, ends, streams, owners, output, scratch, m, x),
-        _ => give(pending, calls, ends, definitions, table_ends, m, x, k),
+        7 => given(
+            m,
+            giving::give_figure(pending, m.source, figures::divnum(m.sinks.current)),
+        ),
+        _ => m.refused(Answer::Gone),
     }
 }

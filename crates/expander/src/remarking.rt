@@ -13,7 +13,7 @@ ghost use Rattle.expander.specs.Tokens.{GoodMarks};
 ghost use Rattle.rules.specs.Bytes.{Bytes};
 ghost use Rattle.rules.specs.State.{State};
 ghost use Rattle.rules.specs.Run.{Setting};
-ghost use Rattle.expander.specs.Arguments.{ArgumentsIn, SomeArguments};
+ghost use Rattle.expander.specs.Arguments.{ArgumentsIn, SomeArguments, secondOr};
 ghost use Rattle.expander.specs.Machine.{Memory, Means, Gives, Sound, stringsAt};
 ghost use Rattle.rules.specs.Macros.{marking, callChangecom, callChangequote};
 
@@ -25,6 +25,17 @@ fn are_marks(begin: &[u8], end: &[u8]) -> bool
         return marking::is_end_mark(end);
     }
     false
+}
+
+// The end mark of a call that gives a begin mark: the second argument, or a newline where there is one argument.
+fn end_mark<'a>(calls: &'a [u8], ends: &[u32], x: Arguments, newline: &'a [u8]) -> &'a [u8]
+    requires { ⌜ SomeArguments (now calls) (now ends) x ⌝ }
+    ensures { λ r. ⌜ ((args : List Bytes) → ArgumentsIn (now (calls .entry)) (now (ends .entry)) x args → now r ≡ secondOr (now (newline .entry)) args) ⌝ }
+{
+    if arguments::count(x) == 1 {
+        return newline;
+    }
+    arguments::argument(calls, ends, x, 2)
 }
 
 // New comment marks, if they are good.
@@ -65,10 +76,8 @@ pub(crate) fn changecom(calls: &[u8], ends: &[u32], m: Machine, x: Arguments) ->
         return m.with_marks(off).on();
     }
     let begin = arguments::argument(calls, ends, x, 1);
-    if have == 1 {
-        return remarked_comments(m, begin, b"\n");
-    }
-    remarked_comments(m, begin, arguments::argument(calls, ends, x, 2))
+    let end = end_mark(calls, ends, x, b"\n");
+    remarked_comments(m, begin, end)
 }
 
 // changequote: without arguments the marks are the default ones; with one, a newline ends a quote.
@@ -85,8 +94,6 @@ pub(crate) fn changequote(calls: &[u8], ends: &[u32], m: Machine, x: Arguments) 
         return m.with_marks(plain).on();
     }
     let begin = arguments::argument(calls, ends, x, 1);
-    if have == 1 {
-        return remarked_quotes(m, begin, b"\n");
-    }
-    remarked_quotes(m, begin, arguments::argument(calls, ends, x, 2))
+    let end = end_mark(calls, ends, x, b"\n");
+    remarked_quotes(m, begin, end)
 }

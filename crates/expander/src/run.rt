@@ -1,13 +1,14 @@
 // A run: steps until one ends the run or is refused, or the budget is spent.
 use crate::calls::Calls;
 use crate::machine::Machine;
-use crate::machine::Turn;
 use crate::machine::Went;
 use crate::marking;
 use crate::packed::Packed;
 use crate::sinks::Sinks;
 use crate::source::Position;
 use crate::step;
+use crate::stretch;
+use crate::stretch::Stop;
 use crate::table::Definitions;
 use rules::Answer;
 use rules::Report;
@@ -100,9 +101,8 @@ pub(crate) fn run(
     let from = pending.len();
     let mut m = start(from);
     let mut left = budget;
-    let mut count: u32 = 0;
     while 0 < left {
-        let t = step::step(
+        let s = stretch::run_plain(
             text,
             pending,
             calls,
@@ -112,27 +112,52 @@ pub(crate) fn run(
             table_ends,
             streams,
             owners,
-            wrap,
-            errors,
             output,
             scratch,
             m,
+            left,
         );
-        let went = t.went;
-        match went {
-            Went::Refused(answer) => {
-                return stopped(answer, count, m);
+        m = s.machine;
+        left = s.left;
+        let stop = s.stop;
+        match stop {
+            Stop::Stopped(answer) => {
+                return stopped(answer, budget - left, m);
             }
-            Went::Ended(answer) => {
-                let steps = count + 1;
-                return finished(answer, steps, t.machine);
-            }
-            Went::On => {
-                m = t.machine;
+            Stop::Special(e) => {
+                let t = step::special_step(
+                    text,
+                    pending,
+                    calls,
+                    ends,
+                    stack,
+                    definitions,
+                    table_ends,
+                    streams,
+                    owners,
+                    wrap,
+                    errors,
+                    output,
+                    scratch,
+                    m,
+                    e,
+                );
+                let went = t.went;
+                match went {
+                    Went::Refused(answer) => {
+                        return stopped(answer, budget - left, m);
+                    }
+                    Went::Ended(answer) => {
+                        let steps = budget - left + 1;
+                        return finished(answer, steps, t.machine);
+                    }
+                    Went::On => {
+                        m = t.machine;
+                    }
+                }
             }
         }
-        count += 1;
         left -= 1;
     }
-    stopped(Answer::Spent, count, m)
+    stopped(Answer::Spent, budget, m)
 }

@@ -74,15 +74,17 @@ fn stands(m: Mark, x: u8, front: &[u8], rest: &[u8], i: usize) -> bool
     if m.bytes[0] != x {
         return false;
     }
+    if m.len == 1 {
+        return i < ahead_length(front, rest);
+    }
     mark_at(m, front, rest, i)
 }
 
-// Which of two marks stands at the place i.
-fn which(first: Mark, second: Mark, front: &[u8], rest: &[u8], i: usize) -> Met
-    requires { ⌜ (first .len ≤ 5) × (second .len ≤ 5) × (i ≤ length (now front ++ now rest)) ⌝ }
+// Which of two marks stands at the place i, where the byte is x.
+fn which(first: Mark, second: Mark, x: u8, front: &[u8], rest: &[u8], i: usize) -> Met
+    requires { ⌜ (first .len ≤ 5) × (second .len ≤ 5) × (i ≤ length (now front ++ now rest)) × (x ≡ getD (now front ++ now rest) i 0) ⌝ }
     ensures { λ r. ⌜ r ≡ metAt (markText first) (markText second) (drop i (now (front .entry) ++ now (rest .entry))) ⌝ }
 {
-    let x = byte_ahead(front, rest, i);
     if stands(first, x, front, rest, i) {
         return Met::First;
     }
@@ -97,7 +99,8 @@ fn passed(begin: Mark, end: Mark, front: &[u8], rest: &[u8], i: usize, depth: us
     requires { ⌜ Inside begin end (now front ++ now rest) i depth ⌝ }
     ensures { λ r. ⌜ Passed (markText begin) (markText end) (now (front .entry) ++ now (rest .entry)) i depth r ⌝ }
 {
-    let met = which(end, begin, front, rest, i);
+    let x = byte_ahead(front, rest, i);
+    let met = which(end, begin, x, front, rest, i);
     match met {
         Met::First => {
             let less = depth - 1;
@@ -174,11 +177,11 @@ fn name_length(front: &[u8], rest: &[u8]) -> usize
     n + ascii::name_length(rest)
 }
 
-// A name or a single byte.
-fn read_plain(front: &[u8], rest: &[u8]) -> Reading
+// A name or a single byte; the first byte ahead is x.
+fn read_plain(x: u8, front: &[u8], rest: &[u8]) -> Reading
+    requires { ⌜ x ≡ getD (now front ++ now rest) 0 0 ⌝ }
     ensures { λ r. ⌜ r ≡ plainRead (now (front .entry) ++ now (rest .entry)) ⌝ }
 {
-    let x = byte_ahead(front, rest, 0);
     if ascii::begins_name(x) {
         let end = name_length(front, rest);
         return Reading::Is(Token::Name { end });
@@ -199,10 +202,11 @@ pub(crate) fn read_token(marks: Marks, front: &[u8], rest: &[u8]) -> Reading
     let end_comment = marks.end_comment;
     let begin_quote = marks.begin_quote;
     let end_quote = marks.end_quote;
-    let met = which(begin_comment, begin_quote, front, rest, 0);
+    let x = byte_ahead(front, rest, 0);
+    let met = which(begin_comment, begin_quote, x, front, rest, 0);
     match met {
         Met::First => read_comment(begin_comment, end_comment, front, rest),
         Met::Second => read_quoted(begin_quote, end_quote, front, rest),
-        Met::Neither => read_plain(front, rest),
+        Met::Neither => read_plain(x, front, rest),
     }
 }

@@ -6,13 +6,12 @@ use mathlib.Core.Path.{_≡_, refl, sym, ap, ap₂, subst, _∙_}
 use mathlib.Core.Bool.{Bool, true, false}
 use mathlib.Core.List.{List, [], _∷_, _++_, append-nil}
 use lib.Dec.{ltb, eqb}
-use lib.ListN.{length, take, drop, getD, set, replicate, getD-replicate, drop-of-length-le, length-append, length-take, length-set}
-use lib.Seq.{drop-cons, getD-set-same, getD-set-other, take-suc-set, append-snoc, take-all}
+use lib.ListN.{length, take, drop, getD, set, replicate, getD-replicate, drop-of-length-le, length-append, length-set, take-append-drop}
+use lib.Seq.{drop-cons, drop-drop, drop-set-lt, getD-set-same, getD-set-other, take-suc-set, append-snoc, take-all, take-append-seam, length-take-le}
 use borrow.Author.Tests.{ltb-true, ltb-false, lt-ltb, le-ltb, eq-eqb, ne-eqb, eqb-true, eqb-false}
 use Rattle.rules.specs.Bytes.{Bytes}
 use Rattle.rules.specs.Results.{partner, transliterated}
-use Rattle.ascii.specs.Copied.{Copied}
-use Rattle.matching.specs.Partners.{entryFor, replaced, Partners}
+use Rattle.matching.specs.Partners.{entryFor, replaced, Partners, Fitted}
 
 -- an entry that is a byte, one that keeps the byte, and one that deletes it
 pub entry-byte : (x e : ℕ) → e < 256 → entryFor x e ≡ e ∷ []
@@ -101,20 +100,12 @@ unfolding replaced transliterated
 replaced-is p [] h = refl
 replaced-is p (x ∷ xs) h = ap₂ _++_ (p .stands x (h 0)) (replaced-is p xs (λ i. h (suc i)))
 
--- n is its length
-module _ {t : List ℕ} {bs ys : Bytes} (p : Partners t bs ys) (s : Bytes) (h : (i : ℕ) → getD s i 0 < 256) {n : ℕ} (e : n ≡ length (replaced t s)) where
-  pub length-is : n ≡ length (transliterated bs ys s)
-  length-is = e ∙ ap length (replaced-is p s h)
+module _ {t : List ℕ} {bs ys : Bytes} (p : Partners t bs ys) (s : Bytes) (h : (i : ℕ) → getD s i 0 < 256) where
+  pub length-is : {n : ℕ} → n ≡ length (replaced t s) → n ≡ length (transliterated bs ys s)
+  length-is e = e ∙ ap length (replaced-is p s h)
 
-  pub none-written : (before : Bytes) → (n ≡ length before → ⊥) → Copied (transliterated bs ys s) before false before
-  none-written before k =
-      let f = ne-eqb (length (transliterated bs ys s)) (length before) (λ w. k (length-is ∙ w)) in
-      record { equal = sym f; written = rw f }
-
-  pub all-written : (before : Bytes) {d : Bytes} → n ≡ length before → d ≡ replaced t s → Copied (transliterated bs ys s) before true d
-  all-written before k w =
-      let f = eq-eqb (length (transliterated bs ys s)) (length before) (sym length-is ∙ k) in
-      record { equal = sym f; written = rw f (w ∙ replaced-is p s h) }
+  pub fitted-is : {before : Bytes} {r : Bool} {d : Bytes} → Fitted (replaced t s) before r d → Fitted (transliterated bs ys s) before r d
+  fitted-is {before} {r} {d} f = subst (λ (w : Bytes). Fitted w before r d) (replaced-is p s h) f
 
 -- ---- one byte of the text, at i
 
@@ -153,38 +144,50 @@ module _ {t : List ℕ} {s : Bytes} {n i : ℕ} (w : Counting t s n i) where
         let f = w .fewer in
         record { within = omega arith; fewer = omega arith; whole = omega (arith, w .whole, ap length (replaced-off t s i h k)) }
 
--- d has j bytes that stand for the first i bytes of s
+-- d has j bytes that stand for the first i bytes of s, and behind them what was there before
 pub record Writing (t : List ℕ) (s before d : Bytes) (j i : ℕ) : Type 0 where
   pub within : i ≤ length s
   pub fitting : j ≤ length d
   pub long : length d ≡ length before
+  pub behind : drop j d ≡ drop j before
   pub joined : take j d ++ replaced t (drop i s) ≡ replaced t s
 
 module _ {t : List ℕ} {s before d : Bytes} {j i : ℕ} (w : Writing t s before d j i) where
   module _ (h : i < length s) where
     -- v stands for the byte at i
-    module _ (v : ℕ) (one : entryFor (getD s i 0) (getD t (getD s i 0) 0) ≡ v ∷ []) (l : length before ≡ length (replaced t s)) where
-      next : replaced t (drop i s) ≡ v ∷ replaced t (drop (i + 1) s)
-      next = replaced-on t s i h ∙ ap (λ (q : Bytes). q ++ replaced t (drop (i + 1) s)) one
-
-      pub write-room : j < length d
-      write-room = omega (arith, w .long, l, length-append (take j d) (replaced t (drop i s)), length-take j d, ap length (w .joined), ap length next)
-
-      pub write-one : Writing t s before (set d j v) (j + 1) (i + 1)
-      write-one =
-          let k = write-room in
-          record {
-            within = omega arith;
-            fitting = rw (length-set d j v) (omega arith);
-            long = length-set d j v ∙ w .long;
-            joined = rw (add-one j, take-suc-set d j v k) (append-snoc (take j d) v _ ∙ sym (ap (λ (q : Bytes). take j d ++ q) next) ∙ w .joined);
-          }
+    pub write-one : (v : ℕ) → entryFor (getD s i 0) (getD t (getD s i 0) 0) ≡ v ∷ [] → j < length d → Writing t s before (set d j v) (j + 1) (i + 1)
+    write-one v one k =
+        let next : replaced t (drop i s) ≡ v ∷ replaced t (drop (i + 1) s) = replaced-on t s i h ∙ ap (λ (q : Bytes). q ++ replaced t (drop (i + 1) s)) one in
+        record {
+          within = omega arith;
+          fitting = rw (length-set d j v) (omega arith);
+          long = length-set d j v ∙ w .long;
+          behind = drop-set-lt (j + 1) d j v (omega arith) ∙ sym (drop-drop 1 j d) ∙ ap (drop 1) (w .behind) ∙ drop-drop 1 j before;
+          joined = rw (add-one j, take-suc-set d j v k) (append-snoc (take j d) v _ ∙ sym (ap (λ (q : Bytes). take j d ++ q) next) ∙ w .joined);
+        }
 
     pub write-none : 257 ≤ getD t (getD s i 0) 0 → Writing t s before d j (i + 1)
     write-none k =
-        record { within = omega arith; fitting = w .fitting; long = w .long; joined = sym (ap (λ (q : Bytes). take j d ++ q) (replaced-off t s i h k)) ∙ w .joined }
+        record { within = omega arith; fitting = w .fitting; long = w .long; behind = w .behind; joined = sym (ap (λ (q : Bytes). take j d ++ q) (replaced-off t s i h k)) ∙ w .joined }
 
-  pub written-all : length s ≤ i → length before ≡ length (replaced t s) → d ≡ replaced t s
-  written-all h l =
+    -- there is no room for the byte
+    pub written-full : getD t (getD s i 0) 0 < 257 → j ≡ length d → Fitted (replaced t s) before false d
+    written-full k e =
+        let more = replaced t (drop i s) in
+        let some : 1 ≤ length more = omega (arith, ap length (replaced-on t s i h), length-append (entryFor (getD s i 0) (getD t (getD s i 0) 0)) (replaced t (drop (i + 1) s)), entry-one (getD s i 0) _ k) in
+        let f : d ++ more ≡ replaced t s = ap (λ (q : Bytes). q ++ more) (sym (take-all j d (omega arith))) ∙ w .joined in
+        let l : length before < length (replaced t s) = omega (arith, w .long, ap length f, length-append d more) in
+        record {
+          equal = sym (ne-eqb (length (replaced t s)) (length before) (λ q. omega arith));
+          written = sym (ap₂ _++_ (ap₂ take (sym (w .long)) (sym f) ∙ take-append-seam d more) (drop-of-length-le before {i = length (replaced t s)} (omega arith)) ∙ append-nil d);
+        }
+
+  pub written-end : length s ≤ i → Fitted (replaced t s) before (eqb j (length d)) d
+  written-end h =
       let f : take j d ≡ replaced t s = sym (append-nil (take j d)) ∙ sym (ap (λ (q : Bytes). take j d ++ q) (replaced-end t s i h)) ∙ w .joined in
-      sym (take-all j d (omega (arith, l, w .long, ap length f, length-take j d))) ∙ f
+      let k : length (take j d) ≡ j = length-take-le j d (w .fitting) in
+      let l : length (replaced t s) ≡ j = sym (ap length f) ∙ k in
+      record {
+        equal = ap₂ eqb (sym l) (w .long);
+        written = sym (ap₂ _++_ (ap (take (length before)) (sym f) ∙ take-all (length before) (take j d) (omega (arith, w .fitting, w .long))) (ap (λ (n : ℕ). drop n before) l ∙ sym (w .behind)) ∙ take-append-drop j d);
+      }

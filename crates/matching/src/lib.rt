@@ -1,9 +1,10 @@
 // Where a text first stands in another, and bytes replaced by their partners.
 ghost use mathlib.Core.Path.{_≡_};
 ghost use lib.ListN.{length};
+ghost use Rattle.rules.specs.Bytes.{Bytes};
 ghost use Rattle.rules.specs.Results.{transliterated};
-ghost use Rattle.ascii.specs.Copied.{Copied};
 ghost use Rattle.matching.specs.Places.{placed};
+ghost use Rattle.matching.specs.Partners.{Partners, Fitted, replaced};
 
 mod borders;
 mod partners;
@@ -35,22 +36,26 @@ pub fn first_place(needle: &[u8], text: &[u8]) -> Place
     Place::TooLong
 }
 
-// How long `s` is with its bytes replaced: a byte of `from` by its partner, which stands at the same place of `to`.
-pub fn translit_length(from: &[u8], to: &[u8], s: &[u8]) -> usize
-    ensures { λ r. ⌜ r ≡ length (transliterated (now (from .entry)) (now (to .entry)) (now (s .entry))) ⌝ }
+// A table of what stands for each byte: for a byte of `from` its partner, which stands at the same place of `to`.
+pub fn partners_of(from: &[u8], to: &[u8]) -> [u16; 256]
+    ensures { λ r. ⌜ Partners r (now (from .entry)) (now (to .entry)) ⌝ }
 {
-    let table = partners::table(from, to);
-    partners::kept(&table, s)
+    partners::table(from, to)
 }
 
-// Writes `s` with its bytes replaced into a slice of just that length; else false, and nothing is written.
-pub fn translit(from: &[u8], to: &[u8], s: &[u8], out: &mut [u8]) -> bool
-    ensures { λ r. ⌜ Copied (transliterated (now (from .entry)) (now (to .entry)) (now (s .entry))) (now (out .entry)) r (now (out .exit)) ⌝ }
+// How long `s` is with its bytes replaced by a table, whatever it holds; by one of partners it is transliterated.
+pub fn translit_length(table: &[u16; 256], s: &[u8]) -> usize
+    ensures any { λ r. ⌜ r ≡ length (replaced (now (table .entry)) (now (s .entry))) ⌝ }
+    ensures partners { λ r. ⌜ ((from to : Bytes) → Partners (now (table .entry)) from to → r ≡ length (transliterated from to (now (s .entry)))) ⌝ }
 {
-    let table = partners::table(from, to);
-    if partners::kept(&table, s) != out.len() {
-        return false;
-    }
-    partners::write(&table, s, out);
-    true
+    partners::kept(table, s)
+}
+
+// Writes `s` with its bytes replaced by a table, whatever it holds, from the front of a slice on, as far as there is room; whether it just fits. By a
+// table of partners it is transliterated.
+pub fn translit(table: &[u16; 256], s: &[u8], out: &mut [u8]) -> bool
+    ensures any { λ r. ⌜ Fitted (replaced (now (table .entry)) (now (s .entry))) (now (out .entry)) r (now (out .exit)) ⌝ }
+    ensures partners { λ r. ⌜ ((from to : Bytes) → Partners (now (table .entry)) from to → Fitted (transliterated from to (now (s .entry))) (now (out .entry)) r (now (out .exit))) ⌝ }
+{
+    partners::write(table, s, out)
 }

@@ -1,7 +1,9 @@
 // A table of what stands for each byte: an entry below 256 is that byte, 256 says the byte itself, 257 nothing.
 ghost use mathlib.Core.Path.{_≡_};
+ghost use mathlib.Core.List.{[], _∷_};
+ghost use Prim.Native.Nat.{_<_};
 ghost use lib.ListN.{length};
-ghost use Rattle.matching.specs.Partners.{Partners, replaced};
+ghost use Rattle.matching.specs.Partners.{Partners, entryFor, replaced, Fitted};
 
 // The bytes of `from` are entered from the last to the first, so that of a repeated byte the first counts.
 pub(crate) fn table(from: &[u8], to: &[u8]) -> [u16; 256]
@@ -37,10 +39,20 @@ pub(crate) fn kept(table: &[u16; 256], s: &[u8]) -> usize
     n
 }
 
-// Writes the replaced text into a slice of its length.
-pub(crate) fn write(table: &[u16; 256], s: &[u8], out: &mut [u8])
-    requires { ⌜ length (now out) ≡ length (replaced (now table) (now s)) ⌝ }
-    ensures { λ _. ⌜ now (out .exit) ≡ replaced (now (table .entry)) (now (s .entry)) ⌝ }
+// What an entry that deletes nothing puts for the byte b.
+fn put(t: u16, b: u8) -> u8
+    requires { ⌜ t < 257 ⌝ }
+    ensures { λ r. ⌜ entryFor b t ≡ r ∷ [] ⌝ }
+{
+    if t < 256 {
+        return t as u8;
+    }
+    b
+}
+
+// Writes the replaced text from the front of a slice on, as far as there is room. Whether it just fits.
+pub(crate) fn write(table: &[u16; 256], s: &[u8], out: &mut [u8]) -> bool
+    ensures { λ r. ⌜ Fitted (replaced (now (table .entry)) (now (s .entry))) (now (out .entry)) r (now (out .exit)) ⌝ }
 {
     let mut j = 0;
     let mut i = 0;
@@ -48,12 +60,13 @@ pub(crate) fn write(table: &[u16; 256], s: &[u8], out: &mut [u8])
         let b = s[i];
         let t = table[b as usize];
         i += 1;
-        if t < 256 {
-            out[j] = t as u8;
-            j += 1;
-        } else if t == 256 {
-            out[j] = b;
+        if t < 257 {
+            if j == out.len() {
+                return false;
+            }
+            out[j] = put(t, b);
             j += 1;
         }
     }
+    j == out.len()
 }

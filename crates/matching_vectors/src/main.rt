@@ -94,11 +94,11 @@ fn too_long_places() {
 }
 
 // The replaced text in brackets, or the slice as it was left.
-fn write_replaced(from: &[u8], to: &[u8], s: &[u8], out: &mut [u8]) {
-    if matching::translit(from, to, s, &mut *out) {
+fn write_replaced(table: &[u16; 256], s: &[u8], out: &mut [u8]) {
+    if matching::translit(table, s, &mut *out) {
         write(b" [");
     } else {
-        write(b" not written [");
+        write(b" another length [");
     }
     write(&*out);
     write(b"]\n");
@@ -106,10 +106,11 @@ fn write_replaced(from: &[u8], to: &[u8], s: &[u8], out: &mut [u8]) {
 
 // A line: the length of the replaced text, and that text.
 fn replace_in(from: &[u8], to: &[u8], s: &[u8], room: &mut [u8]) {
-    let n = matching::translit_length(from, to, s);
+    let table = matching::partners_of(from, to);
+    let n = matching::translit_length(&table, s);
     io::print_decimal(STDOUT_FILENO, n as u64);
     if n <= room.len() {
-        write_replaced(from, to, s, &mut room[..n]);
+        write_replaced(&table, s, &mut room[..n]);
     }
 }
 
@@ -118,12 +119,13 @@ fn replace(from: &[u8], to: &[u8], s: &[u8]) {
     replace_in(from, to, s, &mut room);
 }
 
-// A slice of one byte less and one of one more than the text: nothing is written.
-fn refuse() {
+// A slice of one byte less than the text takes its front; in one of one byte more the last byte stays.
+fn other_lengths() {
+    let table = matching::partners_of(b"abc", b"x");
     let mut shorter = [b'*'; 2];
-    write_replaced(b"abc", b"x", b"abcabc-", &mut shorter);
+    write_replaced(&table, b"abcabc-", &mut shorter);
     let mut longer = [b'*'; 4];
-    write_replaced(b"abc", b"x", b"abcabc-", &mut longer);
+    write_replaced(&table, b"abcabc-", &mut longer);
 }
 
 fn partners() {
@@ -165,5 +167,5 @@ fn main() {
     deleted();
     repeated();
     empty_texts();
-    refuse();
+    other_lengths();
 }

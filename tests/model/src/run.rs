@@ -12,6 +12,9 @@ pub struct Trace {
     pub calls: [u64; 24],
     /// The most that each buffer held after a step.
     pub peaks: [usize; 7],
+    /// How many steps took pending text and input: a token, or a line that was dropped, across the
+    /// border.
+    pub crossings: u64,
 }
 
 impl Trace {
@@ -62,10 +65,12 @@ fn judged_step(
     if steps == setting.budget {
         return Err(Refusal::Spent);
     }
+    let (pending, place) = (state.ahead.held(), state.ahead.place());
     let progress = step(state)?;
     let held = state.held();
     judge_room(&held, &setting.lengths)?;
     trace.note(state, &held);
+    trace.crossings += u64::from(pending > 0 && state.ahead.place() > place);
     Ok(progress)
 }
 

@@ -4,19 +4,11 @@ use borrow.Author.Needs.{needs}
 use Rattle.matching.proofs.translit_length.Statement.{statement}
 use Rattle.matching.proofs.translit_length.Tie as tie
 
-table-requires : tie.Need-table-requires
-table-requires c κs = search needs
-
 kept-requires : tie.Need-kept-requires
 kept-requires c κs = search needs
 
 returns : tie.Need-returns
-returns c =
-    length-is
-    (c .before .before .table .ensures)
-    (c .before .before .before .before .before .before .args .s .now)
-    (λ i. c .before .before .before .shared-slice-known3 .given i .fits)
-    (c .kept .ensures)
+returns c = (c .kept .ensures, λ from to p. length-is p (c .before .before .args .s .now) (λ i. c .before .shared-slice-known .given i .fits) (c .kept .ensures))
 
 pub translit-length-spec : {M : Type 1} → statement M
-translit-length-spec = tie.close (tie.spec table-requires kept-requires returns)
+translit-length-spec = tie.close (tie.spec kept-requires returns)

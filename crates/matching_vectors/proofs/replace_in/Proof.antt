@@ -6,6 +6,9 @@ use borrow.Author.Needs.{needs}
 use Rattle.matching_vectors.proofs.replace_in.Statement.{statement}
 use Rattle.matching_vectors.proofs.replace_in.Tie as tie
 
+partners-of-requires : tie.Need-partners-of-requires
+partners-of-requires c κs = search needs
+
 translit-length-requires : tie.Need-translit-length-requires
 translit-length-requires c κs = search needs
 
@@ -17,8 +20,8 @@ slice-relend-prefix-write-replaced c = search needs
 
 slice-aggregate-write-replaced : tie.Need-slice-aggregate-write-replaced
 slice-aggregate-write-replaced c =
-    let b = c .before .before .before in
-    sym (length-take-le (b .translit-length .result) (b .before .before .before .before .before .args .room .now) (omega arith))
+    let b = c .before .before .before .before in
+    sym (length-take-le (b .translit-length .result) (b .before .before .before .before .before .before .before .args .room .now) (omega arith))
 
 write-replaced-requires : tie.Need-write-replaced-requires
 write-replaced-requires c κs = search needs
@@ -36,6 +39,7 @@ pub replace-in-spec : {M : Type 1} → statement M
 replace-in-spec =
     tie.close
     (tie.spec
+    partners-of-requires
     translit-length-requires
     print-decimal-requires
     slice-relend-prefix-write-replaced

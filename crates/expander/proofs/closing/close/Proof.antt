@@ -4,16 +4,18 @@ use native.Mathlib.Omega.{arith}
 use mathlib.Core.Path.{_≡_}
 use mathlib.Core.List.{List, [], _∷_, _++_}
 use lib.ListN.{length}
+use Rattle.rules.specs.Bytes.{Bytes}
 use Rattle.rules.specs.Table.{meaningOf}
 use Rattle.rules.specs.State.{Call, State, withCalls}
 use Rattle.rules.specs.Run.{Setting}
-use Rattle.expander.specs.Machine.{Memory, Means, textAt, pendingAt, callsAt, definitionsAt, sinksAt, wrapAt, errorsAt}
+use Rattle.expander.specs.Machine.{Memory, Means, textAt, pendingAt, callsAt, definitionsAt, sinksAt, wrapAt, errorsAt, callsSet}
 use Rattle.expander.specs.declared.arguments.Arguments.{Arguments}
+use Rattle.expander.specs.declared.machine.Machine.{Machine}
 use Rattle.expander.specs.Calls.{openStrings, CallsIn}
 use Rattle.expander.proofs.Packing.{formed}
 use Rattle.expander.proofs.Rows.{sound}
-use Rattle.expander.proofs.MacroLaws.{sound-at}
-use Rattle.expander.proofs.ClosingLaws.{found-numbered, Innermost, innermost, first-within, first-few, name-closed, name-short, Ready, text-within, calls-text, calls-number, calls-nothing, opened-calls, ready-closed, closes}
+use Rattle.expander.proofs.MacroLaws.{sound-at, sound-of}
+use Rattle.expander.proofs.ClosingLaws.{found-numbered, Innermost, innermost, first-within, first-few, name-closed, name-short, Ready, text-within, ready-in, calls-text, calls-number, calls-search, calls-nothing, sorted, sorted-search, gives-after, opened-calls, ready-closed, closes}
 use borrow.Author.Needs.{needs}
 use Rattle.expander.proofs.closing.close.Statement.{statement}
 use Rattle.expander.proofs.closing.close.Tie as tie
@@ -43,34 +45,42 @@ first c =
     let p = begun c in
     c .first-string .ensures (p .args .calls .now) (p .args .ends .now) (top p .call) (top p .below) (calls p)
 
+-- the machine once the innermost call is closed
+abbrev start : tie.After-look-up → tie.Start
+start c = begun (c .before .before .before .before .before .before)
+
+abbrev after : tie.After-look-up → Machine
+after c = callsSet (c .before .before .before .before .closed .result) (start c .args .m)
+
+abbrev argsOf : Call → List Bytes
+argsOf k = k .finished ++ (k .current ∷ [])
+
 -- whatever the buffers hold that are not lent: the innermost call's name, and what is left to do
 module _
     (c : tie.After-look-up) {a : Setting} {s : State} (b : Memory) {k : Call} {ks : List Call}
-    (m : Means a (lent (begun (c .before .before .before .before .before .before)) b) (begun (c .before .before .before .before .before .before) .args .m) s) (e : s .calls ≡ k ∷ ks)
+    (m : Means a (lent (start c) b) (start c .args .m) s) (e : s .calls ≡ k ∷ ks)
   where
     abbrev args : Arguments
-    args = record { strings = begun (c .before .before .before .before .before .before) .args .m .calls .strings; base = (c .before .before .before .before .before .before) .first-string .result + 1 }
+    args = record { strings = start c .args .m .calls .strings; base = c .before .before .before .before .before .before .first-string .result + 1 }
 
-    first-of : (c .before .before .before .before .before .before) .first-string .result ≡ length (openStrings ks)
-    first-of = (c .before .before .before .before .before .before) .first-string .ensures (begun (c .before .before .before .before .before .before) .args .calls .now) (begun (c .before .before .before .before .before .before) .args .ends .now) k ks (opened-calls m e)
+    first-of : c .before .before .before .before .before .before .first-string .result ≡ length (openStrings ks)
+    first-of = c .before .before .before .before .before .before .first-string .ensures (start c .args .calls .now) (start c .args .ends .now) k ks (opened-calls m e)
 
-    name : (c .before .before .before .before .before) .string .result .now ≡ k .name
-    name = name-closed (opened-calls m e) ((c .before .before .before .before .before .before) .first-string .result) first-of ((c .before .before .before .before .before) .string .ensures)
+    name : c .before .before .before .before .before .string .result .now ≡ k .name
+    name = name-closed (opened-calls m e) (c .before .before .before .before .before .before .first-string .result) first-of (c .before .before .before .before .before .string .ensures)
 
-    left :
-        Ready a (lent (begun (c .before .before .before .before .before .before)) b) ((c .before .before .before) .with-calls .result) args (meaningOf (k .name) (withCalls ks s .table)) (c .look-up .result) (k .finished ++ (k .current ∷ []))
-        (withCalls ks s)
+    left : Ready a (lent (start c) b) (after c) args (meaningOf (k .name) (withCalls ks s .table)) (c .look-up .result) (argsOf k) (withCalls ks s)
     left =
-        let p = begun (c .before .before .before .before .before .before) in
+        let p = start c in
         let o = opened-calls m e in
-        let after = (c .before .before .before .before) .closed .ensures (p .args .calls .now) (p .args .stack .now) k ks o first-of in
-        ready-closed m e first-of ((c .before .before .before .before .before) .string .ensures) after ((c .before .before .before) .with-calls .ensures) (c .look-up .ensures)
+        let closed = c .before .before .before .before .closed .ensures (p .args .calls .now) (p .args .stack .now) k ks o first-of in
+        ready-closed m e first-of (c .before .before .before .before .before .string .ensures) closed (c .look-up .ensures)
 
 first-string-requires : tie.Need-first-string-requires
 first-string-requires c κs = search needs
 
-add-t22 : tie.Need-add-t22
-add-t22 c = omega (arith, first-few (calls (begun c)) (c .first-string .result) (first c))
+add-t31 : tie.Need-add-t31
+add-t31 c = omega (arith, first-few (calls (begun c)) (c .first-string .result) (first c))
 
 string-requires : tie.Need-string-requires
 string-requires c κs =
@@ -83,9 +93,6 @@ closed-requires c κs =
     let n = first-few (calls p) (c .before .first-string .result) (first (c .before)) in
     (p .pre .1 .0, omega (arith, n, p .pre .0 .means .limits .call-ends))
 
-with-calls-requires : tie.Need-with-calls-requires
-with-calls-requires c κs = search needs
-
 look-up-requires : tie.Need-look-up-requires
 look-up-requires c κs = sound (c .before .before .before .before .before .before .before .before .before .before .before .before .before .before .before .before .before .before .before .before .pre .0 .means .table .holds)
 
@@ -94,27 +101,75 @@ enum-known-i c = search needs
 
 give-text-requires : tie.Need-give-text-requires
 give-text-requires c κs =
-    let p = c .before .before .before .before .before .before .before .before .before .before .before .before .before .before .before .before .before .before .before .before .before .before .before .before .before .before .before in
+    let p = c .before .before .before .before .before .before .before .before .before .before .before .before .before .before .before .before .before .before .before .before .before .before .before .before .before .before .before .before .before in
     let h = p .pre .0 in
-    let f = c .before .before .before .before .before .before .before .before .before .before .before .before in
-    let q = left (c .before .before .before .before .before .before) (h .others) (h .means) (top p .is) in
-    let n = name-short (calls p) (f .first-string .result) (first f) (c .before .before .before .before .before .before .before .before .before .before .before .string .ensures) (h .means .limits .calls-most) in
-    (sound-at (lent p (h .others)) (q .means), (record { args = _; holds = q .arguments }, (n, text-within q (c .before .before .before .before .i .given .1))))
+    let f = c .before .before .before .before .before .before .before .before .before .before .before .before .before .before in
+    let q = left (c .before .before .before .before .before .before .before .before) (h .others) (h .means) (top p .is) in
+    let n = name-short (calls p) (f .first-string .result) (first f) (c .before .before .before .before .before .before .before .before .before .before .before .before .before .string .ensures) (h .means .limits .calls-most) in
+    (sound-of (lent p (h .others)) (after (c .before .before .before .before .before .before .before .before)) (q .means), (record { args = _; holds = q .arguments }, (n, text-within q (c .before .before .before .before .before .before .i .given .1))))
+
+with-calls-requires : tie.Need-with-calls-requires
+with-calls-requires c κs = search needs
+
+given-requires : tie.Need-given-requires
+given-requires c κs = search needs
 
 enum-known-k : tie.Need-enum-known-k
 enum-known-k c = search needs
 
-perform-requires : tie.Need-perform-requires
-perform-requires c κs =
-    let p = c .before .before .before .before .before .before .before .before .before .before .before .before .before .before .before .before .before .before .before .before .before .before .before .before .before .before .before .before .before .before .before .before .before in
-    let h = p .pre .0 in
-    let q = left (c .before .before .before .before .before .before .before .before .before .before .before .before) (h .others) (h .means) (top p .is) in
-    let f = c .before .before .before .before .before .before .before .before .before .before .before .before .look-up .ensures (h .state .table) (h .means .table) in
-    let n = found-numbered (h .means .table) (c .before .before .before .before .before .before .before .before .before .before .before .before .before .before .before .before .before .string .result .now) f (c .before .before .before .before .before .before .before .before .before .before .k .given .1) in
-    (sound-at (lent p (h .others)) (q .means), (record { args = _; holds = q .arguments }, n, p .pre .1 .1))
+sort-of-requires : tie.Need-sort-of-requires
+sort-of-requires c κs = search needs
 
 enum-told : tie.Need-enum-told
 enum-told c = search needs
+
+give-requires : tie.Need-give-requires
+give-requires c κs =
+    let p = c .before .before .before .before .before .before .before .before .before .before .before .before .before .before .before .before .before .before .before .before .before .before .before .before .before .before .before .before .before .before .before .before in
+    let h = p .pre .0 in
+    let q = left (c .before .before .before .before .before .before .before .before .before .before .before) (h .others) (h .means) (top p .is) in
+    (sound-of (lent p (h .others)) (after (c .before .before .before .before .before .before .before .before .before .before .before)) (q .means), (record { args = _; holds = q .arguments }, sorted _ (c .before .before .before .before .before .enum-told .given .1) (c .before .before .before .before .before .before .before .sort-of .ensures)))
+
+with-calls-requires-2 : tie.Need-with-calls-requires-2
+with-calls-requires-2 c κs = search needs
+
+given-requires-2 : tie.Need-given-requires-2
+given-requires-2 c κs = search needs
+
+enum-told-2 : tie.Need-enum-told-2
+enum-told-2 c = search needs
+
+search-requires : tie.Need-search-requires
+search-requires c κs =
+    let p = c .before .before .before .before .before .before .before .before .before .before .before .before .before .before .before .before .before .before .before .before .before .before .before .before .before .before .before .before in
+    let h = p .pre .0 in
+    let q = left (c .before .before .before .before .before .before .before) (h .others) (h .means) (top p .is) in
+    (sound-of (lent p (h .others)) (after (c .before .before .before .before .before .before .before)) (q .means), record { args = _; holds = q .arguments })
+
+with-calls-requires-3 : tie.Need-with-calls-requires-3
+with-calls-requires-3 c κs = search needs
+
+given-requires-3 : tie.Need-given-requires-3
+given-requires-3 c κs = search needs
+
+enum-told-3 : tie.Need-enum-told-3
+enum-told-3 c = search needs
+
+with-calls-requires-4 : tie.Need-with-calls-requires-4
+with-calls-requires-4 c κs = search needs
+
+perform-requires : tie.Need-perform-requires
+perform-requires c κs =
+    let p = c .before .before .before .before .before .before .before .before .before .before .before .before .before .before .before .before .before .before .before .before .before .before .before .before .before .before .before .before .before .before .before .before .before .before .before .before .before in
+    let h = p .pre .0 in
+    let q = left (c .before .before .before .before .before .before .before .before .before .before .before .before .before .before .before .before) (h .others) (h .means) (top p .is) in
+    let f = c .before .before .before .before .before .before .before .before .before .before .before .before .before .before .before .before .look-up .ensures (h .state .table) (h .means .table) in
+    let n = found-numbered (h .means .table) (c .before .before .before .before .before .before .before .before .before .before .before .before .before .before .before .before .before .before .before .before .before .string .result .now) f (c .before .before .before .before .before .before .before .before .before .before .before .before .before .before .k .given .1) in
+    let i = sorted _ (c .before .before .before .before .before .before .before .before .before .before .enum-told3 .given .1) (c .before .before .before .before .before .before .before .before .before .before .before .before .sort-of .ensures) in
+    (sound-at (lent p (h .others)) (ready-in q (c .before .before .before .before .before .before .before .before .before .with-calls4 .ensures) .means), (record { args = _; holds = q .arguments }, n, i, p .pre .1 .1))
+
+enum-told-4 : tie.Need-enum-told-4
+enum-told-4 c = search needs
 
 refused-requires : tie.Need-refused-requires
 refused-requires c κs = search needs
@@ -131,10 +186,11 @@ same-length-3 c = search needs
 returns : tie.Need-returns
 returns c =
     λ a s b k ks m e.
-    let l = c .before .before .before .before .before .before .before .before .before in
+    let l = c .before .before .before .before .before .before .before .before .before .before .before .before .before in
     let q = left l b m e in
-    let g = c .before .before .give-text .ensures a (withCalls ks s) (lent (c .before .before .before .before .before .before .before .before .before .before .before .before .before .before .before .before .before .before .before .before .before .before .before .before .before .before .before .before .before .before) b) (k .finished ++ (k .current ∷ [])) (q .means) (q .arguments) in
-    closes k ks s (calls-text q (k .name) (c .before .before .before .before .before .before .before .i .given .1) (name l b m e) g)
+    let g = c .before .before .before .before .give-text in
+    gives-after (g .result) (c .before .with-calls .ensures) (c .given .ensures)
+    (closes k ks s (calls-text q (k .name) (c .before .before .before .before .before .before .before .before .before .before .before .i .given .1) (name l b m e) (g .ensures a (withCalls ks s) (lent (start l) b) (after l) (argsOf k) (q .means) (q .arguments))))
 
 same-length-4 : tie.Need-same-length-4
 same-length-4 c = search needs
@@ -145,6 +201,15 @@ same-length-5 c = search needs
 same-length-6 : tie.Need-same-length-6
 same-length-6 c = search needs
 
+returns-2 : tie.Need-returns-2
+returns-2 c =
+    λ a s b k ks m e.
+    let l = c .before .before .before .before .before .before .before .before .before .before .before .before .before .before .before .before in
+    let q = left l b m e in
+    let g = c .before .before .before .before .give in
+    gives-after (g .result) (c .before .with-calls2 .ensures) (c .given2 .ensures)
+    (closes k ks s (calls-number q (k .name) (c .before .before .before .before .before .before .before .before .before .before .before .before .before .before .k .given .1) (g .ensures a (withCalls ks s) (lent (start l) b) (after l) (argsOf k) (q .means) (q .arguments))))
+
 same-length-7 : tie.Need-same-length-7
 same-length-7 c = search needs
 
@@ -153,6 +218,16 @@ same-length-8 c = search needs
 
 same-length-9 : tie.Need-same-length-9
 same-length-9 c = search needs
+
+returns-3 : tie.Need-returns-3
+returns-3 c =
+    λ a s b k ks m e.
+    let l = c .before .before .before .before .before .before .before .before .before .before .before .before in
+    let q = left l b m e in
+    let g = c .before .before .before .before .search in
+    let i = sorted-search (c .before .before .before .before .before .before .enum-told2 .given .1) (c .before .before .before .before .before .before .before .before .sort-of .ensures) in
+    gives-after (g .result) (c .before .with-calls3 .ensures) (c .given3 .ensures)
+    (closes k ks s (calls-search q (k .name) (c .before .before .before .before .before .before .before .before .before .before .k .given .1) i (g .ensures a (withCalls ks s) (lent (start l) b) (after l) (argsOf k) (q .means) (q .arguments))))
 
 same-length-10 : tie.Need-same-length-10
 same-length-10 c = search needs
@@ -163,37 +238,69 @@ same-length-11 c = search needs
 same-length-12 : tie.Need-same-length-12
 same-length-12 c = search needs
 
-returns-2 : tie.Need-returns-2
-returns-2 c =
-    λ a s b k ks m e.
-    let q = left (c .before .before .before .before .before .before .before .before .before .before .before .before .before .before .before .before .before .before .before .before .before .before .before .before .before .before .before .before .before .before .before) b m e in
-    let g = c .before .before .before .before .before .before .before .before .before .before .before .before .before .before .before .before .before .before .perform .ensures a (withCalls ks s) (lent (c .before .before .before .before .before .before .before .before .before .before .before .before .before .before .before .before .before .before .before .before .before .before .before .before .before .before .before .before .before .before .before .before .before .before .before .before .before .before .before .before .before .before .before .before .before .before .before .before .before .before .before .before) b) (k .finished ++ (k .current ∷ [])) (q .means) (q .arguments) in
-    closes k ks s (calls-number q (k .name) (c .before .before .before .before .before .before .before .before .before .before .before .before .before .before .before .before .before .before .before .before .before .before .before .before .before .before .before .before .before .k .given .1) g)
-
 same-length-13 : tie.Need-same-length-13
 same-length-13 c = search needs
 
 same-length-14 : tie.Need-same-length-14
 same-length-14 c = search needs
 
-returns-3 : tie.Need-returns-3
-returns-3 c = λ a s b k ks m e. closes k ks s (calls-nothing (left (c .before .before .before) b m e) (k .name) (c .before .enum-told .given .1) (c .refused .ensures))
+same-length-15 : tie.Need-same-length-15
+same-length-15 c = search needs
+
+same-length-16 : tie.Need-same-length-16
+same-length-16 c = search needs
+
+same-length-17 : tie.Need-same-length-17
+same-length-17 c = search needs
+
+same-length-18 : tie.Need-same-length-18
+same-length-18 c = search needs
+
+returns-4 : tie.Need-returns-4
+returns-4 c =
+    λ a s b k ks m e.
+    let l = c .before .before .before .before .before .before .before .before .before .before .before .before .before .before .before .before .before .before .before .before .before .before .before .before .before .before .before .before .before .before .before .before .before .before .before in
+    let q = ready-in (left l b m e) (c .before .before .before .before .before .before .before .before .before .before .before .before .before .before .before .before .before .before .before .before .before .before .before .before .before .before .before .before .with-calls4 .ensures) in
+    closes k ks s (calls-number q (k .name) (c .before .before .before .before .before .before .before .before .before .before .before .before .before .before .before .before .before .before .before .before .before .before .before .before .before .before .before .before .before .before .before .before .before .k .given .1) (c .before .before .before .before .before .before .before .before .before .before .before .before .before .before .before .before .before .before .perform .ensures a (withCalls ks s) (lent (start l) b) (argsOf k) (q .means) (q .arguments)))
+
+same-length-19 : tie.Need-same-length-19
+same-length-19 c = search needs
+
+same-length-20 : tie.Need-same-length-20
+same-length-20 c = search needs
+
+returns-5 : tie.Need-returns-5
+returns-5 c =
+    λ a s b k ks m e.
+    closes k ks s (calls-nothing (left (c .before .before .before) b m e) (k .name) (c .before .enum-told4 .given .1) (c .refused .ensures))
 
 pub close-spec : {M : Type 1} → statement M
 close-spec =
     tie.close
     (tie.spec
     first-string-requires
-    add-t22
+    add-t31
     string-requires
     closed-requires
-    with-calls-requires
     look-up-requires
     enum-known-i
     give-text-requires
+    with-calls-requires
+    given-requires
     enum-known-k
-    perform-requires
+    sort-of-requires
     enum-told
+    give-requires
+    with-calls-requires-2
+    given-requires-2
+    enum-told-2
+    search-requires
+    with-calls-requires-3
+    given-requires-3
+    enum-told-3
+    with-calls-requires-4
+    perform-requires
+    enum-told-4
     refused-requires
     same-length
     same-length-2
@@ -202,13 +309,21 @@ close-spec =
     same-length-4
     same-length-5
     same-length-6
+    returns-2
     same-length-7
     same-length-8
     same-length-9
+    returns-3
     same-length-10
     same-length-11
     same-length-12
-    returns-2
     same-length-13
     same-length-14
-    returns-3)
+    same-length-15
+    same-length-16
+    same-length-17
+    same-length-18
+    returns-4
+    same-length-19
+    same-length-20
+    returns-5)

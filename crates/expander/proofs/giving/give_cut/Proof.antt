@@ -1,11 +1,10 @@
 -- `expander::giving::give_cut` meets its contract: each cut is the result that it stands for. Assumes nothing.
 use Prim.Native.Nat.{_≤_}
-use mathlib.Core.Path.{refl}
 use native.Mathlib.Omega.{arith}
 use lib.ListN.{length}
 use Rattle.rules.specs.Answers.{faultAnswer, noNumber}
-use Rattle.expander.proofs.GivingLaws.{giving-yields, giving-fails, cut-inside, cut-yields, cut-fails}
-use Rattle.expander.proofs.TurnLaws.{turned-refused, gives-by}
+use Rattle.expander.proofs.GivingLaws.{giving-refused, giving-yields, giving-fails, cut-inside, cut-yields, cut-fails}
+use Rattle.expander.proofs.MacroLaws.{gives-as}
 use borrow.Author.Needs.{needs}
 use Rattle.expander.proofs.giving.give_cut.Statement.{statement}
 use Rattle.expander.proofs.giving.give_cut.Tie as tie
@@ -16,12 +15,9 @@ enum-known-c c = search needs
 enum-told : tie.Need-enum-told
 enum-told c = search needs
 
-refused-requires : tie.Need-refused-requires
-refused-requires c κs = search needs
-
 returns : tie.Need-returns
 unfolding faultAnswer
-returns c = λ a s b w r h. turned-refused noNumber (giving-fails s (cut-fails h (c .before .enum-told .given .1))) (c .refused .ensures)
+returns c = λ a s b m w r h. giving-refused r noNumber (giving-fails s (cut-fails h (c .enum-told .given .1)))
 
 inside : (c : tie.After-give-slice-arg) → (c .before .before .c .given .0 .0 ≤ c .before .before .c .given .0 .1 .0) × (c .before .before .c .given .0 .1 .0 ≤ length (c .before .before .before .before .before .before .args .calls .now))
 inside c = cut-inside _ (c .before .before .before .before .before .before .pre .1) (c .before .before .c .given .1)
@@ -44,7 +40,7 @@ same-length c = search needs
 returns-2 : tie.Need-returns-2
 returns-2 c =
     let e = c .before .before .before .before .before .before .c .given .1 in
-    λ a s b w r h. gives-by (giving-yields s (cut-yields h e)) refl (c .before .before .give-slice .ensures a s b r)
+    λ a s b m w r h. gives-as (giving-yields s (cut-yields h e)) (c .before .before .give-slice .ensures a s b m r)
 
 pub give-cut-spec : {M : Type 1} → statement M
 give-cut-spec =
@@ -52,7 +48,6 @@ give-cut-spec =
     (tie.spec
     enum-known-c
     enum-told
-    refused-requires
     returns
     sub-give-slice
     part-give-slice-start

@@ -2,7 +2,7 @@
 use mathlib.Core.Path.{sym}
 use native.Mathlib.Omega.{arith}
 use Rattle.expander.proofs.GivingLaws.{giving-room, giving-filled, shift-gives}
-use Rattle.expander.proofs.TurnLaws.{gives-by}
+use Rattle.expander.proofs.MacroLaws.{gives-as}
 use borrow.Author.Needs.{needs}
 use Rattle.expander.proofs.giving.give_shift.Statement.{statement}
 use Rattle.expander.proofs.giving.give_shift.Tie as tie
@@ -10,40 +10,31 @@ use Rattle.expander.proofs.giving.give_shift.Tie as tie
 list-length-requires : tie.Need-list-length-requires
 list-length-requires c κs = search needs
 
-refused-requires : tie.Need-refused-requires
-refused-requires c κs = search needs
-
 returns : tie.Need-returns
 returns c =
-    λ a s b args r x.
-    gives-by (shift-gives s args (r .marks)) (c .refused .ensures)
-    (giving-room r _ _ (sym (c .before .before .list-length .ensures .0 _ args 44 x)) (c .before .if1 .taken))
+    λ a s b m args r x.
+    gives-as (shift-gives s args (r .marks)) (giving-room r _ _ (sym (c .before .list-length .ensures .0 _ args 44 x)) (c .if1 .taken))
 
 fill-list-requires : tie.Need-fill-list-requires
 fill-list-requires c κs =
     let pre = c .before .before .before .before .before .before .pre in
-    ((pre .1, search needs, search needs), λ args x. omega (arith, c .before .before .list-length .ensures .0 _ args 44 x, pre .0 .means .source .from-in, c .before .if1 .left))
-
-pushed-requires : tie.Need-pushed-requires
-pushed-requires c κs = search needs
+    ((pre .1, search needs, search needs), λ args x. omega (arith, c .before .before .list-length .ensures .0 _ args 44 x, pre .0 .sound .means .source .from-in, c .before .if1 .left))
 
 same-length : tie.Need-same-length
 same-length c = search needs
 
 returns-2 : tie.Need-returns-2
 returns-2 c =
-    λ a s b args r x.
-    gives-by (shift-gives s args (r .marks)) (c .pushed .ensures)
-    (giving-filled r _ _ (sym (c .before .before .before .before .before .before .list-length .ensures .0 _ args 44 x)) (omega (arith, c .before .before .before .before .before .if1 .left)) (c .before .before .before .fill-list .ensures args x))
+    λ a s b m args r x.
+    gives-as (shift-gives s args (r .marks))
+    (giving-filled r _ _ (sym (c .before .before .before .before .before .list-length .ensures .0 _ args 44 x)) (omega (arith, c .before .before .before .before .if1 .left)) (c .before .before .fill-list .ensures args x))
 
 pub give-shift-spec : {M : Type 1} → statement M
 give-shift-spec =
     tie.close
     (tie.spec
     list-length-requires
-    refused-requires
     returns
     fill-list-requires
-    pushed-requires
     same-length
     returns-2)

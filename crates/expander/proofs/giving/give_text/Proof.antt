@@ -5,7 +5,7 @@ use native.Mathlib.Omega.{arith}
 use lib.ListN.{length}
 use denote.Ref.{now}
 use Rattle.expander.proofs.GivingLaws.{giving-room, giving-part, gap-long, text-short, text-gives}
-use Rattle.expander.proofs.TurnLaws.{gives-by}
+use Rattle.expander.proofs.MacroLaws.{gives-as}
 use borrow.Author.Needs.{needs}
 use Rattle.expander.proofs.giving.give_text.Statement.{statement}
 use Rattle.expander.proofs.giving.give_text.Tie as tie
@@ -22,20 +22,17 @@ string-requires c κs = search needs
 body-short : (c : tie.After-string) → length (now (c .string .result)) ≤ 65536
 body-short c =
     let pre = c .before .before .before .before .before .before .before .pre in
-    let h = pre .0 .means .table .holds in
+    let h = pre .0 .sound .means .table .holds in
     text-short h _ (omega (arith, pre .1 .1 .1)) (c .string .ensures _ (h .packs))
 
 substituted-length-requires : tie.Need-substituted-length-requires
 substituted-length-requires c κs = let pre = c .before .before .before .before .before .before .before .pre in (search needs, search needs, pre .1 .1 .0, body-short c)
 
-refused-requires : tie.Need-refused-requires
-refused-requires c κs = search needs
-
 returns : tie.Need-returns
 returns c =
-    λ a s b args r x.
-    gives-by (text-gives s args (r .marks) _ (c .before .before .before .string .ensures _ (r .table .holds .packs))) (c .refused .ensures)
-    (giving-room r _ _ (sym (c .before .before .substituted-length .ensures _ args x)) (c .before .if1 .taken))
+    λ a s b m args r x.
+    gives-as (text-gives s args (r .marks) _ (c .before .before .string .ensures _ (r .table .holds .packs)))
+    (giving-room r _ _ (sym (c .before .substituted-length .ensures _ args x)) (c .if1 .taken))
 
 sub-fill-substituted : tie.Need-sub-fill-substituted
 sub-fill-substituted c = search needs
@@ -50,20 +47,17 @@ fill-substituted-requires : tie.Need-fill-substituted-requires
 fill-substituted-requires c κs =
     let start = c .before .before .before .before .before .before .before .before .before .before in
     let n = c .before .before .substituted-length in
-    let l = gap-long (start .args .pending .now) (start .args .m .source .from) (n .result) (omega (arith, c .before .if1 .left)) (start .pre .0 .means .source .from-in) in
+    let l = gap-long (start .args .pending .now) (start .args .p .from) (n .result) (omega (arith, c .before .if1 .left)) (start .pre .0 .sound .means .source .from-in) in
     ((start .pre .1 .0, search needs, start .pre .1 .1 .0, body-short (c .before .before .before)), λ args x. l ∙ n .ensures _ args x)
-
-pushed-requires : tie.Need-pushed-requires
-pushed-requires c κs = search needs
 
 same-length : tie.Need-same-length
 same-length c = search needs
 
 returns-2 : tie.Need-returns-2
 returns-2 c =
-    λ a s b args r x.
-    gives-by (text-gives s args (r .marks) _ (c .before .before .before .before .before .before .before .string .ensures _ (r .table .holds .packs))) (c .pushed .ensures)
-    (giving-part r _ _ (sym (c .before .before .before .before .before .before .substituted-length .ensures _ args x)) (omega (arith, c .before .before .before .before .before .if1 .left)) (c .before .before .before .fill-substituted .ensures args x))
+    λ a s b m args r x.
+    gives-as (text-gives s args (r .marks) _ (c .before .before .before .before .before .before .string .ensures _ (r .table .holds .packs)))
+    (giving-part r _ _ (sym (c .before .before .before .before .before .substituted-length .ensures _ args x)) (omega (arith, c .before .before .before .before .if1 .left)) (c .before .before .fill-substituted .ensures args x))
 
 pub give-text-spec : {M : Type 1} → statement M
 give-text-spec =
@@ -73,12 +67,10 @@ give-text-spec =
     add-k
     string-requires
     substituted-length-requires
-    refused-requires
     returns
     sub-fill-substituted
     part-fill-substituted-start
     part-fill-substituted-end
     fill-substituted-requires
-    pushed-requires
     same-length
     returns-2)

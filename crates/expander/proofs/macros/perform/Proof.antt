@@ -1,8 +1,10 @@
 -- `expander::macros::perform` meets its contract. Assumes nothing.
-use Rattle.rules.specs.Macros.{macros}
-use Rattle.expander.specs.Macros.{Resulting}
+use Rattle.rules.specs.Results.{divnumResult}
+use Rattle.rules.specs.Macros.{macros, callDivnum}
+use Rattle.expander.specs.Macros.{Resulting, Changing, SortIs}
 use Rattle.expander.specs.Machine.{Memory, textAt, pendingAt, stringsAt, definitionsAt, sinksAt, wrapAt, errorsAt}
-use Rattle.expander.proofs.MacroLaws.{gives-at, sound-at}
+use Rattle.expander.proofs.GivingLaws.{gives-given}
+use Rattle.expander.proofs.MacroLaws.{gives-at, gives-none, sound-at, sound-of, shows-current}
 use borrow.Author.Needs.{needs}
 use Rattle.expander.proofs.macros.perform.Statement.{statement}
 use Rattle.expander.proofs.macros.perform.Tie as tie
@@ -77,29 +79,21 @@ undefine-requires c κs =
 undivert-requires : tie.Need-undivert-requires
 undivert-requires c κs =
     let p = c .before .before .before .before .before .before .before .before .before .before .before .before .before .before .before .before .before in
-    (sound-at (ours p) (p .pre .0 .means), (p .pre .1 .0, p .pre .1 .2))
+    (sound-at (ours p) (p .pre .0 .means), (p .pre .1 .0, p .pre .1 .3))
 
-give-requires : tie.Need-give-requires
-give-requires c κs =
-    let p = c .before .before .before .before .before .before .before .before .before .before .before .before .before .before .before .before in
-    let r = c .before .before .before .match .rest in
-    let others : Resulting (p .args .k) =
-    record {
-      some = p .pre .1 .1;
-      not-changecom = r .0 .0 .0 .0 .0 .0 .0 .0 .0 .0 .0 .1;
-      not-changequote = r .0 .0 .0 .0 .0 .0 .0 .0 .0 .0 .1;
-      not-define = r .0 .0 .0 .0 .0 .0 .0 .0 .0 .1;
-      not-divert = r .0 .0 .0 .0 .0 .0 .0 .0 .1;
-      not-dnl = r .0 .0 .0 .0 .0 .0 .0 .1;
-      not-errprint = r .0 .0 .0 .0 .0 .0 .1;
-      not-m4exit = r .0 .0 .0 .0 .0 .1;
-      not-m4wrap = r .0 .0 .0 .0 .1;
-      not-popdef = r .0 .0 .0 .1;
-      not-pushdef = r .0 .0 .1;
-      not-undefine = r .0 .1;
-      not-undivert = r .1;
-    } in
-    (sound-at (ours p) (p .pre .0 .means), (p .pre .1 .0, others))
+divnum-requires : tie.Need-divnum-requires
+divnum-requires c κs = search needs
+
+give-figure-requires : tie.Need-give-figure-requires
+give-figure-requires c κs =
+    let p = c .before .before .before .before .before .before .before .before .before .before .before .before .before .before .before in
+    sound-of (ours p) (p .args .m) (p .pre .0 .means)
+
+given-requires : tie.Need-given-requires
+given-requires c κs = search needs
+
+refused-requires : tie.Need-refused-requires
+refused-requires c κs = search needs
 
 returns : tie.Need-returns
 unfolding macros
@@ -197,14 +191,40 @@ returns-12 c = λ a s b args m x. gives-at 24 (c .before .before .before .before
 same-length-16 : tie.Need-same-length-16
 same-length-16 c = search needs
 
-same-length-17 : tie.Need-same-length-17
-same-length-17 c = search needs
-
-same-length-18 : tie.Need-same-length-18
-same-length-18 c = search needs
-
 returns-13 : tie.Need-returns-13
-returns-13 c = λ a s b args m x. c .before .before .give .ensures a s (lent (c .before .before .before .before .before .before .before .before .before .before .before .before .before .before .before .before .before .before .before) b) args m x
+unfolding macros callDivnum
+returns-13 c =
+    let p = c .before .before .before .before .before .before .before .before .before .before .before .before .before .before .before .before .before .before .before in
+    λ a s b args m x.
+    gives-at 7 (c .before .before .before .before .before .before .match .keys13) args s
+    (gives-given (c .given .ensures)
+    (c .before .before .before .give-figure .ensures a s (lent p b) (p .args .m) (divnumResult (s .streams .current)) m (shows-current (m .sinks .current) (c .before .before .before .before .divnum .ensures))))
+
+returns-14 : tie.Need-returns-14
+unfolding SortIs
+returns-14 c =
+    let p = c .before .before .before .before .before .before .before .before .before .before .before .before .before .before in
+    let r = c .before .match .rest in
+    let changing : Changing (p .args .k) = p .pre .1 .2 in
+    let others : Resulting (p .args .k) =
+    record {
+      some = p .pre .1 .1;
+      not-changecom = r .0 .0 .0 .0 .0 .0 .0 .0 .0 .0 .0 .0 .1;
+      not-changequote = r .0 .0 .0 .0 .0 .0 .0 .0 .0 .0 .0 .1;
+      not-define = r .0 .0 .0 .0 .0 .0 .0 .0 .0 .0 .1;
+      not-divert = r .0 .0 .0 .0 .0 .0 .0 .0 .0 .1;
+      not-dnl = r .0 .0 .0 .0 .0 .0 .0 .0 .1;
+      not-errprint = r .0 .0 .0 .0 .0 .0 .0 .1;
+      not-m4exit = r .0 .0 .0 .0 .0 .0 .1;
+      not-m4wrap = r .0 .0 .0 .0 .0 .1;
+      not-popdef = r .0 .0 .0 .0 .1;
+      not-pushdef = r .0 .0 .0 .1;
+      not-undefine = r .0 .0 .1;
+      not-undivert = r .0 .1;
+      not-divnum = r .1;
+      not-index = changing .not-index;
+    } in
+    λ a s b args m x. gives-none others changing args s (c .refused .ensures)
 
 pub perform-spec : {M : Type 1} → statement M
 perform-spec =
@@ -222,7 +242,10 @@ perform-spec =
     pushdef-requires
     undefine-requires
     undivert-requires
-    give-requires
+    divnum-requires
+    give-figure-requires
+    given-requires
+    refused-requires
     returns
     returns-2
     same-length
@@ -251,6 +274,5 @@ perform-spec =
     same-length-15
     returns-12
     same-length-16
-    same-length-17
-    same-length-18
-    returns-13)
+    returns-13
+    returns-14)

@@ -4,7 +4,7 @@ use mathlib.Core.Path.{_≡_, refl, _∙_}
 use lib.ListN.{length}
 use Rattle.expander.specs.Machine.{stringsAt}
 use Rattle.expander.proofs.TurnLaws.{gives-by}
-use Rattle.expander.proofs.RemarkingLaws.{changecom-none, changecom-one, changecom-more}
+use Rattle.expander.proofs.RemarkingLaws.{changecom-none, changecom-some}
 use borrow.Author.Needs.{needs}
 use Rattle.expander.proofs.remarking.changecom.Statement.{statement}
 use Rattle.expander.proofs.remarking.changecom.Tie as tie
@@ -38,8 +38,11 @@ returns c =
 argument-requires : tie.Need-argument-requires
 argument-requires c κs = search needs
 
-slice-aggregate-remarked-comments : tie.Need-slice-aggregate-remarked-comments
-slice-aggregate-remarked-comments c = search needs
+slice-aggregate-end-mark : tie.Need-slice-aggregate-end-mark
+slice-aggregate-end-mark c = search needs
+
+end-mark-requires : tie.Need-end-mark-requires
+end-mark-requires c κs = search needs
 
 remarked-comments-requires : tie.Need-remarked-comments-requires
 remarked-comments-requires c κs = search needs
@@ -48,23 +51,9 @@ returns-2 : tie.Need-returns-2
 returns-2 c =
     let p = c .before .before .before .before .before .before .before .before .before .args in
     λ a s b args r h.
-    let n : length args ≡ 1 = omega (arith, c .before .before .if2 .taken, c .before .before .before .before .before .before .count .ensures (p .calls .now) (p .ends .now) args h) in
-    gives-by (changecom-one args s (c .before .before .before .argument .ensures args h) n) refl (c .remarked-comments .ensures a s (stringsAt (p .calls .now) (p .ends .now) b) r)
-
-argument-requires-2 : tie.Need-argument-requires-2
-argument-requires-2 c κs = search needs
-
-remarked-comments-requires-2 : tie.Need-remarked-comments-requires-2
-remarked-comments-requires-2 c κs = search needs
-
-returns-3 : tie.Need-returns-3
-returns-3 c =
-    let p = c .before .before .before .before .before .before .before .before .before .args in
-    λ a s b args r h.
     let n = c .before .before .before .before .before .before .count .ensures (p .calls .now) (p .ends .now) args h in
-    gives-by
-    (changecom-more args s (c .before .before .before .argument .ensures args h) (c .before .argument2 .ensures args h) (λ e. c .before .before .before .before .if1 .left (n ∙ e)) (λ e. c .before .before .if2 .left (n ∙ e)))
-    refl (c .remarked-comments2 .ensures a s (stringsAt (p .calls .now) (p .ends .now) b) r)
+    gives-by (changecom-some args s (c .before .before .before .argument .ensures args h) (c .before .end-mark .ensures args h) (λ e. c .before .before .before .before .if1 .left (n ∙ e)))
+    refl (c .remarked-comments .ensures a s (stringsAt (p .calls .now) (p .ends .now) b) r)
 
 pub changecom-spec : {M : Type 1} → statement M
 changecom-spec =
@@ -78,9 +67,7 @@ changecom-spec =
     on-requires
     returns
     argument-requires
-    slice-aggregate-remarked-comments
+    slice-aggregate-end-mark
+    end-mark-requires
     remarked-comments-requires
-    returns-2
-    argument-requires-2
-    remarked-comments-requires-2
-    returns-3)
+    returns-2)

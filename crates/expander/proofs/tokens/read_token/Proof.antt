@@ -19,6 +19,9 @@ returns c =
     let m = markTexts (a .marks) in
     token-within m text _ (token-end m text (omega arith))
 
+byte-ahead-requires : tie.Need-byte-ahead-requires
+byte-ahead-requires c κs = search needs
+
 which-requires : tie.Need-which-requires
 which-requires c κs = search needs
 
@@ -43,7 +46,7 @@ read-plain-requires c κs = search needs
 returns-2 : tie.Need-returns-2
 unfolding markTexts
 returns-2 c =
-    let a = c .before .before .before .before .before .before .before .before .before .before .before .before .args in
+    let a = c .before .before .before .before .before .before .before .before .before .before .before .before .before .args in
     let text = a .front .now ++ a .rest .now in
     let m = markTexts (a .marks) in
     token-within m text _ (c .read-comment .ensures ∙ token-comment m text (omega arith) (sym (c .before .before .before .which .ensures) ∙ c .before .enum-told .given .1))
@@ -51,7 +54,7 @@ returns-2 c =
 returns-3 : tie.Need-returns-3
 unfolding markTexts
 returns-3 c =
-    let a = c .before .before .before .before .before .before .before .before .before .before .before .before .args in
+    let a = c .before .before .before .before .before .before .before .before .before .before .before .before .before .args in
     let text = a .front .now ++ a .rest .now in
     let m = markTexts (a .marks) in
     token-within m text _ (c .read-quoted .ensures ∙ token-quoted m text (omega arith) (sym (c .before .before .before .which .ensures) ∙ c .before .enum-told2 .given .1))
@@ -59,7 +62,7 @@ returns-3 c =
 returns-4 : tie.Need-returns-4
 unfolding markTexts
 returns-4 c =
-    let a = c .before .before .before .before .before .before .before .before .before .before .before .before .args in
+    let a = c .before .before .before .before .before .before .before .before .before .before .before .before .before .args in
     let text = a .front .now ++ a .rest .now in
     let m = markTexts (a .marks) in
     token-within m text _ (c .read-plain .ensures ∙ token-plain m text (omega arith) (sym (c .before .before .before .which .ensures) ∙ c .before .enum-told3 .given .1))
@@ -70,6 +73,7 @@ read-token-spec =
     (tie.spec
     ahead-length-requires
     returns
+    byte-ahead-requires
     which-requires
     enum-told
     read-comment-requires

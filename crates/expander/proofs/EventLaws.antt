@@ -1,0 +1,115 @@
+-- What the token ahead calls for, by what the code goes by: the class of a byte, a name's meaning, the token. Assumes nothing.
+use Prim.Native.Nat.{ℕ, _-_, _≤_, _<_}
+use mathlib.Core.Path.{_≡_, sym, ap, subst, _∙_}
+use mathlib.Core.Bool.{Bool, true, false}
+use mathlib.Core.List.{List, [], _∷_}
+use mathlib.Core.Option.{Option}
+use lib.Dec.{eqb}
+use lib.ListN.{take, getD}
+use Rattle.rules.specs.declared.Token.{Token}
+use Rattle.rules.specs.declared.Token.the-variants as token
+use Rattle.rules.specs.Bytes.{Bytes}
+use Rattle.rules.specs.Macros.{called}
+use Rattle.rules.specs.Run.{Setting}
+use Rattle.rules.specs.Source.{ahead}
+use Rattle.rules.specs.State.{Call, State, taking, withSource}
+use Rattle.rules.specs.Step.{act, step}
+use Rattle.rules.specs.Table.{Meaning, meaningOf}
+use Rattle.expander.specs.declared.events.Class.{Class}
+use Rattle.expander.specs.declared.events.Class.the-variants as class
+use Rattle.expander.specs.declared.events.Event.{Event}
+use Rattle.expander.specs.declared.events.Event.the-variants as event
+use Rattle.expander.specs.declared.events.Plain.the-variants as plain
+use Rattle.expander.specs.declared.events.Special.the-variants as special
+use Rattle.expander.specs.declared.machine.Machine.{Machine}
+use Rattle.expander.specs.declared.source.Position.{Position}
+use Rattle.expander.specs.declared.table.Meaning.{Meaning as Looked}
+use Rattle.expander.specs.declared.table.Meaning.the-variants as looked
+use Rattle.expander.specs.Calls.{CallsIn, bit}
+use Rattle.expander.specs.Events.{PlainWithin, SpecialWithin, EventWithin, PlainIs, SpecialIs, EventIs, NameFound}
+use Rattle.expander.specs.Machine.{Memory, Means, aheadOf}
+use Rattle.expander.specs.Step.{classed, Classifies, TokenWithin}
+use Rattle.expander.specs.Table.{Finds}
+use Rattle.expander.proofs.CallsLaws.{depth-in}
+use Rattle.expander.proofs.StepLaws.{no-calls, some-calls, calls-top, class-is, class-deep, byte-none, byte-some, named-nothing, known, named-known, named-opened, named-called, acts}
+
+-- ---- a byte
+
+-- what a byte in a call calls for, by its class
+unfoldable pub classEvent : ℕ → Class → Event
+classEvent x class.Dropped = event.Plain plain.Skip
+classEvent x (class.Collected depth) = event.Plain (plain.Collect x depth)
+classEvent x class.Closes = event.Special special.Close
+classEvent x class.Separates = event.Plain plain.Separate
+
+pub class-within :
+    (text pending : Bytes) (m : Machine) (x : ℕ) (w : Class) → 0 < m .calls .opens → 1 ≤ aheadOf text pending (m .source)
+    → EventWithin text pending m (classEvent x w)
+unfolding classEvent EventWithin PlainWithin SpecialWithin
+class-within text pending m x class.Dropped o h = h
+class-within text pending m x (class.Collected depth) o h = (h, o)
+class-within text pending m x class.Closes o h = (h, o)
+class-within text pending m x class.Separates o h = (h, o)
+
+module _ {a : Setting} {b : Memory} {m : Machine} {s : State} (r : Means a b m s) (x : ℕ) (e : step s ≡ act (token.Byte x) s) where
+  -- no call is open
+  pub emit-is : m .calls .opens ≡ 0 → EventIs s (event.Plain (plain.Emit x))
+  unfolding EventIs PlainIs act taking withSource
+  emit-is z = e ∙ byte-none x (taking 1 s) (no-calls r z)
+
+  -- the innermost call's depth of parentheses, whether it collected a token, and the byte's class by these
+  module _ {depth collected : ℕ} {g : Class}
+      (at : (bytes : Bytes) (ends : List ℕ) (c : Call) (cs : List Call) → CallsIn bytes ends (b .stack) (m .calls) (c ∷ cs) → depth ≡ c .depth)
+      (has : (bytes : Bytes) (ends : List ℕ) (c : Call) (cs : List Call) → CallsIn bytes ends (b .stack) (m .calls) (c ∷ cs) → collected ≡ bit (c .collected))
+      (h : Classifies x depth collected g) where
+    call-step : {w : Class} → g ≡ w → (c : Call) (cs : List Call) → s .calls ≡ c ∷ cs → step s ≡ classed w x c cs (taking 1 s)
+    unfolding act taking withSource
+    call-step q c cs p =
+        let k = calls-top r p in
+        e ∙ byte-some x (taking 1 s) c cs p ∙ class-is h q c cs (taking 1 s) (at _ _ c cs k) (has _ _ c cs k)
+
+    pub class-event : (w : Class) → g ≡ w → 0 < m .calls .opens → EventIs s (classEvent x w)
+    unfolding classEvent EventIs PlainIs SpecialIs classed
+    class-event class.Dropped q o = let i = some-calls r o in call-step q (i .top) (i .rest) (i .is)
+    class-event (class.Collected depth) q o =
+        λ c cs p. let k = calls-top r p in (class-deep c h q (at _ _ c cs k) (depth-in k), call-step q c cs p)
+    class-event class.Closes q o = call-step q
+    class-event class.Separates q o = call-step q
+
+-- ---- a name
+
+module _ (s : State) (n : ℕ) (e : step s ≡ act (token.Name n) s) {g : Looked} (f : Finds (s .table .definitions) (meaningOf (take n (ahead (s .source))) (s .table)) g) where
+  pub undefined-is : g ≡ looked.Undefined → EventIs s (event.Plain (plain.Deliver 0 n n))
+  unfolding EventIs PlainIs act
+  undefined-is q = e ∙ named-nothing _ n s f q
+
+  module _ (d : g ≡ looked.Undefined → ⊥) {t : Bool} (p : t ≡ eqb (getD (ahead (s .source)) n 0) 40) where
+    pub open-is : t ≡ true → EventIs s (event.Plain (plain.Open n))
+    unfolding EventIs PlainIs act
+    open-is q = let k = known f d in e ∙ named-known _ n s k ∙ named-opened _ n (k .meaning) s p q
+
+    pub bare-is : t ≡ false → EventIs s (event.Special (special.Bare n g))
+    unfolding EventIs SpecialIs NameFound act
+    bare-is q =
+        let k = known f d in
+        let name = take n (ahead (s .source)) in
+        (f, e ∙ named-known _ n s k ∙ named-called _ n (k .meaning) s p q ∙ ap (λ (o : Option Meaning). called o name [] (taking n s)) (sym (k .is)))
+
+-- ---- a token
+
+module _ (s : State) {t : Token} (e : step s ≡ act t s) where
+  pub end-is : t ≡ token.End → EventIs s (event.Special special.End)
+  unfolding EventIs SpecialIs act
+  end-is q = e ∙ acts q s
+
+  pub comment-is : {n : ℕ} → t ≡ token.Comment n → EventIs s (event.Plain (plain.Deliver 0 n n))
+  unfolding EventIs PlainIs act
+  comment-is q = e ∙ acts q s
+
+  pub quoted-is : {i j n : ℕ} → t ≡ token.Quoted i j n → EventIs s (event.Plain (plain.Deliver i (j - i) n))
+  unfolding EventIs PlainIs act
+  quoted-is q = e ∙ acts q s
+
+pub byte-ahead : (text pending : Bytes) (p : Position) {t : Token} {x : ℕ} → t ≡ token.Byte x → TokenWithin text pending p t → 1 ≤ aheadOf text pending p
+unfolding TokenWithin
+byte-ahead text pending p e w = subst (TokenWithin text pending p) e w

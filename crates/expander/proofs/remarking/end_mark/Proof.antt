@@ -1,0 +1,25 @@
+-- `expander::remarking::end_mark` meets its contract, by the number of arguments. Assumes nothing.
+use mathlib.Core.Path.{sym, _∙_}
+use Rattle.expander.proofs.RemarkingLaws.{second-only, second-given}
+use borrow.Author.Needs.{needs}
+use Rattle.expander.proofs.remarking.end_mark.Statement.{statement}
+use Rattle.expander.proofs.remarking.end_mark.Tie as tie
+
+count-requires : tie.Need-count-requires
+count-requires c κs = search needs
+
+returns : tie.Need-returns
+returns c =
+    let p = c .before .before .before .before .before .args in
+    λ args h. second-only (p .newline .now) args (sym (c .before .count .ensures (p .calls .now) (p .ends .now) args h) ∙ c .if1 .taken)
+
+argument-requires : tie.Need-argument-requires
+argument-requires c κs = search needs
+
+returns-2 : tie.Need-returns-2
+returns-2 c =
+    let p = c .before .before .before .before .before .before .args in
+    λ args h. second-given (p .newline .now) args (λ e. c .before .if1 .left (c .before .before .count .ensures (p .calls .now) (p .ends .now) args h ∙ e)) (c .argument .ensures args h)
+
+pub end-mark-spec : {M : Type 1} → statement M
+end-mark-spec = tie.close (tie.spec count-requires returns argument-requires returns-2)

@@ -1,0 +1,202 @@
+use mathlib.Core.Path.{refl}
+use Rattle.rules.specs.Answers.{unclosedQuote, unclosedComment, faultAnswer}
+use Rattle.rules.specs.State.{withSource, taking}
+use Rattle.expander.specs.Events.{NameFound, SpecialWithin, SpecialIs}
+use Rattle.expander.specs.Machine.{Memory, textAt, pendingAt, stackAt, callsAt, definitionsAt, sinksAt, wrapAt, errorsAt}
+use Rattle.expander.proofs.PlainLaws.{special-is, special-within, one-taken, taken-sound, taken-open}
+use Rattle.expander.proofs.StepLaws.{lends, by, some-calls}
+use Rattle.expander.proofs.TurnLaws.{turned-refused}
+use borrow.Author.Needs.{needs}
+use Rattle.expander.proofs.step.special_step.Statement.{statement}
+use Rattle.expander.proofs.step.special_step.Tie as tie
+use Rattle.expander.proofs.step.special_step.Reads as reads
+use Rattle.expander.proofs.step.special_step.Lts as lts
+use Rattle.expander.proofs.closing.bare.Reads as bare-reads
+use Rattle.expander.proofs.closing.close.Reads as close-reads
+use Rattle.expander.proofs.machine.Machine.refused.Reads as refused-reads
+use Rattle.expander.proofs.machine.Machine.with_source.Reads as with-source-reads
+use Rattle.expander.proofs.source.advanced.Reads as advanced-reads
+use Rattle.expander.proofs.step.at_end.Reads as at-end-reads
+
+-- the memory lent
+abbrev lent : tie.Start → Memory → Memory
+lent c b =
+    let a = c .args in
+    textAt (a .text .now)
+    (pendingAt (a .pending .now)
+    (callsAt (a .calls .now) (a .ends .now) (a .stack .now)
+    (definitionsAt (a .definitions .now) (a .table-ends .now)
+    (sinksAt (a .streams .now) (a .owners .now) (a .output .now) (wrapAt (a .wrap .now) (errorsAt (a .errors .now) b))))))
+
+enum-told : tie.Need-enum-told
+enum-told c = search needs
+
+at-end-requires : tie.Need-at-end-requires
+unfolding SpecialWithin
+at-end-requires c κs = (lends (c .before .before .before .before .before .before .before .before .before .before .before .before .before .before .before .before .before .before .before .before .pre .0 .sound) refl, special-within _ _ _ (c .before .before .before .before .before .enum-told .given .1) (c .before .before .before .before .before .before .before .before .before .before .before .before .before .before .before .before .before .before .before .before .pre .1 .0))
+
+enum-told-2 : tie.Need-enum-told-2
+enum-told-2 c = search needs
+
+refused-requires : tie.Need-refused-requires
+refused-requires c κs = search needs
+
+enum-told-3 : tie.Need-enum-told-3
+enum-told-3 c = search needs
+
+refused-requires-2 : tie.Need-refused-requires-2
+refused-requires-2 c κs = search needs
+
+enum-told-4 : tie.Need-enum-told-4
+enum-told-4 c = search needs
+
+advanced-requires : tie.Need-advanced-requires
+advanced-requires c κs = search needs
+
+with-source-requires : tie.Need-with-source-requires
+with-source-requires c κs = search needs
+
+close-requires : tie.Need-close-requires
+unfolding SpecialWithin
+close-requires c κs = let w = special-within _ _ _ (c .before .before .before .before .before .before .before .before .before .before .before .before .enum-told4 .given .1) (c .before .before .before .before .before .before .before .before .before .before .before .before .before .before .before .before .before .before .before .before .before .before .before .before .before .before .before .pre .1 .0) in (taken-sound (c .before .before .before .before .before .before .before .before .before .before .before .before .before .before .before .before .before .before .before .before .before .before .before .before .before .before .before .pre .0 .sound) (w .0) (c .before .before .before .before .before .before .before .before .before .before .advanced .ensures) (c .with-source .ensures), (taken-open (c .before .before .before .before .before .before .before .before .before .before .before .before .before .before .before .before .before .before .before .before .before .before .before .before .before .before .before .args .m) (c .with-source .ensures) (w .1), c .before .before .before .before .before .before .before .before .before .before .before .before .before .before .before .before .before .before .before .before .before .before .before .before .before .before .before .pre .1 .1))
+
+enum-known-e : tie.Need-enum-known-e
+enum-known-e c = search needs
+
+bare-requires : tie.Need-bare-requires
+unfolding SpecialWithin SpecialIs
+bare-requires c κs = let q = c .before .before .before .before .before .before .before .before .before .before .before .before .before .before .before .before .before .before .before .before .before .before .before .before .before in let p = q .pre .0 .sound in (record { sound = record { others = lent q (p .others); setting = p .setting; state = p .state; means = p .means }; found = special-is (p .state) (c .before .before .before .before .before .before .before .before .before .before .e .given .1) (q .pre .0 .is) .0 }, (special-within _ _ _ (c .before .before .before .before .before .before .before .before .before .before .e .given .1) (c .before .before .before .before .before .before .before .before .before .before .before .before .before .before .before .before .before .before .before .before .before .before .before .before .before .pre .1 .0), q .pre .1 .1))
+
+same-length : tie.Need-same-length
+same-length c = search needs
+
+same-length-2 : tie.Need-same-length-2
+same-length-2 c = search needs
+
+same-length-3 : tie.Need-same-length-3
+same-length-3 c = search needs
+
+same-length-4 : tie.Need-same-length-4
+same-length-4 c = search needs
+
+same-length-5 : tie.Need-same-length-5
+same-length-5 c = search needs
+
+returns : tie.Need-returns
+unfolding SpecialIs SpecialWithin faultAnswer taking withSource NameFound
+returns c = λ a s b r h. by (special-is s (c .before .before .before .before .before .before .before .before .before .before .enum-told .given .1) h) (c .before .before .before .before .at-end .ensures a s (textAt _ (callsAt _ _ _ (definitionsAt _ _ (errorsAt _ b)))) r)
+
+returns-2 : tie.Need-returns-2
+unfolding SpecialIs SpecialWithin faultAnswer taking withSource NameFound
+returns-2 c = λ a s b r h. turned-refused unclosedQuote (special-is s (c .before .enum-told2 .given .1) h) (c .refused .ensures)
+
+returns-3 : tie.Need-returns-3
+unfolding SpecialIs SpecialWithin faultAnswer taking withSource NameFound
+returns-3 c = λ a s b r h. turned-refused unclosedComment (special-is s (c .before .enum-told3 .given .1) h) (c .refused2 .ensures)
+
+same-length-6 : tie.Need-same-length-6
+same-length-6 c = search needs
+
+same-length-7 : tie.Need-same-length-7
+same-length-7 c = search needs
+
+same-length-8 : tie.Need-same-length-8
+same-length-8 c = search needs
+
+same-length-9 : tie.Need-same-length-9
+same-length-9 c = search needs
+
+same-length-10 : tie.Need-same-length-10
+same-length-10 c = search needs
+
+same-length-11 : tie.Need-same-length-11
+same-length-11 c = search needs
+
+same-length-12 : tie.Need-same-length-12
+same-length-12 c = search needs
+
+same-length-13 : tie.Need-same-length-13
+same-length-13 c = search needs
+
+same-length-14 : tie.Need-same-length-14
+same-length-14 c = search needs
+
+returns-4 : tie.Need-returns-4
+unfolding SpecialIs SpecialWithin faultAnswer taking withSource NameFound
+returns-4 c = let w = special-within _ _ _ (c .before .before .before .before .before .before .before .before .before .before .before .before .before .before .before .before .before .before .before .before .before .before .before .before .before .before .before .before .before .before .before .enum-told4 .given .1) (c .before .before .before .before .before .before .before .before .before .before .before .before .before .before .before .before .before .before .before .before .before .before .before .before .before .before .before .before .before .before .before .before .before .before .before .before .before .before .before .before .before .before .before .before .before .before .pre .1 .0) in λ a s b r h. let i = some-calls r (w .1) in by (special-is s (c .before .before .before .before .before .before .before .before .before .before .before .before .before .before .before .before .before .before .before .before .before .before .before .before .before .before .before .before .before .before .before .enum-told4 .given .1) h (i .top) (i .rest) (i .is)) (c .before .before .before .before .before .before .before .before .before .before .before .before .before .before .before .before .before .before .close .ensures a (taking 1 s) b (i .top) (i .rest) (one-taken r (w .0) (c .before .before .before .before .before .before .before .before .before .before .before .before .before .before .before .before .before .before .before .before .before .before .before .before .before .before .before .before .before .advanced .ensures) (c .before .before .before .before .before .before .before .before .before .before .before .before .before .before .before .before .before .before .before .with-source .ensures)) (i .is))
+
+same-length-15 : tie.Need-same-length-15
+same-length-15 c = search needs
+
+same-length-16 : tie.Need-same-length-16
+same-length-16 c = search needs
+
+same-length-17 : tie.Need-same-length-17
+same-length-17 c = search needs
+
+same-length-18 : tie.Need-same-length-18
+same-length-18 c = search needs
+
+same-length-19 : tie.Need-same-length-19
+same-length-19 c = search needs
+
+same-length-20 : tie.Need-same-length-20
+same-length-20 c = search needs
+
+same-length-21 : tie.Need-same-length-21
+same-length-21 c = search needs
+
+same-length-22 : tie.Need-same-length-22
+same-length-22 c = search needs
+
+same-length-23 : tie.Need-same-length-23
+same-length-23 c = search needs
+
+returns-5 : tie.Need-returns-5
+unfolding SpecialIs SpecialWithin faultAnswer taking withSource NameFound
+returns-5 c = λ a s b r h. let g = special-is s (c .before .before .before .before .before .before .before .before .before .before .before .before .before .before .before .before .before .before .before .before .before .before .before .before .before .before .before .before .before .e .given .1) h in by (g .1) (c .before .before .before .before .before .before .before .before .before .before .before .before .before .before .before .before .before .before .bare .ensures a s (stackAt _ b) _ r (g .0))
+
+pub special-step-spec : {M : Type 1} → statement M
+special-step-spec =
+    tie.close
+    (tie.spec
+    enum-told
+    at-end-requires
+    enum-told-2
+    refused-requires
+    enum-told-3
+    refused-requires-2
+    enum-told-4
+    advanced-requires
+    with-source-requires
+    close-requires
+    enum-known-e
+    bare-requires
+    same-length
+    same-length-2
+    same-length-3
+    same-length-4
+    same-length-5
+    returns
+    returns-2
+    returns-3
+    same-length-6
+    same-length-7
+    same-length-8
+    same-length-9
+    same-length-10
+    same-length-11
+    same-length-12
+    same-length-13
+    same-length-14
+    returns-4
+    same-length-15
+    same-length-16
+    same-length-17
+    same-length-18
+    same-length-19
+    same-length-20
+    same-length-21
+    same-length-22
+    same-length-23
+    returns-5)

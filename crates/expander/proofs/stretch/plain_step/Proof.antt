@@ -1,0 +1,212 @@
+use mathlib.Core.Path.{refl}
+use Rattle.rules.specs.State.{withSource, taking}
+use Rattle.expander.specs.Events.{PlainWithin, PlainIs}
+use Rattle.expander.specs.Machine.{textAt, pendingAt, callsAt, sinksAt}
+use Rattle.expander.proofs.PlainLaws.{plain-is, plain-within, one-taken, taken-sound, taken-open}
+use Rattle.expander.proofs.StepLaws.{lends, by, some-calls}
+use Rattle.expander.proofs.TurnLaws.{turned-on}
+use borrow.Author.Needs.{needs}
+use Rattle.expander.proofs.stretch.plain_step.Statement.{statement}
+use Rattle.expander.proofs.stretch.plain_step.Tie as tie
+use Rattle.expander.proofs.stretch.plain_step.Reads as reads
+use Rattle.expander.proofs.stretch.plain_step.Lts as lts
+use Rattle.expander.proofs.delivering.collect_byte.Reads as collect-byte-reads
+use Rattle.expander.proofs.delivering.deliver.Reads as deliver-reads
+use Rattle.expander.proofs.delivering.emit_byte.Reads as emit-byte-reads
+use Rattle.expander.proofs.delivering.next_argument.Reads as next-argument-reads
+use Rattle.expander.proofs.delivering.open_call.Reads as open-call-reads
+use Rattle.expander.proofs.machine.Machine.on.Reads as on-reads
+use Rattle.expander.proofs.machine.Machine.with_source.Reads as with-source-reads
+use Rattle.expander.proofs.source.advanced.Reads as advanced-reads
+
+enum-known-p : tie.Need-enum-known-p
+enum-known-p c = search needs
+
+deliver-requires : tie.Need-deliver-requires
+unfolding PlainWithin
+deliver-requires c κs = (lends (c .before .before .before .before .before .before .before .before .before .before .before .before .before .before .before .before .before .pre .0) refl, plain-within _ _ _ (c .before .before .before .before .before .before .before .p .given .1) (c .before .before .before .before .before .before .before .before .before .before .before .before .before .before .before .before .before .pre .1))
+
+enum-known-p-2 : tie.Need-enum-known-p-2
+enum-known-p-2 c = search needs
+
+advanced-requires : tie.Need-advanced-requires
+advanced-requires c κs = search needs
+
+with-source-requires : tie.Need-with-source-requires
+with-source-requires c κs = search needs
+
+emit-byte-requires : tie.Need-emit-byte-requires
+unfolding PlainWithin
+emit-byte-requires c κs = lends (taken-sound (c .before .before .before .before .before .before .before .before .before .before .before .before .before .before .before .before .pre .0) (plain-within _ _ _ (c .before .before .before .before .before .before .p2 .given .1) (c .before .before .before .before .before .before .before .before .before .before .before .before .before .before .before .before .pre .1)) (c .before .before .before .before .advanced .ensures) (c .with-source .ensures)) refl
+
+enum-known-p-3 : tie.Need-enum-known-p-3
+enum-known-p-3 c = search needs
+
+advanced-requires-2 : tie.Need-advanced-requires-2
+advanced-requires-2 c κs = search needs
+
+with-source-requires-2 : tie.Need-with-source-requires-2
+with-source-requires-2 c κs = search needs
+
+collect-byte-requires : tie.Need-collect-byte-requires
+unfolding PlainWithin
+collect-byte-requires c κs = let w = plain-within _ _ _ (c .before .before .before .before .before .before .p3 .given .1) (c .before .before .before .before .before .before .before .before .before .before .before .before .before .before .before .before .pre .1) in (lends (taken-sound (c .before .before .before .before .before .before .before .before .before .before .before .before .before .before .before .before .pre .0) (w .0) (c .before .before .before .before .advanced2 .ensures) (c .with-source2 .ensures)) refl, taken-open (c .before .before .before .before .before .before .before .before .before .before .before .before .before .before .before .before .args .m) (c .with-source2 .ensures) (w .1))
+
+enum-told : tie.Need-enum-told
+enum-told c = search needs
+
+advanced-requires-3 : tie.Need-advanced-requires-3
+advanced-requires-3 c κs = search needs
+
+with-source-requires-3 : tie.Need-with-source-requires-3
+with-source-requires-3 c κs = search needs
+
+on-requires : tie.Need-on-requires
+on-requires c κs = search needs
+
+enum-told-2 : tie.Need-enum-told-2
+enum-told-2 c = search needs
+
+advanced-requires-4 : tie.Need-advanced-requires-4
+advanced-requires-4 c κs = search needs
+
+with-source-requires-4 : tie.Need-with-source-requires-4
+with-source-requires-4 c κs = search needs
+
+next-argument-requires : tie.Need-next-argument-requires
+unfolding PlainWithin
+next-argument-requires c κs = let w = plain-within _ _ _ (c .before .before .before .before .before .enum-told2 .given .1) (c .before .before .before .before .before .before .before .before .before .before .before .before .before .before .before .pre .1) in (lends (taken-sound (c .before .before .before .before .before .before .before .before .before .before .before .before .before .before .before .pre .0) (w .0) (c .before .before .before .before .advanced4 .ensures) (c .with-source4 .ensures)) refl, taken-open (c .before .before .before .before .before .before .before .before .before .before .before .before .before .before .before .args .m) (c .with-source4 .ensures) (w .1))
+
+enum-known-p-4 : tie.Need-enum-known-p-4
+enum-known-p-4 c = search needs
+
+open-call-requires : tie.Need-open-call-requires
+unfolding PlainWithin
+open-call-requires c κs = (lends (c .before .before .before .before .before .before .before .before .before .before .before .before .before .before .pre .0) refl, plain-within _ _ _ (c .before .before .before .before .p4 .given .1) (c .before .before .before .before .before .before .before .before .before .before .before .before .before .before .pre .1))
+
+same-length : tie.Need-same-length
+same-length c = search needs
+
+same-length-2 : tie.Need-same-length-2
+same-length-2 c = search needs
+
+same-length-3 : tie.Need-same-length-3
+same-length-3 c = search needs
+
+same-length-4 : tie.Need-same-length-4
+same-length-4 c = search needs
+
+same-length-5 : tie.Need-same-length-5
+same-length-5 c = search needs
+
+same-length-6 : tie.Need-same-length-6
+same-length-6 c = search needs
+
+returns : tie.Need-returns
+unfolding PlainIs PlainWithin taking withSource
+returns c = λ a s b r h. by (plain-is s (c .before .before .before .before .before .before .before .before .before .before .before .before .before .before .before .before .before .before .before .before .p .given .1) h) (c .before .before .before .before .before .before .before .before .before .before .before .before .deliver .ensures a s b r)
+
+same-length-7 : tie.Need-same-length-7
+same-length-7 c = search needs
+
+same-length-8 : tie.Need-same-length-8
+same-length-8 c = search needs
+
+same-length-9 : tie.Need-same-length-9
+same-length-9 c = search needs
+
+returns-2 : tie.Need-returns-2
+unfolding PlainIs PlainWithin taking withSource
+returns-2 c = let w = plain-within _ _ _ (c .before .before .before .before .before .before .before .before .before .before .before .before .before .p2 .given .1) (c .before .before .before .before .before .before .before .before .before .before .before .before .before .before .before .before .before .before .before .before .before .before .before .pre .1) in λ a s b r h. by (plain-is s (c .before .before .before .before .before .before .before .before .before .before .before .before .before .p2 .given .1) h) (c .before .before .before .before .before .before .emit-byte .ensures a (taking 1 s) (textAt _ (pendingAt _ (callsAt _ _ _ b))) (one-taken r w (c .before .before .before .before .before .before .before .before .before .before .before .advanced .ensures) (c .before .before .before .before .before .before .before .with-source .ensures)))
+
+same-length-10 : tie.Need-same-length-10
+same-length-10 c = search needs
+
+same-length-11 : tie.Need-same-length-11
+same-length-11 c = search needs
+
+same-length-12 : tie.Need-same-length-12
+same-length-12 c = search needs
+
+returns-3 : tie.Need-returns-3
+unfolding PlainIs PlainWithin taking withSource
+returns-3 c = let w = plain-within _ _ _ (c .before .before .before .before .before .before .before .before .before .before .before .before .before .p3 .given .1) (c .before .before .before .before .before .before .before .before .before .before .before .before .before .before .before .before .before .before .before .before .before .before .before .pre .1) in λ a s b r h. let i = some-calls r (w .1) in let g = plain-is s (c .before .before .before .before .before .before .before .before .before .before .before .before .before .p3 .given .1) h (i .top) (i .rest) (i .is) in by (g .1) (c .before .before .before .before .before .before .collect-byte .ensures a (taking 1 s) (textAt _ (pendingAt _ (sinksAt _ _ _ b))) (i .top) (i .rest) (one-taken r (w .0) (c .before .before .before .before .before .before .before .before .before .before .before .advanced2 .ensures) (c .before .before .before .before .before .before .before .with-source2 .ensures)) (i .is) (g .0))
+
+returns-4 : tie.Need-returns-4
+unfolding PlainIs PlainWithin taking withSource
+returns-4 c = let w = plain-within _ _ _ (c .before .before .before .enum-told .given .1) (c .before .before .before .before .before .before .before .before .before .before .before .before .before .pre .1) in λ a s b r h. turned-on (one-taken r w (c .before .before .advanced3 .ensures) (c .before .with-source3 .ensures)) (plain-is s (c .before .before .before .enum-told .given .1) h) (c .on .ensures)
+
+same-length-13 : tie.Need-same-length-13
+same-length-13 c = search needs
+
+same-length-14 : tie.Need-same-length-14
+same-length-14 c = search needs
+
+same-length-15 : tie.Need-same-length-15
+same-length-15 c = search needs
+
+returns-5 : tie.Need-returns-5
+unfolding PlainIs PlainWithin taking withSource
+returns-5 c = let w = plain-within _ _ _ (c .before .before .before .before .before .before .before .before .before .before .enum-told2 .given .1) (c .before .before .before .before .before .before .before .before .before .before .before .before .before .before .before .before .before .before .before .before .pre .1) in λ a s b r h. let i = some-calls r (w .1) in by (plain-is s (c .before .before .before .before .before .before .before .before .before .before .enum-told2 .given .1) h (i .top) (i .rest) (i .is)) (c .before .before .before .before .next-argument .ensures a (taking 1 s) (textAt _ (pendingAt _ (sinksAt _ _ _ b))) (i .top) (i .rest) (one-taken r (w .0) (c .before .before .before .before .before .before .before .before .before .advanced4 .ensures) (c .before .before .before .before .before .with-source4 .ensures)) (i .is))
+
+same-length-16 : tie.Need-same-length-16
+same-length-16 c = search needs
+
+same-length-17 : tie.Need-same-length-17
+same-length-17 c = search needs
+
+same-length-18 : tie.Need-same-length-18
+same-length-18 c = search needs
+
+returns-6 : tie.Need-returns-6
+unfolding PlainIs PlainWithin taking withSource
+returns-6 c = λ a s b r h. by (plain-is s (c .before .before .before .before .before .before .before .before .before .before .before .p4 .given .1) h) (c .before .before .before .before .before .before .open-call .ensures a s (sinksAt _ _ _ b) r)
+
+pub plain-step-spec : {M : Type 1} → statement M
+plain-step-spec =
+    tie.close
+    (tie.spec
+    enum-known-p
+    deliver-requires
+    enum-known-p-2
+    advanced-requires
+    with-source-requires
+    emit-byte-requires
+    enum-known-p-3
+    advanced-requires-2
+    with-source-requires-2
+    collect-byte-requires
+    enum-told
+    advanced-requires-3
+    with-source-requires-3
+    on-requires
+    enum-told-2
+    advanced-requires-4
+    with-source-requires-4
+    next-argument-requires
+    enum-known-p-4
+    open-call-requires
+    same-length
+    same-length-2
+    same-length-3
+    same-length-4
+    same-length-5
+    same-length-6
+    returns
+    same-length-7
+    same-length-8
+    same-length-9
+    returns-2
+    same-length-10
+    same-length-11
+    same-length-12
+    returns-3
+    returns-4
+    same-length-13
+    same-length-14
+    same-length-15
+    returns-5
+    same-length-16
+    same-length-17
+    same-length-18
+    returns-6)

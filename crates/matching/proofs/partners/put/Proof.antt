@@ -1,0 +1,18 @@
+-- `matching::partners::put` meets its contract: the entry is a byte, or it keeps the byte. Assumes nothing.
+use native.Mathlib.Omega.{arith}
+use Rattle.matching.proofs.Replacing.{entry-byte, entry-same}
+use borrow.Author.Needs.{needs}
+use Rattle.matching.proofs.partners.put.Statement.{statement}
+use Rattle.matching.proofs.partners.put.Tie as tie
+
+cast-result : tie.Need-cast-result
+cast-result c = search needs
+
+returns : tie.Need-returns
+returns c = entry-byte (c .before .args .b) (c .before .args .t) (c .if1 .taken)
+
+returns-2 : tie.Need-returns-2
+returns-2 c = entry-same (c .before .args .b) (c .before .args .t) (omega arith)
+
+pub put-spec : {M : Type 1} → statement M
+put-spec = tie.close (tie.spec cast-result returns returns-2)

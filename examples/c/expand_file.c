@@ -1,0 +1,133 @@
+/* expand_file FILE: expands an m4 template to a settings sheet on standard output.
+ *
+ * A refused template gives no sheet: a message on standard error says what was refused and where, and the exit status is 1. So it is
+ * with a file that cannot be read, and with a sheet that cannot be written whole. Where the template ends itself by m4exit, what it put
+ * out so far is the sheet, and its number is the exit status.
+ */
+#include <stdio.h>
+#include <stdlib.h>
+
+#include "quenhovach.h"
+
+#define BUDGET 16777216
+
+/* One byte more than a text may have: a longer file is then refused by the expander, and never cut. */
+static uint8_t text[QUENHOVACH_MAX_LENGTH + 1];
+
+static uint8_t pending[QUENHOVACH_MAX_LENGTH];
+static uint8_t calls[QUENHOVACH_MAX_LENGTH];
+static uint8_t definitions[QUENHOVACH_MAX_LENGTH];
+static uint8_t streams[QUENHOVACH_MAX_LENGTH];
+static uint8_t wrap[QUENHOVACH_MAX_LENGTH];
+static uint8_t errors[QUENHOVACH_MAX_LENGTH];
+static uint8_t output[QUENHOVACH_MAX_LENGTH];
+
+static const char *const REFUSALS[] = {
+    [QUENHOVACH_LEND] = "the template is longer than 65,536 bytes",
+    [QUENHOVACH_SPENT] = "the step budget is used up",
+    [QUENHOVACH_ROOM] = "no room for",
+    [QUENHOVACH_UNCLOSED] = "the template ends inside",
+    [QUENHOVACH_NAME] = "define or pushdef of what is not a name",
+    [QUENHOVACH_NUMBER] = "not a number, or a number outside its range",
+    [QUENHOVACH_EXPRESSION] = "eval cannot read its expression",
+    [QUENHOVACH_DIVISOR] = "eval: division by zero, or a shift by less than 0 or more than 31",
+    [QUENHOVACH_MARK] = "a bad quote or comment mark",
+    [QUENHOVACH_NO_TEXT] = "defn of a predefined macro",
+    [QUENHOVACH_GONE] = "a call closes, and its name is not defined any more",
+    [QUENHOVACH_DEEP] = "more than 64 open calls or 256 arguments",
+};
+
+static const char *const BUFFERS[] = {
+    [QUENHOVACH_BUFFER_PENDING] = "the pending text",
+    [QUENHOVACH_BUFFER_CALLS] = "the open calls",
+    [QUENHOVACH_BUFFER_DEFINITIONS] = "the definitions",
+    [QUENHOVACH_BUFFER_STREAMS] = "the diverted text",
+    [QUENHOVACH_BUFFER_WRAP] = "the wrap text",
+    [QUENHOVACH_BUFFER_ERRORS] = "the error text",
+    [QUENHOVACH_BUFFER_OUTPUT] = "the output",
+};
+
+static const char *const UNCLOSED[] = {
+    [QUENHOVACH_UNCLOSED_QUOTE] = "a quote",
+    [QUENHOVACH_UNCLOSED_COMMENT] = "a comment",
+    [QUENHOVACH_UNCLOSED_CALL] = "a call",
+};
+
+static int complain(const char *name, const char *message)
+{
+    fprintf(stderr, "expand_file: %s: %s\n", name, message);
+    return EXIT_FAILURE;
+}
+
+/* Reads the file to its end, or until the text is one byte too long. Gives 0 where a read fails. */
+static int read_text(const char *name, size_t *length)
+{
+    FILE *file = fopen(name, "rb");
+    int good;
+
+    if (file == NULL)
+        return 0;
+    *length = fread(text, 1, sizeof text, file);
+    good = !ferror(file);
+    fclose(file);
+    return good;
+}
+
+/* The line in which the refused step would have begun, counted from 1. */
+static unsigned long line_at(uint32_t place)
+{
+    unsigned long line = 1;
+    uint32_t i;
+
+    for (i = 0; i < place; i++)
+        line += text[i] == '\n';
+    return line;
+}
+
+static const char *detail_name(const uint32_t report[QUENHOVACH_REPORT_LENGTH])
+{
+    uint32_t detail = report[QUENHOVACH_REPORT_DETAIL];
+
+    switch (report[QUENHOVACH_REPORT_NUMBER]) {
+    case QUENHOVACH_ROOM:
+        return BUFFERS[detail];
+    case QUENHOVACH_UNCLOSED:
+        return UNCLOSED[detail];
+    default:
+        return "";
+    }
+}
+
+static int tell_refusal(const char *name, const uint32_t report[QUENHOVACH_REPORT_LENGTH])
+{
+    uint32_t number = report[QUENHOVACH_REPORT_NUMBER];
+    uint32_t place = report[QUENHOVACH_REPORT_PLACE];
+    const char *detail = detail_name(report);
+
+    fprintf(stderr, "expand_file: %s:%lu: no sheet: %s%s%s (answer %lu %lu, after %lu steps and %lu bytes)\n", name, line_at(place),
+            REFUSALS[number], *detail ? " " : "", detail, (unsigned long)number, (unsigned long)report[QUENHOVACH_REPORT_DETAIL],
+            (unsigned long)report[QUENHOVACH_REPORT_STEPS], (unsigned long)place);
+    return EXIT_FAILURE;
+}
+
+int main(int argc, char **argv)
+{
+    uint32_t report[QUENHOVACH_REPORT_LENGTH];
+    size_t length;
+    uint32_t number;
+
+    if (argc != 2) {
+        fprintf(stderr, "usage: expand_file FILE\n");
+        return EXIT_FAILURE;
+    }
+    if (!read_text(argv[1], &length))
+        return complain(argv[1], "the file could not be read");
+    number = quenhovach_expand(text, length, pending, sizeof pending, calls, sizeof calls, definitions, sizeof definitions, streams,
+                               sizeof streams, wrap, sizeof wrap, errors, sizeof errors, output, sizeof output, BUDGET, report);
+    if (number != QUENHOVACH_DONE && number != QUENHOVACH_EXIT)
+        return tell_refusal(argv[1], report);
+    fwrite(errors, 1, report[QUENHOVACH_REPORT_ERRORS], stderr);
+    if (fwrite(output, 1, report[QUENHOVACH_REPORT_OUTPUT], stdout) != report[QUENHOVACH_REPORT_OUTPUT] || fflush(stdout) != 0)
+        return complain(argv[1], "the sheet could not be written");
+    return (int)report[QUENHOVACH_REPORT_DETAIL];
+}

@@ -1,0 +1,122 @@
+/* quenhovach.h: the m4 expander for C and C++.
+ *
+ * One function expands one m4 text in buffers that the caller lends. It is built by `rt staticlib capi` as target/staticlib/libcapi.a, for
+ * x86-64 Linux, once its proof is checked. Of C's library it needs memcpy and memset.
+ *
+ * It ends on every text, every lent length and every budget, and it has one of fourteen answers. Two of them finish a run: "done" and
+ * "exit". The twelve others are refusals, and a refusal gives no text at all: there is no shortened output.
+ */
+#ifndef QUENHOVACH_H
+#define QUENHOVACH_H
+
+#include <stddef.h>
+#include <stdint.h>
+
+#ifdef __cplusplus
+extern "C" {
+#endif
+
+/* The greatest length, in bytes, of the text and of each buffer. */
+#define QUENHOVACH_MAX_LENGTH 65536
+
+/* The answers, by their numbers. The detail is 0 where none is named. */
+enum {
+    QUENHOVACH_DONE = 0,       /* the text is used up */
+    QUENHOVACH_EXIT = 1,       /* m4exit; the detail is its number, 0 to 255 */
+    QUENHOVACH_LEND = 2,       /* the text or a buffer is longer than QUENHOVACH_MAX_LENGTH */
+    QUENHOVACH_SPENT = 3,      /* a step is due, and as many as the budget says are completed */
+    QUENHOVACH_ROOM = 4,       /* after the step a buffer would hold more than its length; the detail is the buffer, 1 to 7 */
+    QUENHOVACH_UNCLOSED = 5,   /* the text ends in a quote, a comment or a call; the detail says in which */
+    QUENHOVACH_NAME = 6,       /* define or pushdef of what is not a name */
+    QUENHOVACH_NUMBER = 7,     /* an argument or a result that is no number, or outside its range */
+    QUENHOVACH_EXPRESSION = 8, /* eval cannot read its expression */
+    QUENHOVACH_DIVISOR = 9,    /* in eval: a zero divisor, or a shift count outside 0 to 31 */
+    QUENHOVACH_MARK = 10,      /* a bad quote or comment mark */
+    QUENHOVACH_NO_TEXT = 11,   /* defn of a predefined macro whose own meaning is in force */
+    QUENHOVACH_GONE = 12,      /* a call closes, and its name has no definition any more */
+    QUENHOVACH_DEEP = 13       /* a 65th open call, or a 257th argument over all open calls */
+};
+
+/* The buffers, by their numbers: the detail of "room". */
+enum {
+    QUENHOVACH_BUFFER_PENDING = 1,
+    QUENHOVACH_BUFFER_CALLS = 2,
+    QUENHOVACH_BUFFER_DEFINITIONS = 3,
+    QUENHOVACH_BUFFER_STREAMS = 4,
+    QUENHOVACH_BUFFER_WRAP = 5,
+    QUENHOVACH_BUFFER_ERRORS = 6,
+    QUENHOVACH_BUFFER_OUTPUT = 7
+};
+
+/* The detail of "unclosed". */
+enum {
+    QUENHOVACH_UNCLOSED_QUOTE = 1,
+    QUENHOVACH_UNCLOSED_COMMENT = 2,
+    QUENHOVACH_UNCLOSED_CALL = 3
+};
+
+/* Where each number stands in the report. */
+enum {
+    QUENHOVACH_REPORT_NUMBER = 0, /* the answer, which is also returned */
+    QUENHOVACH_REPORT_DETAIL = 1,
+    QUENHOVACH_REPORT_STEPS = 2,  /* completed steps: a refused step is not counted, the one that ends in done or exit is */
+    QUENHOVACH_REPORT_PLACE = 3,  /* bytes of the text taken: on a refusal before the refused step, else in all; with "lend" 0 */
+    QUENHOVACH_REPORT_OUTPUT = 4, /* bytes written to output; on a refusal 0 */
+    QUENHOVACH_REPORT_ERRORS = 5, /* bytes written to errors; on a refusal 0 */
+    QUENHOVACH_REPORT_LENGTH = 6
+};
+
+/* Expands the text and returns the number of the answer.
+ *
+ * The length of each buffer is its limit. What counts against it, after each step (lengths and links are kept elsewhere and not counted):
+ *
+ *   pending      1  bytes pushed back and not yet read
+ *   calls        2  names and arguments collected of all open calls
+ *   definitions  3  name and text of every live definition that the text made
+ *   streams      4  the bytes in streams 1 to 9
+ *   wrap         5  wrap text that waits
+ *   errors       6  the error text (errprint)
+ *   output       7  the output
+ *
+ * The budget is the most steps that may be completed, any 32-bit number. A step takes one token with all its consequences, and the end of
+ * the text is a step too: the empty text needs a budget of 1.
+ *
+ * What is written:
+ *
+ *   answer             report    pending to wrap   errors, output
+ *   done, exit         all six   all zero          the text from the front, as many bytes as the report counts; behind it the old bytes
+ *   lend               all six   untouched         untouched
+ *   any other refusal  all six   all zero          untouched
+ *
+ * "All zero" means over the whole lent length. What the seven buffers and the report held before makes no difference to the answer or to
+ * what is written. The text is only read.
+ *
+ * Room never shapes text: where a run ends in anything but "room" or "spent", a second run of the same text in buffers that are nowhere
+ * shorter, and none longer than QUENHOVACH_MAX_LENGTH, and with no smaller budget gives the same six numbers and the same written bytes.
+ *
+ * What the caller owes:
+ *
+ *   - Each pointer leads to as many bytes as the length behind it says. With length 0 it may be null. `report` leads to six numbers and
+ *     is not null.
+ *   - The text, the seven buffers and the report do not overlap each other, and nothing else writes to them during the call.
+ *   - The calling thread has 1 MiB of stack left. (Less was needed in every test; tests/stack.py holds the expander to it.)
+ *
+ * The function keeps no state between calls and uses no heap. It may run in several threads at once, each with its own buffers.
+ */
+uint32_t quenhovach_expand(
+    const uint8_t *text, size_t text_len,
+    uint8_t *pending, size_t pending_len,
+    uint8_t *calls, size_t calls_len,
+    uint8_t *definitions, size_t definitions_len,
+    uint8_t *streams, size_t streams_len,
+    uint8_t *wrap, size_t wrap_len,
+    uint8_t *errors, size_t errors_len,
+    uint8_t *output, size_t output_len,
+    uint32_t budget,
+    uint32_t report[QUENHOVACH_REPORT_LENGTH]);
+
+#ifdef __cplusplus
+}
+#endif
+
+#endif

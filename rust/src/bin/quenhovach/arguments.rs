@@ -1,0 +1,275 @@
+//! The command line.
+
+use quenhovach::{Buffer, BUDGET, LONGEST};
+use std::ffi::{OsStr, OsString};
+use std::fs;
+use std::os::unix::ffi::OsStrExt;
+use std::os::unix::fs::MetadataExt;
+use std::path::{Path, PathBuf};
+
+/// What the command is asked to do.
+#[derive(Debug, PartialEq)]
+pub enum Request {
+    Help,
+    Version,
+    Run(Options),
+}
+
+/// What to expand, in which room, and where to.
+#[derive(Debug, PartialEq)]
+pub struct Options {
+    /// The template; standard input if none.
+    pub input: Option<PathBuf>,
+    /// The sheet; standard output if none.
+    pub sheet: Option<PathBuf>,
+    /// Where the six numbers go.
+    pub report: Option<PathBuf>,
+    /// Lengths of the seven buffers, by their numbers.
+    pub lengths: [usize; 7],
+    /// Steps at most.
+    pub budget: u32,
+}
+
+/// The option that sets a buffer's length.
+pub fn option_of(buffer: Buffer) -> &'static str {
+    match buffer {
+        Buffer::Pending => "--pending",
+        Buffer::Calls => "--calls",
+        Buffer::Definitions => "--definitions",
+        Buffer::Streams => "--streams",
+        Buffer::Wrap => "--wrap",
+        Buffer::Errors => "--errors",
+        Buffer::Output => "--output",
+    }
+}
+
+/// What was given so far; an option may be given once.
+#[derive(Default)]
+struct Given {
+    input: Option<OsString>,
+    sheet: Option<OsString>,
+    report: Option<OsString>,
+    lengths: [Option<u32>; 7],
+    budget: Option<u32>,
+}
+
+/// Reads the arguments behind the command's name; a complaint if they can't be taken.
+pub fn parse(arguments: impl Iterator<Item = OsString>) -> Result<Request, String> {
+    let mut arguments = arguments;
+    let mut given = Given::default();
+    let mut options_end = false;
+    while let Some(argument) = arguments.next() {
+        if options_end || argument == "-" || !argument.as_bytes().starts_with(b"-") {
+            set_once("FILE", &mut given.input, argument)?;
+        } else if argument == "--" {
+            options_end = true;
+        } else if argument == "-h" || argument == "--help" {
+            return Ok(Request::Help);
+        } else if argument == "-V" || argument == "--version" {
+            return Ok(Request::Version);
+        } else {
+            let (name, attached) = parted(&argument);
+            given.take(name, || {
+                attached.map(OsStr::to_owned).or_else(|| arguments.next())
+            })?;
+        }
+    }
+    given.options().map(Request::Run)
+}
+
+/// The option's name, and the value that is attached to it: `--name=value` or `-ovalue`.
+fn parted(argument: &OsStr) -> (&OsStr, Option<&OsStr>) {
+    let bytes = argument.as_bytes();
+    let (name, value) = if !bytes.starts_with(b"--") {
+        let (name, value) = bytes.split_at(2.min(bytes.len()));
+        (name, (!value.is_empty()).then_some(value))
+    } else if let Some(equals) = bytes.iter().position(|&b| b == b'=') {
+        (&bytes[..equals], Some(&bytes[equals + 1..]))
+    } else {
+        (bytes, None)
+    };
+    (OsStr::from_bytes(name), value.map(OsStr::from_bytes))
+}
+
+impl Given {
+    /// Takes one option, whose value is asked for if the option exists.
+    fn take(
+        &mut self,
+        name: &OsStr,
+        value: impl FnOnce() -> Option<OsString>,
+    ) -> Result<(), String> {
+        let name = name.to_string_lossy();
+        let missing = || format!("{name}: its value is missing");
+        let length = Buffer::ALL.into_iter().find(|&b| name == option_of(b));
+        match (&*name, length) {
+            ("-o", _) => set_once(&name, &mut self.sheet, value().ok_or_else(missing)?),
+            ("--report", _) => set_once(&name, &mut self.report, value().ok_or_else(missing)?),
+            ("--budget", _) => {
+                let steps = number(&name, &value().ok_or_else(missing)?, u32::MAX)?;
+                set_once(&name, &mut self.budget, steps)
+            }
+            (_, Some(buffer)) => {
+                let bytes = number(&name, &value().ok_or_else(missing)?, LONGEST as u32)?;
+                set_once(&name, &mut self.lengths[buffer as usize - 1], bytes)
+            }
+            _ => Err(format!("{name}: there is no such option")),
+        }
+    }
+
+    /// What was given, and defaults for the rest.
+    fn options(self) -> Result<Options, String> {
+        let options = Options {
+            input: file(self.input),
+            sheet: file(self.sheet),
+            report: self.report.map(PathBuf::from),
+            lengths: self.lengths.map(|n| n.map_or(LONGEST, |n| n as usize)),
+            budget: self.budget.unwrap_or(BUDGET),
+        };
+        if options.report.as_deref() == Some(Path::new("-")) {
+            return Err("--report: it takes a file's name, not -".to_string());
+        }
+        refuse_one_file_twice(&options)?;
+        Ok(options)
+    }
+}
+
+/// A file's name; `-` is the standard stream.
+fn file(name: Option<OsString>) -> Option<PathBuf> {
+    name.filter(|name| name != "-").map(PathBuf::from)
+}
+
+fn set_once<T>(name: &str, place: &mut Option<T>, value: T) -> Result<(), String> {
+    if place.replace(value).is_some() {
+        return Err(format!("{name}: it is given twice"));
+    }
+    Ok(())
+}
+
+/// Decimal digits, at most `most`.
+fn number(name: &str, value: &OsStr, most: u32) -> Result<u32, String> {
+    let read = value
+        .to_str()
+        .filter(|s| s.bytes().all(|b| b.is_ascii_digit()));
+    match read.and_then(|digits| digits.parse().ok()) {
+        Some(number) if number <= most => Ok(number),
+        _ if name == "--output" => Err(format!(
+            "--output: it takes the sheet's length, 0 to {most}; the sheet's file is given with -o"
+        )),
+        _ => Err(format!("{name}: it takes a number, 0 to {most}")),
+    }
+}
+
+/// The template, the sheet and the report are three files; one of them must not be written over another.
+fn refuse_one_file_twice(options: &Options) -> Result<(), String> {
+    let pairs = [
+        ("FILE and -o", &options.input, &options.sheet),
+        ("FILE and --report", &options.input, &options.report),
+        ("-o and --report", &options.sheet, &options.report),
+    ];
+    for (names, one, other) in pairs {
+        if let (Some(one), Some(other)) = (one, other) {
+            if same_file(one, other) {
+                return Err(format!("{names}: they name the same file"));
+            }
+        }
+    }
+    Ok(())
+}
+
+/// Whether two names stand for one regular file, or for one that isn't there yet.
+fn same_file(one: &Path, other: &Path) -> bool {
+    match (fs::metadata(one), fs::metadata(other)) {
+        (Ok(a), Ok(b)) => a.is_file() && (a.dev(), a.ino()) == (b.dev(), b.ino()),
+        (Err(_), Err(_)) => one == other,
+        _ => false,
+    }
+}
+
+#[cfg(test)]
+mod tests {
+    use super::*;
+
+    fn parsed(arguments: &[&str]) -> Result<Request, String> {
+        parse(arguments.iter().map(OsString::from))
+    }
+
+    fn options(arguments: &[&str]) -> Options {
+        match parsed(arguments) {
+            Ok(Request::Run(options)) => options,
+            other => panic!("{arguments:?}: {other:?}"),
+        }
+    }
+
+    #[test]
+    fn defaults() {
+        let expected = Options {
+            input: None,
+            sheet: None,
+            report: None,
+            lengths: [65_536; 7],
+            budget: 16_777_216,
+        };
+        assert_eq!(options(&[]), expected);
+        assert_eq!(options(&["-"]), expected);
+        assert_eq!(options(&["-o", "-", "--"]), expected);
+    }
+
+    #[test]
+    fn values_attached_or_behind() {
+        for arguments in [
+            ["-o", "no sheet", "--wrap", "7", "no template"].as_slice(),
+            &["-ono sheet", "--wrap=7", "--", "no template"],
+            &["no template", "--wrap=007", "-o", "no sheet"],
+        ] {
+            let options = options(arguments);
+            assert_eq!(options.input.as_deref(), Some(Path::new("no template")));
+            assert_eq!(options.sheet.as_deref(), Some(Path::new("no sheet")));
+            assert_eq!(options.lengths[4], 7);
+        }
+        assert_eq!(
+            options(&["--", "-x"]).input.as_deref(),
+            Some(Path::new("-x"))
+        );
+    }
+
+    #[test]
+    fn each_length_has_its_option() {
+        for buffer in Buffer::ALL {
+            let lengths = options(&[option_of(buffer), "0"]).lengths;
+            for (i, length) in lengths.into_iter().enumerate() {
+                let named = i + 1 == buffer.number() as usize;
+                assert_eq!(length, if named { 0 } else { 65_536 }, "{buffer}");
+            }
+        }
+        assert_eq!(options(&["--budget", "4294967295"]).budget, u32::MAX);
+    }
+
+    #[test]
+    fn bad_usage() {
+        for arguments in [
+            ["a", "b"].as_slice(),
+            &["-x"],
+            &["--sheet", "a"],
+            &["-o"],
+            &["--budget"],
+            &["--budget", "4294967296"],
+            &["--budget", "-1"],
+            &["--pending", "65537"],
+            &["--pending", ""],
+            &["--pending", "+1"],
+            &["--output", "sheet"],
+            &["--wrap", "1", "--wrap", "1"],
+            &["--report", "-"],
+            &["-o", "no such file", "--report", "no such file"],
+            &["Cargo.toml", "-o", "./Cargo.toml"],
+        ] {
+            assert!(parsed(arguments).is_err(), "{arguments:?}");
+        }
+    }
+
+    #[test]
+    fn help_and_version_come_first() {
+        assert_eq!(parsed(&["--help", "-x"]), Ok(Request::Help));
+        assert_eq!(parsed(&["a", "-V", "b"]), Ok(Request::Version));
+    }
+}

@@ -1,0 +1,245 @@
+#!/usr/bin/env python3
+"""The expander from C and C++: include/quenhovach.h, the archive target/staticlib/libcapi.a, and the program of examples/c.
+
+Every expected answer and byte is written by hand from document 01. Ends with 'N passed, M failed'; exit status 0 only if M is 0.
+"""
+import os
+import re
+import subprocess
+import sys
+import tempfile
+
+ROOT = os.path.dirname(os.path.dirname(os.path.abspath(__file__)))
+ARCHIVE = os.path.join(ROOT, "target", "staticlib", "libcapi.a")
+EXAMPLE = os.path.join(ROOT, "examples", "c")
+STRICT = ["-Wall", "-Wextra", "-Wpedantic", "-Werror", "-I", os.path.join(ROOT, "include")]
+C99 = ["gcc", "-std=c99"] + STRICT
+CPP = ["g++", "-std=c++11", "-x", "c++"] + STRICT
+OLD = 0xA5
+
+# 01's table of answers, its list of buffers, the three ways to be unclosed, and the order of the numbers
+CONSTANTS = {
+    "": "DONE EXIT LEND SPENT ROOM UNCLOSED NAME NUMBER EXPRESSION DIVISOR MARK NO_TEXT GONE DEEP",
+    "BUFFER_": "- PENDING CALLS DEFINITIONS STREAMS WRAP ERRORS OUTPUT",
+    "UNCLOSED_": "- QUOTE COMMENT CALL",
+    "REPORT_": "NUMBER DETAIL STEPS PLACE OUTPUT ERRORS LENGTH",
+}
+
+# A call as the command line says: seven lengths ("-": length 0, and null for a pointer), a budget, the text's length ("-" again); the
+# text is on standard input. Writes what came back, the report, and then all that the buffers hold.
+CALLER = r"""
+#include "quenhovach.h"
+#include <stdio.h>
+#include <stdlib.h>
+#include <string.h>
+
+static uint8_t memory[8][QUENHOVACH_MAX_LENGTH + 1];
+
+static size_t length_of(const char *word) { return strcmp(word, "-") == 0 ? 0 : (size_t)strtoul(word, NULL, 10); }
+static uint8_t *part(int i, const char *word) { return strcmp(word, "-") == 0 ? NULL : memory[i]; }
+
+int main(int argc, char **argv)
+{
+    uint32_t report[QUENHOVACH_REPORT_LENGTH];
+    uint32_t number;
+    uint8_t *b[8];
+    size_t n[8];
+    size_t read;
+    int i;
+
+    if (argc != 10)
+        return 2;
+    memset(memory, OLD, sizeof memory);
+    memset(report, OLD, sizeof report);
+    for (i = 0; i < 7; i++) {
+        b[i] = part(i, argv[1 + i]);
+        n[i] = length_of(argv[1 + i]);
+    }
+    b[7] = part(7, argv[9]);
+    n[7] = length_of(argv[9]);
+    read = b[7] == NULL ? 0 : fread(b[7], 1, n[7], stdin);
+    if (read != n[7])
+        return 3;
+    number = quenhovach_expand(b[7], n[7], b[0], n[0], b[1], n[1], b[2], n[2], b[3], n[3], b[4], n[4], b[5], n[5], b[6], n[6],
+                               (uint32_t)strtoul(argv[8], NULL, 10), report);
+    printf("%lu", (unsigned long)number);
+    for (i = 0; i < QUENHOVACH_REPORT_LENGTH; i++)
+        printf(" %lu", (unsigned long)report[i]);
+    printf("\n");
+    fwrite(memory, 1, 7 * sizeof memory[0], stdout);
+    return 0;
+}
+""".replace("OLD", str(OLD))
+
+AMPLE = 65536
+N_IS_5 = b"define(`n',`5')n"
+
+# what is tried, the text, the numbers of the answer, output, error text, and the setting where it is not ample
+CALLS = [
+    ("null and length 0 everywhere, budget 0", None, (3, 0, 0, 0, 0, 0), b"", b"", {"lengths": ["-"] * 7, "budget": 0}),
+    ("null and length 0 everywhere, budget 1", None, (0, 0, 1, 0, 0, 0), b"", b"", {"lengths": ["-"] * 7, "budget": 1}),
+    ("n is 5", N_IS_5, (0, 0, 8, 16, 1, 0), b"5", b"", {}),
+    ("n is 5, just the room", N_IS_5, (0, 0, 8, 16, 1, 0), b"5", b"", {"lengths": [1, 8, 2, "-", 0, "-", 1]}),
+    ("n is 5, no pending text", N_IS_5, (4, 1, 5, 15, 0, 0), b"", b"", {"lengths": [0, 8, 2, 9, 9, 9, 9]}),
+    ("n is 5, seven bytes of open calls", N_IS_5, (4, 2, 3, 11, 0, 0), b"", b"", {"lengths": [1, 7, 2, 9, 9, 9, 9]}),
+    ("n is 5, a budget of 7 steps", N_IS_5, (3, 0, 7, 16, 0, 0), b"", b"", {"budget": 7}),
+    ("nested quotes", b"`a `b' c'", (0, 0, 2, 9, 7, 0), b"a `b' c", b"", {}),
+    ("error text", b"errprint(`w')x", (0, 0, 5, 14, 1, 1), b"x", b"w", {}),
+    ("m4exit", b"m4exit(3)a", (1, 3, 3, 9, 0, 0), b"", b"", {}),
+    ("a text of 65,537 bytes", b"x" * 65537, (2, 0, 0, 0, 0, 0), b"", b"", {}),
+    ("a buffer of 65,537 bytes", b"a", (2, 0, 0, 0, 0, 0), b"", b"", {"lengths": [9, 9, 9, 65537, 9, 9, 9], "budget": 0}),
+    ("an unclosed quote", b"a`b", (5, 1, 1, 1, 0, 0), b"", b"", {}),
+    ("an unclosed comment", b"a#b", (5, 2, 1, 1, 0, 0), b"", b"", {}),
+    ("an unclosed call", b"len(", (5, 3, 1, 4, 0, 0), b"", b"", {}),
+    ("no name", b"define(`1a')", (6, 0, 2, 11, 0, 0), b"", b"", {}),
+    ("too large a number", b"incr(2147483647)", (7, 0, 11, 15, 0, 0), b"", b"", {}),
+    ("no expression", b"eval(08)", (8, 0, 3, 7, 0, 0), b"", b"", {}),
+    ("a zero divisor", b"eval(1/0)", (9, 0, 4, 8, 0, 0), b"", b"", {}),
+    ("letters as marks", b"changequote(a,b)", (10, 0, 4, 15, 0, 0), b"", b"", {}),
+    ("defn of a predefined macro", b"defn(`len')", (11, 0, 2, 10, 0, 0), b"", b"", {}),
+    ("a definition that goes while its call is open", b"define(`f')f(undefine(`f'))", (12, 0, 7, 26, 0, 0), b"", b"", {}),
+    ("65 open calls", b"len(" * 65, (13, 0, 64, 256, 0, 0), b"", b"", {}),
+]
+
+# what is tried, the template, standard output, what standard error is, and the exit status
+PROGRAM_RUNS = [
+    ("the empty template", b"", b"", b"", 0),
+    ("n is 5", N_IS_5, b"5", b"", 0),
+    ("diverted text", b"divert(2)b`'divert(1)a`'divert(0)c", b"cab", b"", 0),
+    ("wrap text", b"m4wrap(`z')y", b"yz", b"", 0),
+    ("the longest template", b"1" * 65536, b"1" * 65536, b"", 0),
+    ("error text", b"errprint(`w')x", b"x", b"w", 0),
+    ("m4exit", b"a m4exit(3)b", b"a ", b"", 3),
+    ("a template that is too long", b"1" * 65537, b"",
+     b"FILE:1: no sheet: the template is longer than 65,536 bytes (answer 2 0, after 0 steps and 0 bytes)", 1),
+    ("an unclosed quote in the third line", b"a\n1\n2`b", b"",
+     b"FILE:3: no sheet: the template ends inside a quote (answer 5 1, after 5 steps and 5 bytes)", 1),
+    ("more than the pending text holds", b"kept\ndefine(`f',`$1$1')f(" + b"x" * 40000 + b")", b"",
+     b"FILE:2: no sheet: no room for the pending text (answer 4 1, after 9 steps and 40025 bytes)", 1),
+]
+
+passed = 0
+failed = 0
+
+
+def check(name, got, expected):
+    """One test: counts it, and tells where the two differ."""
+    global passed, failed
+    if got == expected:
+        passed += 1
+        return True
+    failed += 1
+    print("%s: expected %.300r, got %.300r" % (name, expected, got))
+    return False
+
+
+def build(name, command):
+    """A build that must end without a word."""
+    done = subprocess.run(command, cwd=ROOT, capture_output=True, text=True)
+    return check(name, (done.returncode, done.stdout + done.stderr), (0, ""))
+
+
+def test_header(folder):
+    """The header alone, and each of its constants, in both languages."""
+    lines = ["#include <quenhovach.h>"]
+    for prefix, names in CONSTANTS.items():
+        for number, name in enumerate(names.split()):
+            if name != "-":
+                name = "QUENHOVACH_" + prefix + name
+                lines.append("typedef char check_%s[%s == %d ? 1 : -1];" % (name, name, number))
+    lines.append("typedef char check_longest[QUENHOVACH_MAX_LENGTH == 65536 ? 1 : -1];")
+    source = os.path.join(folder, "header.c")
+    with open(source, "w") as f:
+        f.write("\n".join(lines) + "\n")
+    for language in (C99, CPP, ["gcc", "-std=c11"] + STRICT, ["g++", "-std=c++17", "-x", "c++"] + STRICT):
+        build("the header, " + language[1], language + ["-fsyntax-only", source])
+
+
+def test_archive():
+    """It exports one function, asks the host for none but C's memory functions, and has no state: no writable data."""
+    symbols = subprocess.run(["nm", ARCHIVE], capture_output=True, text=True).stdout
+    kinds = re.findall(r"^[0-9a-f ]{16} (\S) (.+)$", symbols, re.M)
+    check("what the archive exports", [name for kind, name in kinds if kind in "TDBRVWCu"], ["quenhovach_expand"])
+    asked = {name for kind, name in kinds if kind == "U"}
+    check("what the archive asks for", asked - {"memcpy", "memset", "memmove", "memcmp"}, set())
+    sizes = subprocess.run(["size", ARCHIVE], capture_output=True, text=True).stdout.split("\n")[1].split()
+    check("writable data of the archive", sizes[1:3], ["0", "0"])
+
+
+def left(number, lengths, output, errors):
+    """What the seven buffers hold afterwards, each with the bytes behind its length: 01, "Every answer returns ..."."""
+    whole = AMPLE + 1
+    after = []
+    for length in lengths[:5]:
+        zeros = 0 if number == 2 else length
+        after.append(b"\0" * zeros + bytes([OLD]) * (whole - zeros))
+    for text in (errors, output):
+        after.append(text + bytes([OLD]) * (whole - len(text)))
+    return b"".join(after)
+
+
+def test_calls(folder):
+    """Each call through the header, as C and as C++: what is returned, the report, and every byte of the buffers."""
+    source = os.path.join(folder, "caller.c")
+    with open(source, "w") as f:
+        f.write(CALLER)
+    for language in (C99, CPP):
+        caller = os.path.join(folder, "caller-" + language[0])
+        if not build("the caller, " + language[1], language + ["-O1", "-c", source, "-o", caller + ".o"]):
+            continue
+        if not build("the caller with the archive, " + language[1], [language[0], caller + ".o", ARCHIVE, "-o", caller]):
+            continue
+        for name, text, numbers, output, errors, setting in CALLS:
+            lengths = setting.get("lengths", [AMPLE] * 7)
+            words = [str(w) for w in lengths + [setting.get("budget", 16777216), "-" if text is None else len(text)]]
+            done = subprocess.run([caller] + words, input=text or b"", capture_output=True)
+            line, _, memory = done.stdout.partition(b"\n")
+            told = " ".join(str(n) for n in numbers[:1] + numbers).encode()
+            name = "%s, %s" % (name, language[1])
+            check(name, (done.returncode, line), (0, told))
+            check(name + ": buffers", memory == left(numbers[0], [0 if x == "-" else x for x in lengths], output, errors), True)
+
+
+def test_program(folder):
+    """The program of examples/c, built as its README says."""
+    readme = open(os.path.join(EXAMPLE, "README.md"), encoding="utf-8").read()
+    command = re.search(r"^    (gcc .*)$", readme, re.M).group(1)
+    program = os.path.join(folder, "expand_file")
+    if not build("the program", command.replace("target/expand_file", program).split()):
+        return
+    template = os.path.join(folder, "template.m4")
+    for name, text, output, errors, status in PROGRAM_RUNS:
+        with open(template, "wb") as f:
+            f.write(text)
+        done = subprocess.run([program, template], capture_output=True)
+        if status == 1:
+            errors = b"expand_file: " + errors.replace(b"FILE", template.encode()) + b"\n"
+        check("the program: " + name, (done.stdout, done.stderr, done.returncode), (output, errors, status))
+    done = subprocess.run([program, os.path.join(EXAMPLE, "mast.m4")], capture_output=True)
+    sheet = b"mast tall\nfilter_gain 12\nfrozen_after_ms 100\n"
+    check("the program: mast.m4", (done.stdout, done.stderr, done.returncode), (sheet, b"", 0))
+    shown = "".join(line[4:] + "\n" for line in readme.split("It writes\n")[1].split("\n") if line.startswith("    "))
+    check("the sheet in the README", shown.encode(), sheet)
+    for name, words, redirection, message in [
+        ("no file named", "", "", b"usage: expand_file FILE\n"),
+        ("a file that is not there", "nothing-here", "", b"expand_file: nothing-here: the file could not be read\n"),
+        ("a folder", "/", "", b"expand_file: /: the file could not be read\n"),
+        ("a full disk", '"$1"', ">/dev/full", b"expand_file: %s: the sheet could not be written\n" % template.encode()),
+    ]:
+        with open(template, "wb") as f:
+            f.write(N_IS_5)
+        done = subprocess.run(["sh", "-c", '"$0" %s %s' % (words, redirection), program, template], cwd=folder, capture_output=True)
+        check("the program: " + name, (done.stdout, done.stderr, done.returncode), (b"", message, 1))
+
+
+if not os.path.exists(ARCHIVE):
+    print("target/staticlib/libcapi.a is missing: `rt staticlib capi` writes it")
+    print("0 passed, 1 failed")
+    sys.exit(1)
+with tempfile.TemporaryDirectory() as scratch:
+    test_header(scratch)
+    test_archive()
+    test_calls(scratch)
+    test_program(scratch)
+print("%d passed, %d failed" % (passed, failed))
+sys.exit(1 if failed else 0)

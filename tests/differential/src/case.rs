@@ -1,0 +1,38 @@
+//! A case: a text, a setting, and what the lent memory holds before.
+
+use crate::generate::text;
+use crate::random::Random;
+use crate::setting::choose;
+use model::table::{write, Row};
+use model::{Report, Setting};
+
+/// What one call of the archive gets.
+#[derive(Clone, Debug)]
+pub struct Case {
+    pub text: Vec<u8>,
+    pub setting: Setting,
+    /// Decides which noise the lent memory holds, and its alignment.
+    pub salt: u64,
+}
+
+/// Makes case `index` of a seed.
+pub fn case(seed: u64, index: u64) -> Case {
+    let mut random = Random::new(seed, index);
+    let text = text(&mut random);
+    let setting = choose(&mut random, &text);
+    Case {
+        text,
+        setting,
+        salt: random.bits(),
+    }
+}
+
+/// A case with the model's answer as a line of a table like tests/vectors.tsv.
+pub fn line(item: &str, case: &Case, expected: Report) -> String {
+    write(&Row {
+        item: item.to_string(),
+        text: case.text.clone(),
+        setting: case.setting.clone(),
+        expected,
+    })
+}

@@ -1,0 +1,144 @@
+//! The archive against the model: random cases, and the lines of a table.
+
+use crate::arenas::Arenas;
+use crate::case::{case, line, Case};
+use crate::shrink::shrink;
+use crate::supervise::libc::SIGALRM;
+use crate::supervise::{supervise, End, Progress};
+use crate::tally::{Tally, ENOUGH};
+use model::table::{hex, read};
+use model::{expand, expand_traced};
+
+/// After so many disagreements a run stops.
+const PATIENCE: usize = 3;
+/// The budget of a case that is made smaller.
+const FEW_STEPS: u32 = 30_000;
+
+/// Runs `count` random cases from number `first` on. True if all agree and everything was reached.
+pub fn random_cases(seed: u64, count: u64, first: u64) -> bool {
+    let end = supervise(|progress| compare_all(progress, seed, count, first));
+    match end {
+        End::Verdict(verdict) => verdict,
+        End::Panicked => false,
+        End::Killed { index, .. } => {
+            tell(seed, index, &end.shown());
+            false
+        }
+    }
+}
+
+fn compare_all(progress: &Progress, seed: u64, count: u64, first: u64) -> bool {
+    let mut arenas = Arenas::new();
+    let mut tally = Tally::default();
+    let mut failed = 0;
+    for index in first..first + count {
+        progress.at(index);
+        let case = case(seed, index);
+        let (expected, trace) = expand_traced(&case.text, &case.setting);
+        if let Err(what) = arenas.try_case(&case, &expected) {
+            tell(seed, index, &what);
+            failed += 1;
+            if failed == PATIENCE {
+                return false;
+            }
+        }
+        tally.add(&expected, &trace);
+    }
+    tally.print();
+    let missing = tally.missing();
+    if count >= ENOUGH && !missing.is_empty() {
+        println!("never reached: {}", missing.join(", "));
+        return false;
+    }
+    failed == 0
+}
+
+/// Prints a case that fails, how to repeat it, and a smaller one.
+fn tell(seed: u64, index: u64, what: &str) {
+    Progress::rest();
+    let found = case(seed, index);
+    println!("case {index} of seed {seed}: {what}");
+    println!("  repeat it: differential compare {seed} 1 {index}");
+    println!("  as a line of a table (differential vectors FILE), with the model's answer:");
+    print_line(&format!("s{seed}-{index}"), &found);
+    if let Some(small) = smaller(&found) {
+        println!(
+            "  smaller: {:?}, {:?}",
+            String::from_utf8_lossy(&small.text),
+            small.setting
+        );
+        print_line(&format!("s{seed}-{index}-small"), &small);
+        supervise(|progress| {
+            println!("  {:?}", alone(progress, &small));
+            true
+        });
+    }
+}
+
+fn print_line(item: &str, case: &Case) {
+    println!("{}", line(item, case, expand(&case.text, &case.setting)));
+}
+
+/// A smaller case that fails, if the case does so within few steps; another one could be without
+/// end.
+fn smaller(found: &Case) -> Option<Case> {
+    let fails = |case: &Case| match supervise(|progress| alone(progress, case).is_ok()) {
+        End::Verdict(good) => !good,
+        End::Killed { signal, .. } => signal != SIGALRM,
+        End::Panicked => false,
+    };
+    let mut short = found.clone();
+    short.setting.budget = short.setting.budget.min(FEW_STEPS);
+    fails(&short).then(|| shrink(&short, fails))
+}
+
+/// Tries one case with memory of its own.
+fn alone(progress: &Progress, case: &Case) -> Result<(), String> {
+    progress.at(0);
+    Arenas::new().try_case(case, &expand(&case.text, &case.setting))
+}
+
+/// Runs every line of a table like tests/vectors.tsv through the archive and compares it with the
+/// answer in the line. Each line is tried with several contents of the lent memory. Gives the lines
+/// that passed and failed.
+pub fn table(text: &str) -> (usize, usize) {
+    let mut arenas = Arenas::new();
+    let (mut passed, mut failed) = (0, 0);
+    for (i, line) in text.lines().enumerate() {
+        if line.is_empty() || line.starts_with('#') {
+            continue;
+        }
+        match try_line(&mut arenas, line) {
+            Ok(()) => passed += 1,
+            Err(what) => {
+                println!("line {}: {what}", i + 1);
+                failed += 1;
+            }
+        }
+    }
+    if passed + failed == 0 {
+        println!("the table has no line");
+        failed = 1;
+    }
+    (passed, failed)
+}
+
+fn try_line(arenas: &mut Arenas, line: &str) -> Result<(), String> {
+    let row = read(line)?;
+    for salt in 0..8 {
+        let case = Case {
+            text: row.text.clone(),
+            setting: row.setting.clone(),
+            salt,
+        };
+        let verdict = arenas.try_case(&case, &row.expected);
+        verdict.map_err(|what| {
+            format!(
+                "{}, text {}..: {what}",
+                row.item,
+                hex(&row.text[..row.text.len().min(100)])
+            )
+        })?;
+    }
+    Ok(())
+}

@@ -1,0 +1,183 @@
+//! The letter's third demand on random pairs of settings: its three sentences, checked as
+//! statements about two calls.
+
+use crate::archive::{call, lent_parts, Before};
+use crate::arenas::Arenas;
+use crate::case::Case;
+use crate::generate::text;
+use crate::judge::reported;
+use crate::random::Random;
+use crate::setting::{close, probe};
+use crate::supervise::{supervise, End, Progress};
+use crate::tally::ENOUGH;
+use model::table::hex;
+use model::{Setting, LIMIT};
+
+/// The answers of runs that were stopped by their setting.
+const SPENT: u32 = 3;
+const ROOM: u32 = 4;
+/// After so many violations a run stops.
+const PATIENCE: usize = 3;
+
+/// A text and two settings, "none above 65,536 bytes" and "the second nowhere smaller than the
+/// first".
+#[derive(Clone, Debug)]
+pub struct Pair {
+    pub text: Vec<u8>,
+    pub settings: [Setting; 2],
+    /// Two, so that the lent memory of the runs differs.
+    salts: [u64; 2],
+}
+
+/// What a run gives: "number, detail, completed steps, place and both counts" and "written bytes".
+#[derive(Clone, Debug, PartialEq, Eq)]
+pub struct Ran {
+    pub numbers: [u32; 6],
+    pub output: Vec<u8>,
+    pub errors: Vec<u8>,
+}
+
+/// Which of the three sentences spoke of a pair.
+#[derive(Clone, Copy, Debug, PartialEq, Eq)]
+pub enum Sentence {
+    /// "If the first run ends in anything but "room" or "spent", the second gives the same numbers
+    /// .. and the same written bytes."
+    Same,
+    /// "If the first ends in one of those two after n completed steps, the second completes at
+    /// least n."
+    AsFar,
+    /// "If also what stopped the first .. is equal in both settings, the second gives the same
+    /// refusal, number for number."
+    SameRefusal,
+}
+
+/// Checks the three sentences. Gives the last one that spoke of the pair, or the one that is
+/// violated.
+pub fn check(settings: &[Setting; 2], first: &Ran, second: &Ran) -> Result<Sentence, Sentence> {
+    let [number, detail, steps, ..] = first.numbers;
+    let holds = |sentence, holds| if holds { Ok(sentence) } else { Err(sentence) };
+    if number != ROOM && number != SPENT {
+        return holds(Sentence::Same, first == second);
+    }
+    holds(Sentence::AsFar, second.numbers[2] >= steps)?;
+    let stopped_by = settings.each_ref().map(|setting| match number {
+        ROOM => setting.lengths[detail as usize - 1],
+        _ => setting.budget as usize,
+    });
+    if stopped_by[0] == stopped_by[1] {
+        return holds(Sentence::SameRefusal, first.numbers == second.numbers);
+    }
+    Ok(Sentence::AsFar)
+}
+
+/// Makes pair `index` of a seed.
+pub fn pair(seed: u64, index: u64) -> Pair {
+    let mut random = Random::new(seed, index);
+    let text = text(&mut random);
+    let probe = probe(&mut random, &text);
+    let first = close(&mut random, &probe);
+    let second = no_smaller(&mut random, &first, probe.budget);
+    Pair {
+        text,
+        settings: [first, second],
+        salts: [random.bits(), random.bits()],
+    }
+}
+
+fn no_smaller(random: &mut Random, first: &Setting, steps: u32) -> Setting {
+    let mut second = first.clone();
+    let often = random.pick(&[10, 30, 60, 100]);
+    for length in &mut second.lengths {
+        if random.chance(often) {
+            *length = (*length + random.pick(&[1, 1, 2, 10, 1_000, LIMIT])).min(LIMIT);
+        }
+    }
+    if random.chance(often) {
+        second.budget = second
+            .budget
+            .saturating_add(random.pick(&[1, 1, 2, 10, 500, steps]));
+    }
+    second
+}
+
+/// Runs a text in noise.
+fn run(arenas: &mut Arenas, text: &[u8], setting: &Setting, salt: u64) -> Ran {
+    let case = Case {
+        text: text.to_vec(),
+        setting: setting.clone(),
+        salt,
+    };
+    let windows = arenas.windows(&case);
+    let before = Before::fill(&windows, text, &arenas.noise, salt);
+    // SAFETY: the windows lie in the arenas, and the report is aligned.
+    unsafe { call(&lent_parts(&windows), setting.budget) };
+    let seen = before.seen(&windows);
+    let numbers = reported(&seen);
+    let written = |area: usize, count: u32| {
+        let lent = &seen[area].after[seen[area].lent.clone()];
+        lent[..(count as usize).min(lent.len())].to_vec()
+    };
+    Ran {
+        numbers,
+        output: written(7, numbers[4]),
+        errors: written(6, numbers[5]),
+    }
+}
+
+pub fn random_pairs(seed: u64, count: u64, first: u64) -> bool {
+    let end = supervise(|progress| check_all(progress, seed, count, first));
+    if let End::Killed { index, .. } = end {
+        println!("pair {index} of seed {seed}: {}", end.shown());
+        println!("  repeat it: differential demand3 {seed} 1 {index}");
+    }
+    end == End::Verdict(true)
+}
+
+fn check_all(progress: &Progress, seed: u64, count: u64, first: u64) -> bool {
+    let mut arenas = Arenas::new();
+    let mut spoke = [0u64; 3];
+    let mut answers = [0u64; 14];
+    let mut failed = 0;
+    for index in first..first + count {
+        progress.at(index);
+        let pair = pair(seed, index);
+        let [one, two] =
+            [0, 1].map(|i| run(&mut arenas, &pair.text, &pair.settings[i], pair.salts[i]));
+        answers[(one.numbers[0] as usize).min(13)] += 1;
+        match check(&pair.settings, &one, &two) {
+            Ok(sentence) => spoke[sentence as usize] += 1,
+            Err(sentence) => {
+                tell(seed, index, sentence, &pair, &one, &two);
+                failed += 1;
+                if failed == PATIENCE {
+                    return false;
+                }
+            }
+        }
+    }
+    println!("first answers 0 to 13: {answers:?}");
+    println!(
+        "same answer {}, as far {}, same refusal {}",
+        spoke[0], spoke[1], spoke[2]
+    );
+    let all = spoke.iter().chain(&answers).all(|&count| count > 0);
+    if count >= ENOUGH && !all {
+        println!("some sentence or answer was never reached");
+        return false;
+    }
+    failed == 0
+}
+
+fn tell(seed: u64, index: u64, sentence: Sentence, pair: &Pair, one: &Ran, two: &Ran) {
+    println!("pair {index} of seed {seed}: the sentence {sentence:?} is violated");
+    println!("  repeat it: differential demand3 {seed} 1 {index}");
+    println!("  text {}", hex(&pair.text));
+    for (setting, ran) in pair.settings.iter().zip([one, two]) {
+        println!(
+            "  {setting:?} gives {:?}, output {}, error text {}",
+            ran.numbers,
+            hex(&ran.output),
+            hex(&ran.errors)
+        );
+    }
+}

@@ -1,0 +1,185 @@
+//! The smallest pieces of texts: names, words, numbers, marks, odd bytes.
+
+use crate::random::Random;
+use model::macros::Predefined;
+
+const NAMES: [&str; 18] = [
+    "a",
+    "b",
+    "c",
+    "f",
+    "g",
+    "h",
+    "x",
+    "y",
+    "ab",
+    "abc",
+    "_",
+    "_1",
+    "A",
+    "Az9",
+    "foo",
+    "ff",
+    "le",
+    "a_rather_long_name_of_a_macro",
+];
+const PLAIN: [&str; 20] = [
+    "a", "b", "ab", "abc", "ba", "n", "le", "len", "f", "ff", "x", "1", "0", "42", "007", "a b",
+    "Z_", "divnum", "a,b", "(a)",
+];
+const ODD: [&[u8]; 26] = [
+    b"\x00",
+    b"\x01",
+    b"\x7f",
+    b"\x80",
+    b"\xff",
+    b"\xc3\xa9",
+    b"\r",
+    b"\x0b",
+    b"\x0c",
+    b"$",
+    b"$1",
+    b"$#",
+    b"$*",
+    b"$@",
+    b"$0",
+    b";",
+    b"=",
+    b"'",
+    b"`'",
+    b")",
+    b"(",
+    b",",
+    b"(a,b)",
+    b"-",
+    b".",
+    b"\"",
+];
+const BLANKS: [&str; 8] = [" ", "\n", "\t", "  ", " \n", "\n\n", "\t ", " \t\n "];
+const SIGNS: [&[u8]; 20] = [
+    b"(", b")", b",", b"(", b")", b",", b"`", b"'", b"`", b"'", b"#", b"\n", b" ", b"$1", b"$@",
+    b"[", b"]", b"0", b"1", b"-",
+];
+
+/// Bytes that a mark may have.
+pub const MARK_BYTES: [u8; 20] = [
+    b'[', b']', b'<', b'>', b'{', b'}', b'|', b'%', b'$', b'+', b'-', b'#', b'`', b'\'', b';',
+    b'.', 0x00, 0x0d, 0x80, 0xff,
+];
+/// Texts that are no mark.
+pub const BAD_MARKS: [&[u8]; 16] = [
+    b"", b"a", b"Z", b"_", b"0", b"[9", b"(", b"))", b",", b" ", b"\t[", b"\n", b"\n\n", b"[\n",
+    b"[[[[[[", b"<a>",
+];
+/// Texts that are no number of 01.
+pub const BAD_NUMBERS: [&str; 18] = [
+    "",
+    "-",
+    "+1",
+    "1a",
+    "1 ",
+    "` 1'",
+    "--1",
+    "-+1",
+    "1.5",
+    "0x1",
+    "2147483648",
+    "-2147483649",
+    "4294967295",
+    "4294967296",
+    "4294967297",
+    "18446744073709551616",
+    "-99999999999999999999",
+    "a",
+];
+
+pub fn name(random: &mut Random) -> Vec<u8> {
+    match random.below(40) {
+        0 => predefined(random).to_vec(),
+        1 => {
+            let length = random.between(1, 60);
+            [b"q".to_vec(), random.bytes(b"ab_Z1", length)].concat()
+        }
+        _ => random.pick(&NAMES).as_bytes().to_vec(),
+    }
+}
+
+pub fn predefined(random: &mut Random) -> &'static [u8] {
+    random.pick(&Predefined::ALL).name().as_bytes()
+}
+
+pub fn plain(random: &mut Random) -> Vec<u8> {
+    random.pick(&PLAIN).as_bytes().to_vec()
+}
+
+pub fn odd(random: &mut Random) -> Vec<u8> {
+    random.pick(&ODD).to_vec()
+}
+
+pub fn blanks(random: &mut Random) -> Vec<u8> {
+    random.pick(&BLANKS).as_bytes().to_vec()
+}
+
+/// A word of any kind.
+pub fn any(random: &mut Random) -> Vec<u8> {
+    match random.below(20) {
+        0..=4 => predefined(random).to_vec(),
+        5..=7 => name(random),
+        8..=9 => plain(random),
+        10 => blanks(random),
+        11 => odd(random),
+        _ => random.pick(&SIGNS).to_vec(),
+    }
+}
+
+/// A number from `least` to `most`, sometimes with more zeros than need be.
+pub fn number(random: &mut Random, least: i64, most: i64) -> Vec<u8> {
+    let value = least + random.below((most - least + 1) as usize) as i64;
+    let zeros = match random.below(30) {
+        0..=1 => 1,
+        2 => random.between(2, 12),
+        3 => random.between(20, 90),
+        _ => 0,
+    };
+    let minus = value < 0 || (value == 0 && random.chance(5));
+    let sign = if minus { "-" } else { "" };
+    format!("{sign}{}{}", "0".repeat(zeros), value.abs()).into_bytes()
+}
+
+/// A begin and an end mark of 1 to 5 bytes. Most are sane; the others are made of very few
+/// different bytes, so that they begin alike, overlap or are equal.
+pub fn marks(random: &mut Random) -> (Vec<u8>, Vec<u8>) {
+    const SANE: [(&[u8], &[u8]); 8] = [
+        (b"[", b"]"),
+        (b"<<", b">>"),
+        (b"{", b"}"),
+        (b"<!--", b"-->"),
+        (b"`", b"'"),
+        (b"``", b"''"),
+        (b"\x80\x00", b"\xff"),
+        (b"[[[[[", b"]]]]]"),
+    ];
+    if random.chance(55) {
+        let (begin, end) = random.pick(&SANE);
+        return (begin.to_vec(), end.to_vec());
+    }
+    let bytes = [random.pick(&MARK_BYTES), random.pick(&MARK_BYTES)];
+    let bytes = if random.chance(40) {
+        &bytes[..1]
+    } else {
+        &bytes[..]
+    };
+    let lengths = [
+        random.pick(&[1, 1, 2, 2, 3, 4, 5]),
+        random.pick(&[1, 1, 2, 2, 3, 4, 5]),
+    ];
+    let begin = random.bytes(bytes, lengths[0]);
+    let end = match random.below(8) {
+        0 => b"\n".to_vec(),
+        1 => begin.clone(),
+        2 => begin[..random.between(1, begin.len())].to_vec(),
+        3 => [&begin[..], bytes].concat()[..5.min(begin.len() + 1)].to_vec(),
+        _ => random.bytes(bytes, lengths[1]),
+    };
+    (begin, end)
+}

@@ -1,0 +1,86 @@
+//! The archive libcapi.a against the independent model of document 01 (tests/model), on random
+//! texts and settings.
+//!
+//! Each command ends with a line 'N passed, M failed' and has exit status 0 only if M is 0.
+//!
+//! - `differential compare SEED COUNT [FIRST]`: random cases; every number of the report and every
+//!   byte of the text, of the seven buffers and of 16 guard bytes around each of them is compared
+//!   with what the model's answer asks. From 20,000 cases on every answer, every detail of 4 and 5
+//!   and every macro must be reached.
+//! - `differential demand3 SEED COUNT [FIRST]`: the letter's third demand on random pairs of
+//!   settings, without the model.
+//! - `differential fences SEED COUNT [FIRST]`: random cases with what is lent against inaccessible
+//!   pages.
+//! - `differential huge`: lengths above 4,294,967,295.
+//! - `differential memcheck SEED COUNT`: random cases in blocks of the heap, to be run under
+//!   valgrind. `memcheck-outside` and `memcheck-undefined` do the same with a mistake that valgrind
+//!   must find.
+//! - `differential vectors FILE`: the lines of a table like tests/vectors.tsv.
+//! - `differential noticed`: the comparisons notice one changed byte or number, and the
+//!   inaccessible pages trap.
+//!
+//! Case number FIRST (default 0) of a seed is always the same: a failing one is repeated with COUNT
+//! 1. It is also printed as a line of a table, and a smaller one with it.
+
+mod archive;
+mod arenas;
+mod case;
+mod compare;
+mod demand3;
+mod fences;
+mod generate;
+mod judge;
+mod memcheck;
+mod noise;
+mod noticed;
+mod random;
+mod setting;
+mod shrink;
+mod supervise;
+mod tally;
+
+use memcheck::Mistake;
+use std::process::ExitCode;
+
+const USE: &str = "use: differential compare|demand3|fences SEED COUNT [FIRST], \
+    memcheck SEED COUNT, vectors FILE, huge or noticed";
+
+fn main() -> ExitCode {
+    let arguments: Vec<String> = std::env::args().skip(1).collect();
+    let words: Vec<&str> = arguments.iter().map(String::as_str).collect();
+    let Some((passed, failed)) = run(&words) else {
+        eprintln!("{USE}");
+        return ExitCode::from(2);
+    };
+    println!("{passed} passed, {failed} failed");
+    ExitCode::from(u8::from(failed > 0))
+}
+
+/// Runs a command; nothing if there is no such command.
+fn run(words: &[&str]) -> Option<(usize, usize)> {
+    let one = |verdict: bool| Some((usize::from(verdict), usize::from(!verdict)));
+    match *words {
+        ["vectors", path] => Some(compare::table(&std::fs::read_to_string(path).ok()?)),
+        ["noticed"] => one(noticed::all_noticed()),
+        ["huge"] => one(fences::huge_lengths()),
+        [command, seed, count] => random(command, seed, count, "0").and_then(one),
+        [command, seed, count, first] => random(command, seed, count, first).and_then(one),
+        _ => None,
+    }
+}
+
+fn random(command: &str, seed: &str, count: &str, first: &str) -> Option<bool> {
+    let (seed, count, first) = (seed.parse().ok()?, count.parse().ok()?, first.parse().ok()?);
+    if count == 0 {
+        return None;
+    }
+    match command {
+        "compare" => Some(compare::random_cases(seed, count, first)),
+        "demand3" => Some(demand3::random_pairs(seed, count, first)),
+        "fences" => Some(fences::random_cases(seed, count, first)),
+        "memcheck" => Some(memcheck::random_cases(seed, count, Mistake::None)),
+        "memcheck-outside" => Some(memcheck::random_cases(seed, count, Mistake::Outside)),
+        "memcheck-undefined" => Some(memcheck::random_cases(seed, count, Mistake::Undefined)),
+        _ => None,
+    }
+}

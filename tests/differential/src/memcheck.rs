@@ -1,0 +1,111 @@
+//! Cases for valgrind: each area is a block of the heap of just its length, and holds nothing that
+//! is defined before the call. So valgrind sees a byte read or written outside, and an answer that
+//! hangs on what the lent memory held before.
+
+use crate::archive::{call, lengths, Lent, AREAS, REPORT};
+use crate::case::{case, line, Case};
+use crate::judge::numbers;
+use crate::supervise::libc;
+use model::{expand, Report};
+
+/// After so many disagreements a run stops.
+const PATIENCE: usize = 3;
+
+/// Blocks of the heap, freed in the end.
+struct Blocks([Lent; AREAS]);
+
+impl Blocks {
+    fn new(case: &Case) -> Blocks {
+        let lengths = lengths(&case.text, &case.setting);
+        // SAFETY: every result of malloc is either good or caught here.
+        let blocks = lengths.map(|length| (unsafe { libc::malloc(length) }.cast::<u8>(), length));
+        assert!(
+            blocks
+                .iter()
+                .all(|(start, length)| !start.is_null() || *length == 0),
+            "malloc failed"
+        );
+        // SAFETY: the first block has the length of the text.
+        unsafe { std::ptr::copy_nonoverlapping(case.text.as_ptr(), blocks[0].0, case.text.len()) };
+        Blocks(blocks)
+    }
+
+    /// The first bytes of an area, which must be defined by now.
+    fn front(&self, area: usize, count: usize) -> &[u8] {
+        assert!(count <= self.0[area].1);
+        // SAFETY: as many bytes are there; valgrind says if one is not defined.
+        unsafe { std::slice::from_raw_parts(self.0[area].0, count) }
+    }
+}
+
+impl Drop for Blocks {
+    fn drop(&mut self) {
+        // SAFETY: each block came from malloc.
+        self.0
+            .iter()
+            .for_each(|(start, _)| unsafe { libc::free(start.cast()) });
+    }
+}
+
+/// What a run does on purpose that valgrind must find.
+#[derive(Clone, Copy, PartialEq, Eq)]
+pub enum Mistake {
+    None,
+    /// A byte behind the text is read.
+    Outside,
+    /// Something hangs on what the output held before.
+    Undefined,
+}
+
+/// Makes the mistake before the call.
+fn mistaken(blocks: &Blocks, mistake: Mistake) {
+    let (area, at) = match mistake {
+        Mistake::None => return,
+        Mistake::Outside => (0, blocks.0[0].1),
+        Mistake::Undefined => (7, 0),
+    };
+    // SAFETY: none; valgrind is to find it.
+    if unsafe { blocks.0[area].0.add(at).read_volatile() } == b'q' {
+        println!("a byte that nobody may look at");
+    }
+}
+
+/// Runs `count` random cases.
+pub fn random_cases(seed: u64, count: u64, mistake: Mistake) -> bool {
+    let mut failed = 0;
+    for index in 0..count {
+        let case = case(seed, index);
+        let blocks = Blocks::new(&case);
+        mistaken(&blocks, mistake);
+        // SAFETY: the blocks are as long as is said and aligned as malloc does.
+        let returned = unsafe { call(&blocks.0, case.setting.budget) };
+        let expected = expand(&case.text, &case.setting);
+        if !agrees(&blocks, returned, &expected) {
+            println!("case {index} of seed {seed}: not as expected under valgrind");
+            println!("{}", line(&format!("v{seed}-{index}"), &case, expected));
+            failed += 1;
+        }
+        if failed == PATIENCE {
+            break;
+        }
+    }
+    failed == 0
+}
+
+fn agrees(blocks: &Blocks, returned: u32, expected: &Report) -> bool {
+    let report: Vec<u8> = numbers(expected)
+        .iter()
+        .flat_map(|number| number.to_ne_bytes())
+        .collect();
+    let zeroed = |area: usize| {
+        blocks
+            .front(area, blocks.0[area].1)
+            .iter()
+            .all(|&byte| byte == 0)
+    };
+    returned == expected.number
+        && blocks.front(REPORT, report.len()) == report
+        && blocks.front(6, expected.errors.len()) == expected.errors
+        && blocks.front(7, expected.output.len()) == expected.output
+        && (expected.number == 2 || (1..=5).all(zeroed))
+}

@@ -1,0 +1,166 @@
+//! Settings for a text: most lie close to what it needs.
+
+use crate::random::Random;
+use model::{expand_traced, Report, Setting, Trace, LIMIT};
+
+/// Lengths where something might turn.
+const TURNS: [usize; 24] = [
+    0,
+    1,
+    2,
+    3,
+    4,
+    5,
+    7,
+    8,
+    15,
+    16,
+    17,
+    31,
+    32,
+    33,
+    63,
+    64,
+    65,
+    255,
+    256,
+    257,
+    4095,
+    4097,
+    LIMIT - 1,
+    LIMIT,
+];
+
+/// What a text does with ample room and many steps, by the model.
+pub struct Probe {
+    pub report: Report,
+    pub trace: Trace,
+    /// The steps that it was given.
+    pub budget: u32,
+}
+
+/// Runs a text with ample room. Few texts get many steps; those without end use them all.
+pub fn probe(random: &mut Random, text: &[u8]) -> Probe {
+    let budget = match random.below(400) {
+        _ if text.len() > 10_000 => 300_000,
+        0 => 300_000,
+        1..=7 => 30_000,
+        _ => 3_000,
+    };
+    let setting = Setting {
+        budget,
+        ..Setting::ample()
+    };
+    let (report, trace) = expand_traced(text, &setting);
+    Probe {
+        report,
+        trace,
+        budget,
+    }
+}
+
+/// Chooses lengths and budget.
+pub fn choose(random: &mut Random, text: &[u8]) -> Setting {
+    let probe = probe(random, text);
+    let mut setting = close(random, &probe);
+    if random.chance(2) {
+        overlong(random, &mut setting);
+    }
+    setting
+}
+
+/// A setting that lends nothing overlong.
+pub fn close(random: &mut Random, probe: &Probe) -> Setting {
+    let mut setting = ample(random, probe);
+    match random.below(100) {
+        0..=27 => {}
+        28..=52 => exact(random, &mut setting, probe),
+        53..=69 => {
+            exact(random, &mut setting, probe);
+            shorten_one(random, &mut setting, probe);
+        }
+        70..=77 => shorten_one(random, &mut setting, probe),
+        78..=80 => setting.lengths = std::array::from_fn(|_| random.below(11)),
+        81..=85 => setting.lengths = std::array::from_fn(|_| random.pick(&TURNS)),
+        86..=95 => setting.budget = fewer(random, probe.report.steps),
+        _ => {
+            exact(random, &mut setting, probe);
+            shorten_one(random, &mut setting, probe);
+            setting.budget = fewer(random, probe.report.steps);
+        }
+    }
+    setting
+}
+
+/// All the room there is, and enough steps for every text that ends.
+fn ample(random: &mut Random, probe: &Probe) -> Setting {
+    let spent = probe.report.number == 3;
+    Setting {
+        lengths: [LIMIT; 7],
+        budget: if spent {
+            probe.budget
+        } else {
+            random
+                .pick(&[16_777_216, 65_536, u32::MAX])
+                .max(probe.budget)
+        },
+    }
+}
+
+/// What the text needs, and a little more here and there.
+fn exact(random: &mut Random, setting: &mut Setting, probe: &Probe) {
+    let slack = random.pick(&[0, 0, 1, 5]);
+    for (length, peak) in setting.lengths.iter_mut().zip(probe.trace.peaks) {
+        *length = (peak + random.below(slack + 1)).min(LIMIT);
+    }
+    setting.budget = probe.report.steps + random.pick(&[0, 0, 0, 1, 7]);
+}
+
+/// One buffer that the text uses gets less than it needs.
+fn shorten_one(random: &mut Random, setting: &mut Setting, probe: &Probe) {
+    let buffer = used_buffer(random, probe);
+    let need = probe.trace.peaks[buffer].min(LIMIT);
+    setting.lengths[buffer] = match random.below(3) {
+        0 => random.below(need + 1),
+        _ => need.saturating_sub(1),
+    };
+}
+
+/// A buffer that the text uses, if there is one. Few texts use buffers 4 to 6.
+fn used_buffer(random: &mut Random, probe: &Probe) -> usize {
+    let used: Vec<usize> = (0..7)
+        .filter(|&buffer| probe.trace.peaks[buffer] > 0)
+        .collect();
+    let rare: Vec<usize> = used
+        .iter()
+        .copied()
+        .filter(|buffer| (3..=5).contains(buffer))
+        .collect();
+    if !rare.is_empty() && random.chance(60) {
+        random.pick(&rare)
+    } else if !used.is_empty() {
+        random.pick(&used)
+    } else {
+        random.below(7)
+    }
+}
+
+/// A budget that is about used up, or used up somewhere on the way.
+fn fewer(random: &mut Random, steps: u32) -> u32 {
+    match random.below(6) {
+        0 => random.below(4) as u32,
+        1 => steps.saturating_sub(1),
+        2 => steps,
+        _ => random.below(steps as usize + 2) as u32,
+    }
+}
+
+/// One or more lengths above 65,536.
+fn overlong(random: &mut Random, setting: &mut Setting) {
+    for _ in 0..random.pick(&[1, 1, 1, 2, 7]) {
+        setting.lengths[random.below(7)] = LIMIT + random.pick(&[1, 1, 2, 5, 4_096, 60_000]);
+    }
+    if random.chance(20) {
+        setting.budget = 0;
+    }
+}

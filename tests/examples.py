@@ -1,0 +1,135 @@
+#!/usr/bin/env python3
+"""Every template of examples/ through the command `quenhovach`, its sheet compared byte for byte with the stored one.
+
+Builds the command if need be. Where GNU m4 is installed, it has to give the stored sheets too. The last line is 'N passed, M failed'.
+"""
+import os
+import shutil
+import subprocess
+import sys
+import tempfile
+
+ROOT = os.path.dirname(os.path.dirname(os.path.abspath(__file__)))
+EXAMPLES = os.path.join(ROOT, "examples")
+BUILT = os.path.join(ROOT, "target", "rust")
+COMMAND = os.path.join(BUILT, "release", "quenhovach")
+
+# Template, exit status, completed steps and place. The sheet is stored beside it, and the error text if there is any. Steps and places were held
+# to the independent model, tests/model, which gave the same.
+ENDS = {
+    "masts/lattice": (0, 1668, 1990),
+    "masts/telescopic": (0, 1603, 1890),
+    "masts/unknown": (3, 74, 352),
+    "idioms/forloop": (0, 903, 558),
+    "idioms/foreach": (0, 605, 795),
+    "frozen/winter": (0, 13422, 1110),
+    "frozen/spring": (0, 17538, 1263),
+}
+# Refusals with room 1: template, bytes lent for pending text, completed steps and place; held to the model too.
+REFUSED = [
+    ("frozen/winter", 3699, 12199, 1055),
+    ("frozen/spring", 4096, 13496, 1207),
+    ("frozen/spring", 4820, 16009, 1208),
+]
+ROOM = 64 + 4
+OLD = b"the old sheet\n"
+count = 0
+failures = []
+
+
+def check(name, got, expected):
+    global count
+    count += 1
+    if got != expected:
+        failures.append(name)
+        print("%s: expected %.200r, got %.200r" % (name, expected, got))
+
+
+def get(path):
+    with open(path, "rb") as file:
+        return file.read()
+
+
+def stored(name):
+    """Exit status, sheet and error text."""
+    path = os.path.join(EXAMPLES, name)
+    errors = path + ".errors"
+    return ENDS[name][0], get(path + ".sheet"), get(errors) if os.path.exists(errors) else b""
+
+
+def expand(folder, name, *options):
+    """The command on a template where an old sheet stands: exit status, sheet, standard error, the report's numbers."""
+    sheet = os.path.join(folder, "sheet")
+    numbers = os.path.join(folder, "numbers")
+    with open(sheet, "wb") as file:
+        file.write(OLD)
+    done = subprocess.run([COMMAND, "-o", sheet, "--report", numbers, *options, name + ".m4"], cwd=EXAMPLES, capture_output=True)
+    return done.returncode, get(sheet), done.stderr, [int(n) for n in get(numbers).split()]
+
+
+def whole(folder, name):
+    status, sheet, errors, numbers = expand(folder, name)
+    check(name, (status, sheet, errors), stored(name))
+    check(name + ": steps, place and counts", numbers[2:], [*ENDS[name][1:], len(sheet), len(errors)])
+
+
+def frozen_line(folder):
+    """The story of the letter: one guy table more than 4,096 bytes of pushed-back text can take."""
+    for name, pending in (("winter", 3700), ("winter", 4096), ("spring", 4821)):
+        check("%s in %d bytes" % (name, pending), expand(folder, "frozen/" + name, "--pending", str(pending))[:3], stored("frozen/" + name))
+    for name, pending, steps, place in REFUSED:
+        status, sheet, errors, numbers = expand(folder, name, "--pending", str(pending))
+        check("%s in %d bytes is refused" % (name, pending), (status, numbers), (ROOM, [4, 1, steps, place, 0, 0]))
+        check("and the old sheet stands", sheet, OLD)
+        words = (name.encode() + b".m4:", b"no room for pending text", b"--pending N")
+        check("and the message names file, room and remedy", [w in errors for w in words], [True] * 3)
+    check("spring in 65,536 bytes has the line", b"\nsway_frozen=distrust\n" in expand(folder, "frozen/spring")[1], True)
+
+
+def room_never_shapes(folder, name):
+    """In less room a template is refused or gives the very same sheet; both occur."""
+    seen = set()
+    for pending in (0, 40, 100, 200, 300, 1000, 3699, 3700, 4096, 4820, 4821, 65535):
+        status, sheet, errors, numbers = expand(folder, name, "--pending", str(pending))
+        refused = numbers[:2] == [4, 1]
+        seen.add(refused)
+        if refused:
+            good = (status, sheet) == (ROOM, OLD)
+        else:
+            good = (status, sheet, errors) == stored(name)
+        check("%s in %d bytes" % (name, pending), good, True)
+    check(name + ": refused in some and whole in others", seen, {True, False})
+
+
+def judge(name):
+    done = subprocess.run(["m4", "-G", name + ".m4"], cwd=EXAMPLES, capture_output=True)
+    check(name + " by GNU m4", (done.returncode, done.stdout, done.stderr), stored(name))
+
+
+def templates():
+    """All templates but those of examples/c, which has a test of its own."""
+    found = (os.path.join(folder, file) for folder, _, files in os.walk(EXAMPLES) for file in files if file.endswith(".m4"))
+    names = (os.path.relpath(path, EXAMPLES)[:-3] for path in found)
+    return sorted(name for name in names if not name.startswith("c/"))
+
+
+def main():
+    build = ["cargo", "build", "--release", "--offline", "--locked", "--quiet"]
+    built = subprocess.run(build, cwd=os.path.join(ROOT, "rust"), env=dict(os.environ, CARGO_TARGET_DIR=BUILT))
+    check("the command is built", built.returncode, 0)
+    check("every template is tried", templates(), sorted(ENDS))
+    with tempfile.TemporaryDirectory() as folder:
+        for name in ENDS:
+            whole(folder, name)
+            room_never_shapes(folder, name)
+        frozen_line(folder)
+    if shutil.which("m4"):
+        for name in ENDS:
+            judge(name)
+    else:
+        print("m4 is not installed: the stored sheets were not held to it again")
+    print("%d passed, %d failed" % (count - len(failures), len(failures)))
+    sys.exit(1 if failures else 0)
+
+
+main()

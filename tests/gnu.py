@@ -1,0 +1,216 @@
+#!/usr/bin/env python3
+"""gnu.py [SEED COUNT] | --store: an independent m4, GNU m4, as the judge of the program `expand` where both have one rule.
+
+Compared are output, error text and exit number: the templates of tests/gnu/templates and the random texts of tests/gnu/random.jsonl with what GNU m4
+gave for them when they were stored, and, where `m4` is installed, with what it gives now, as `m4` and as `m4 -G`; then COUNT more random texts (tests/gnu/texts.py,
+default 300 from seed 1000). The answer must be done or exit. Every example of docs/GNU.md, where the rules differ, must come out as that page says.
+--store writes the stored results anew, by GNU m4 alone. Ends with 'N passed, M failed'; exit status 0 only if M is 0.
+"""
+import collections
+import glob
+import json
+import os
+import re
+import resource
+import shutil
+import subprocess
+import sys
+
+HERE = os.path.dirname(os.path.abspath(__file__))
+PROGRAM = os.path.join(HERE, "..", "target", "bin", "expand")
+FOLDER = os.path.join(HERE, "gnu")
+RANDOM = os.path.join(FOLDER, "random.jsonl")
+PAGE = os.path.join(HERE, "..", "docs", "GNU.md")
+JUDGES = (["m4"], ["m4", "-G"])
+STORED_SEEDS = range(100)
+
+sys.dont_write_bytecode = True
+sys.path.insert(0, FOLDER)
+import texts  # noqa: E402
+
+# what a run of either program gave; for GNU m4 `told` says whether it wrote messages of its own, for `expand` `answer` is the number of its answer
+Given = collections.namedtuple("Given", "output errors code told answer", defaults=(False, None))
+passed = failed = 0
+
+
+def check(name, good, word=""):
+    global passed, failed
+    if good:
+        passed += 1
+    else:
+        failed += 1
+        print("%s: %s" % (name, word))
+
+
+# the two programs
+
+
+def limited():
+    """A text that never ends must not eat the machine: GNU m4 has no limit of its own."""
+    resource.setrlimit(resource.RLIMIT_AS, (256 << 20, 256 << 20))
+    resource.setrlimit(resource.RLIMIT_CPU, (10, 10))
+
+
+def run(command, text):
+    return subprocess.run(command, input=text, capture_output=True, preexec_fn=limited, env=dict(os.environ, LC_ALL="C"))
+
+
+def expand(text):
+    done = run([PROGRAM], text)
+    found = re.search(rb"\A(.*\n)?(\d+) \d+ \d+ (\d+)\n\Z", done.stderr, re.DOTALL)
+    if not found:
+        return Given(done.stdout, done.stderr, None)
+    answer = int(found.group(2))
+    return Given(done.stdout, found.group(1) or b"", int(found.group(3)) if answer == 1 else 0, answer=answer)
+
+
+def gnu(command, text):
+    """GNU m4's own messages start with its name; the error text of a template ends its lines."""
+    done = run(command, text)
+    lines = done.stderr.splitlines(True)
+    own = [line for line in lines if line.startswith(b"m4:")]
+    return Given(done.stdout, b"".join(line for line in lines if line not in own), done.returncode, told=bool(own))
+
+
+def alike(name, given, wanted):
+    """Output, error text and exit number are the same."""
+    for part, got, want in (("output", given.output, wanted.output), ("error text", given.errors, wanted.errors), ("exit number", given.code, wanted.code)):
+        if got != want:
+            return check(name, False, "%s is %r, GNU m4 has %r" % (part, got, want))
+    check(name, True)
+
+
+def judged(name, text, wanted):
+    """`expand` gives what GNU m4 gave, by an answer that finishes."""
+    given = expand(text)
+    if given.answer not in (0, 1):
+        return check(name, False, "not finished: answer %s, standard error %r" % (given.answer, given.errors))
+    alike(name, given, wanted)
+
+
+# templates and random texts, with their stored results
+
+
+def templates():
+    return [path[: -len(".m4")] for path in sorted(glob.glob(os.path.join(FOLDER, "templates", "*.m4")))]
+
+
+def read(path):
+    if not os.path.exists(path):
+        return b""
+    with open(path, "rb") as f:
+        return f.read()
+
+
+def write(path, data):
+    """An empty result has no file, but the output always has one."""
+    if data or path.endswith(".out"):
+        with open(path, "wb") as f:
+            f.write(data)
+    elif os.path.exists(path):
+        os.remove(path)
+
+
+def stored():
+    """Name, text and stored result of each template and each stored random text."""
+    for path in templates():
+        yield os.path.basename(path), read(path + ".m4"), Given(read(path + ".out"), read(path + ".err"), int(read(path + ".exit") or 0))
+    with open(RANDOM, encoding="ascii") as f:
+        for line in f:
+            row = json.loads(line)
+            text, output, errors = (row[key].encode("latin-1") for key in ("text", "output", "errors"))
+            yield "stored random text %d" % row["seed"], text, Given(output, errors, row["exit"])
+
+
+def store():
+    for path in templates():
+        result = gnu(JUDGES[0], read(path + ".m4"))
+        write(path + ".out", result.output)
+        write(path + ".err", result.errors)
+        write(path + ".exit", b"%d\n" % result.code if result.code else b"")
+    with open(RANDOM, "w", encoding="ascii") as f:
+        for seed in STORED_SEEDS:
+            text = texts.text(seed)
+            result = gnu(JUDGES[0], text)
+            row = {"seed": seed, "text": text.decode("latin-1"), "output": result.output.decode("latin-1"), "errors": result.errors.decode("latin-1"), "exit": result.code}
+            f.write(json.dumps(row) + "\n")
+
+
+# the examples of docs/GNU.md
+
+Example = collections.namedtuple("Example", "line text given")
+
+
+def plain(words):
+    """The bytes of an example: \\n, \\t and \\xNN are single bytes, 'N times S' is S repeated."""
+    times = re.fullmatch(r"([\d,]+) times (.*)", words)
+    if times:
+        return int(times.group(1).replace(",", "")) * plain(times.group(2))
+    return re.sub(r"\\(n|t|x[0-9a-f]{2})", lambda m: {"n": "\n", "t": "\t"}.get(m.group(1)) or chr(int(m.group(1)[1:], 16)), words).encode("latin-1")
+
+
+def examples():
+    """Each block of the page: its text and what it says of 01, GNU and -G."""
+    found = None
+    with open(PAGE, encoding="utf-8") as f:
+        for number, line in enumerate(f, 1):
+            row = re.fullmatch(r"    (text|01|GNU|-G) +(.*)\n", line)
+            if not row:
+                if found:
+                    yield found
+                found = None
+            elif row.group(1) == "text":
+                found = Example(number, plain(row.group(2)), {})
+            else:
+                found.given[row.group(1)] = row.group(2)
+    if found:
+        yield found
+
+
+def says(words):
+    """What the page says of a run, as bytes of the output, whether there is a message, and the status; or the number of a refusal."""
+    refusal = re.fullmatch(r"refused (\d+)", words)
+    if refusal:
+        return int(refusal.group(1))
+    result = re.fullmatch(r'"(.*)"(, message)?(, status (\d+))?', words)
+    if result:
+        return plain(result.group(1)), bool(result.group(2)), int(result.group(4) or 0)
+    return plain(words), False, 0
+
+
+def check_example(example, live):
+    name = "docs/GNU.md, line %d" % example.line
+    if "01" not in example.given or "GNU" not in example.given:
+        return check(name, False, "the example is not whole")
+    given = expand(example.text)
+    did = given.answer if given.answer not in (0, 1) else (given.output, False, given.code)
+    check(name, did == says(example.given["01"]), "expand gives %r" % (did,))
+    for judge, key in zip(JUDGES, ("GNU", "-G")) if live else ():
+        result = gnu(judge, example.text)
+        did = result.output, result.told, result.code
+        wanted = says(example.given.get(key, example.given["GNU"]))
+        check(name, did == wanted, "%s gives %r" % (" ".join(judge), did))
+
+
+def main():
+    live = shutil.which("m4") is not None
+    if sys.argv[1:] == ["--store"]:
+        return store() if live else sys.exit("m4 is not installed")
+    first, count = (int(n) for n in sys.argv[1:]) if len(sys.argv) == 3 else (1000, 300)
+    print("compared with stored results" + (" and live with " + run(["m4", "--version"], b"").stdout.decode().split("\n")[0] if live else " only: m4 is not installed"))
+    for name, text, wanted in stored():
+        judged(name, text, wanted)
+        for judge in JUDGES if live else ():
+            alike("%s, %s now" % (name, " ".join(judge)), gnu(judge, text), wanted)
+    for example in examples():
+        check_example(example, live)
+    for seed in range(first, first + count) if live else ():
+        text = texts.text(seed)
+        wanted = gnu(JUDGES[0], text)
+        judged("random text %d" % seed, text, wanted)
+        alike("random text %d, m4 -G" % seed, gnu(JUDGES[1], text), wanted)
+    print("%d passed, %d failed" % (passed, failed))
+    sys.exit(1 if failed else 0)
+
+
+main()

@@ -1,0 +1,27 @@
+dnl A whole settings sheet: a family of masts, its sections, guys and filters, and the line that the spring day lacked.
+divert(-1)
+define(`forloop',`pushdef(`$1',`$2')_forloop($@)popdef(`$1')')
+define(`_forloop',`$4`'ifelse($1,`$3',`',`define(`$1',incr($1))_forloop($@)')')
+define(`setting',`$1=$2
+')
+define(`sway',`setting(`sway_$1_$2',`$3')')
+define(`axis',`sway(`$1',`gain_p',`$2')sway(`$1',`gain_i',`$3')sway(`$1',`gain_d',`$4')sway(`$1',`limit',eval($5*10))')
+define(`sensor',`divert(3)setting(`sensor_$1_port',$2)setting(`sensor_$1_trust_frozen',0)divert(0)')
+define(`guy',`divert(2)setting(`guy_$1_bearing',eval(($1-1)*360/guys))setting(`guy_$1_tension',eval(tension+$1*25))divert(0)')
+define(`guys',4)
+define(`tension',1200)
+define(`mast_family',`tall')
+define(`mast_height',ifelse(mast_family,`tall',24000,mast_family,`short',9000,0))
+divert(0)dnl
+setting(`family',mast_family)dnl
+setting(`height',mast_height)dnl
+setting(`sections',eval(mast_height/3000))dnl
+forloop(`s',1,eval(mast_height/3000),`setting(`section_'s`_length',eval(3000-s*50))')dnl
+axis(`x',1.5,0.25,0.0,45)dnl
+axis(`y',1.25,0.2,0.05,40)dnl
+sensor(`gyro',1)sensor(`wind',2)dnl
+forloop(`g',1,guys,`guy(g)')dnl
+ifdef(`extra',`setting(`extra',extra)')dnl
+undivert(2)undivert(3)dnl
+setting(`frozen_sensor_trust',0)dnl
+setting(`end_of_sheet',1)dnl
