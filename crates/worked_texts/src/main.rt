@@ -149,7 +149,7 @@ fn traps() {
         100,
         100,
     );
-    // a longer text in the place of a shorter one: judged on the state after the step
+    // another text in the place of one: judged on the state after the step, where only the new one stands
     lent(
         b"define(`a',`bcd')define(`a',`efg')a",
         100,
@@ -168,7 +168,7 @@ fn traps() {
     show(b"changequote(`|',`|')|a|b|c|");
 }
 
-// Refusals of each kind that a text can meet by itself.
+// Refusals that a text meets by itself; those by depth and by length are in the other tests.
 fn refusals() {
     show(b"`a");
     show(b"#a");
