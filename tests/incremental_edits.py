@@ -1,7 +1,7 @@
 #!/usr/bin/env python3
-"""incremental_edits.py [CRATE..]: the must-fail edits of the crates that take long to check, over an incremental check.
+"""incremental_edits.py [CRATE..]: the must-fail edits of the crates with code below the programs, over an incremental check.
 
-`rt ci` pays a check of the whole crate for each edit of crates/NAME/must-fail. So the edits of the larger crates stand in tests/edits/CRATE, in the same
+`rt ci` pays a check of the whole crate for each edit of crates/NAME/must-fail. So the edits of these crates stand in tests/edits/CRATE, in the same
 form (a remark, then 'file:', 'old:' and 'new:' lines), and are tried here in a copy of the tree: the crate is checked once as it stands, which has to
 succeed, and then with each edit, which checks again only what the edit reaches. An edit passes where the crate is refused for a fact: exit status 1,
 'logic=not-proved', and no error that says that a proof file does not fit the edited code.
@@ -20,7 +20,7 @@ import time
 
 ROOT = os.path.dirname(os.path.dirname(os.path.abspath(__file__)))
 BELOW = ["rules", "ascii", "numerals", "expression", "matching"]
-CRATES = ["expander", "expression", "numerals"]
+CRATES = ["expander", "expression", "matching", "numerals", "ascii"]
 WAIT = 900
 
 
