@@ -1,7 +1,7 @@
 -- `expander::closing::close` meets its contract. Assumes nothing.
 use Prim.Native.Nat.{_+_}
 use native.Mathlib.Omega.{arith}
-use mathlib.Core.Path.{_≡_}
+use mathlib.Core.Path.{_≡_, refl}
 use mathlib.Core.List.{List, [], _∷_, _++_}
 use lib.ListN.{length}
 use Rattle.rules.specs.Bytes.{Bytes}
@@ -174,14 +174,27 @@ enum-told-4 c = search needs
 refused-requires : tie.Need-refused-requires
 refused-requires c κs = search needs
 
+-- the calls that were lent slices, from each way out
+abbrev at-give-text : tie.After-given → tie.After-give-text
+at-give-text c = c .before .before .before .before
+
+abbrev at-give : tie.After-given2 → tie.After-give
+at-give c = c .before .before .before .before
+
+abbrev at-search : tie.After-given3 → tie.After-search
+at-search c = c .before .before .before .before
+
+abbrev at-perform : tie.After-slice-known21 → tie.After-perform
+at-perform c = c .before .before .before .before .before .before .before .before .before .before .before .before .before .before .before .before .before .before
+
 same-length : tie.Need-same-length
-same-length c = search needs
+same-length c = at-give-text c .give-text .kept .0
 
 same-length-2 : tie.Need-same-length-2
-same-length-2 c = search needs
+same-length-2 c = refl
 
 same-length-3 : tie.Need-same-length-3
-same-length-3 c = search needs
+same-length-3 c = refl
 
 returns : tie.Need-returns
 returns c =
@@ -193,13 +206,13 @@ returns c =
     (closes k ks s (calls-text q (k .name) (c .before .before .before .before .before .before .before .before .before .before .before .i .given .1) (name l b m e) (g .ensures a (withCalls ks s) (lent (start l) b) (after l) (argsOf k) (q .means) (q .arguments))))
 
 same-length-4 : tie.Need-same-length-4
-same-length-4 c = search needs
+same-length-4 c = at-give c .give .kept .0
 
 same-length-5 : tie.Need-same-length-5
-same-length-5 c = search needs
+same-length-5 c = refl
 
 same-length-6 : tie.Need-same-length-6
-same-length-6 c = search needs
+same-length-6 c = refl
 
 returns-2 : tie.Need-returns-2
 returns-2 c =
@@ -211,13 +224,13 @@ returns-2 c =
     (closes k ks s (calls-number q (k .name) (c .before .before .before .before .before .before .before .before .before .before .before .before .before .before .k .given .1) (g .ensures a (withCalls ks s) (lent (start l) b) (after l) (argsOf k) (q .means) (q .arguments))))
 
 same-length-7 : tie.Need-same-length-7
-same-length-7 c = search needs
+same-length-7 c = at-search c .search .kept .0
 
 same-length-8 : tie.Need-same-length-8
-same-length-8 c = search needs
+same-length-8 c = refl
 
 same-length-9 : tie.Need-same-length-9
-same-length-9 c = search needs
+same-length-9 c = refl
 
 returns-3 : tie.Need-returns-3
 returns-3 c =
@@ -230,31 +243,31 @@ returns-3 c =
     (closes k ks s (calls-search q (k .name) (c .before .before .before .before .before .before .before .before .before .before .k .given .1) i (g .ensures a (withCalls ks s) (lent (start l) b) (after l) (argsOf k) (q .means) (q .arguments))))
 
 same-length-10 : tie.Need-same-length-10
-same-length-10 c = search needs
+same-length-10 c = at-perform c .perform .kept .1 .0
 
 same-length-11 : tie.Need-same-length-11
-same-length-11 c = search needs
+same-length-11 c = at-perform c .perform .kept .1 .1 .1 .1 .0
 
 same-length-12 : tie.Need-same-length-12
-same-length-12 c = search needs
+same-length-12 c = at-perform c .perform .kept .1 .1 .1 .1 .1 .0
 
 same-length-13 : tie.Need-same-length-13
-same-length-13 c = search needs
+same-length-13 c = at-perform c .perform .kept .1 .1 .1 .1 .1 .1 .0
 
 same-length-14 : tie.Need-same-length-14
-same-length-14 c = search needs
+same-length-14 c = at-perform c .perform .kept .1 .1 .1 .1 .1 .1 .1 .0
 
 same-length-15 : tie.Need-same-length-15
-same-length-15 c = search needs
+same-length-15 c = at-perform c .perform .kept .1 .1 .1 .1 .1 .1 .1 .1 .0
 
 same-length-16 : tie.Need-same-length-16
-same-length-16 c = search needs
+same-length-16 c = at-perform c .perform .kept .1 .1 .1 .1 .1 .1 .1 .1 .1 .0
 
 same-length-17 : tie.Need-same-length-17
-same-length-17 c = search needs
+same-length-17 c = at-perform c .perform .kept .1 .1 .1 .1 .1 .1 .1 .1 .1 .1 .0
 
 same-length-18 : tie.Need-same-length-18
-same-length-18 c = search needs
+same-length-18 c = at-perform c .perform .kept .1 .1 .1 .1 .1 .1 .1 .1 .1 .1 .1 .0
 
 returns-4 : tie.Need-returns-4
 returns-4 c =
@@ -264,10 +277,10 @@ returns-4 c =
     closes k ks s (calls-number q (k .name) (c .before .before .before .before .before .before .before .before .before .before .before .before .before .before .before .before .before .before .before .before .before .before .before .before .before .before .before .before .before .before .before .before .before .k .given .1) (c .before .before .before .before .before .before .before .before .before .before .before .before .before .before .before .before .before .before .perform .ensures a (withCalls ks s) (lent (start l) b) (argsOf k) (q .means) (q .arguments)))
 
 same-length-19 : tie.Need-same-length-19
-same-length-19 c = search needs
+same-length-19 c = refl
 
 same-length-20 : tie.Need-same-length-20
-same-length-20 c = search needs
+same-length-20 c = refl
 
 returns-5 : tie.Need-returns-5
 returns-5 c =

@@ -1,5 +1,5 @@
 use Prim.Native.Nat.{ℕ, _-_, _≤_}
-use mathlib.Core.Path.{_≡_, refl, sym, subst}
+use mathlib.Core.Path.{_≡_, _∙_, refl, sym, subst}
 use mathlib.Core.List.{[]}
 use native.Mathlib.Omega.{arith}
 use lib.ListN.{length}
@@ -33,6 +33,31 @@ abbrev μ-loop : tie.MeasureT-loop
 μ-loop text pending₀ calls₀ ends₀ stack₀ definitions₀ table-ends₀ streams₀ owners₀ wrap₀ errors₀ output₀ scratch₀ budget from m₀ left₀ pending calls ends stack definitions table-ends streams owners wrap errors output scratch m left =
     left
 
+-- the way back: from the head of the loop to the entry, from a call that came back to what stood before it
+abbrev begin : tie.At-loop Inv-loop μ-loop → tie.Start Inv-loop μ-loop
+begin c = c .before .before .before .before .before .before .before .before .before .before .before .before .before .before .before
+
+abbrev head : tie.After-run-plain Inv-loop μ-loop → tie.At-loop Inv-loop μ-loop
+head c = c .before .before .before .before .before .before .before .before .before .before .before .before
+
+abbrev plain-stopped : tie.After-stop Inv-loop μ-loop → tie.After-run-plain Inv-loop μ-loop
+plain-stopped c = c .before .before .before .before .before .before .before .before .before .before .before .before .before .before .before .before .before
+
+abbrev plain : tie.After-stop2 Inv-loop μ-loop → tie.After-run-plain Inv-loop μ-loop
+plain c = c .before .before .before .before .before .before .before .before .before .before .before .before .before .before .before .before .before
+
+abbrev stop : tie.After-special-step Inv-loop μ-loop → tie.After-stop2 Inv-loop μ-loop
+stop c = c .before .before .before .before .before .before .before .before .before .before .before .before .before .before
+
+abbrev special-refused : tie.After-went Inv-loop μ-loop → tie.After-special-step Inv-loop μ-loop
+special-refused c = c .before .before .before .before .before .before .before .before .before .before .before .before .before .before .before .before .before .before .before .before
+
+abbrev special-ended : tie.After-went2 Inv-loop μ-loop → tie.After-special-step Inv-loop μ-loop
+special-ended c = c .before .before .before .before .before .before .before .before .before .before .before .before .before .before .before .before .before .before .before .before
+
+abbrev special-on : tie.After-enum-told Inv-loop μ-loop → tie.After-special-step Inv-loop μ-loop
+special-on c = c .before .before .before .before .before .before .before .before .before .before .before .before .before .before .before .before .before .before .before .before
+
 start-requires : tie.Need-start-requires Inv-loop μ-loop
 start-requires c κs = search needs
 
@@ -52,40 +77,40 @@ stopped-requires : tie.Need-stopped-requires Inv-loop μ-loop
 stopped-requires c κs = let p = c .before .before .before .before .before .before .before .before .before .before .before .before .before .before .before .before .before .before .before .before .before .before .before .before .before .before .before .before .before .before .before .before .before .before .before .before .before .before .before .before .before .before .before .before .before .pre .0 in let u = c .before .before .before .before .before .before .before .before .before .before .before .before .before .before .before .before .before .before .before .before .before .before .before .before .before .before .before .before .before .before .loop .inv .0 (p .setting) (p .limits) in let h = c .before .before .before .before .before .before .before .before .before .before .before .before .before .before .before .before .before .before .run-plain .ensures (p .setting) (wrapAt _ (errorsAt _ none-other)) _ _ u in reached-stop h (c .before .stop .given .1) .taken-in
 
 same-length : tie.Need-same-length Inv-loop μ-loop
-same-length c = omega (arith, c .before .before .before .before .before .before .before .before .before .before .before .before .before .before .before .before .before .before .before .before .before .before .before .before .before .before .before .before .before .before .before .loop .inv .1, c .before .before .before .before .before .before .before .before .before .before .before .before .before .before .before .before .before .before .before .run-plain .kept)
+same-length c = head (plain-stopped (c .before .before)) .loop .inv .1 .0
 
 same-length-2 : tie.Need-same-length-2 Inv-loop μ-loop
-same-length-2 c = omega (arith, c .before .before .before .before .before .before .before .before .before .before .before .before .before .before .before .before .before .before .before .before .before .before .before .before .before .before .before .before .before .before .before .loop .inv .1, c .before .before .before .before .before .before .before .before .before .before .before .before .before .before .before .before .before .before .before .run-plain .kept)
+same-length-2 c = plain-stopped (c .before .before) .run-plain .kept .1 .1 .0 ∙ head (plain-stopped (c .before .before)) .loop .inv .1 .1
 
 same-length-3 : tie.Need-same-length-3 Inv-loop μ-loop
-same-length-3 c = omega (arith, c .before .before .before .before .before .before .before .before .before .before .before .before .before .before .before .before .before .before .before .before .before .before .before .before .before .before .before .before .before .before .before .loop .inv .1, c .before .before .before .before .before .before .before .before .before .before .before .before .before .before .before .before .before .before .before .run-plain .kept)
+same-length-3 c = plain-stopped (c .before .before) .run-plain .kept .1 .1 .1 .0 ∙ head (plain-stopped (c .before .before)) .loop .inv .1 .2
 
 same-length-4 : tie.Need-same-length-4 Inv-loop μ-loop
-same-length-4 c = omega (arith, c .before .before .before .before .before .before .before .before .before .before .before .before .before .before .before .before .before .before .before .before .before .before .before .before .before .before .before .before .before .before .before .loop .inv .1, c .before .before .before .before .before .before .before .before .before .before .before .before .before .before .before .before .before .before .before .run-plain .kept)
+same-length-4 c = plain-stopped (c .before .before) .run-plain .kept .1 .1 .1 .1 .0 ∙ head (plain-stopped (c .before .before)) .loop .inv .1 .3
 
 same-length-5 : tie.Need-same-length-5 Inv-loop μ-loop
-same-length-5 c = omega (arith, c .before .before .before .before .before .before .before .before .before .before .before .before .before .before .before .before .before .before .before .before .before .before .before .before .before .before .before .before .before .before .before .loop .inv .1, c .before .before .before .before .before .before .before .before .before .before .before .before .before .before .before .before .before .before .before .run-plain .kept)
+same-length-5 c = head (plain-stopped (c .before .before)) .loop .inv .1 .4
 
 same-length-6 : tie.Need-same-length-6 Inv-loop μ-loop
-same-length-6 c = omega (arith, c .before .before .before .before .before .before .before .before .before .before .before .before .before .before .before .before .before .before .before .before .before .before .before .before .before .before .before .before .before .before .before .loop .inv .1, c .before .before .before .before .before .before .before .before .before .before .before .before .before .before .before .before .before .before .before .run-plain .kept)
+same-length-6 c = head (plain-stopped (c .before .before)) .loop .inv .1 .5
 
 same-length-7 : tie.Need-same-length-7 Inv-loop μ-loop
-same-length-7 c = omega (arith, c .before .before .before .before .before .before .before .before .before .before .before .before .before .before .before .before .before .before .before .before .before .before .before .before .before .before .before .before .before .before .before .loop .inv .1, c .before .before .before .before .before .before .before .before .before .before .before .before .before .before .before .before .before .before .before .run-plain .kept)
+same-length-7 c = plain-stopped (c .before .before) .run-plain .kept .1 .1 .1 .1 .1 .1 .1 .0 ∙ head (plain-stopped (c .before .before)) .loop .inv .1 .6
 
 same-length-8 : tie.Need-same-length-8 Inv-loop μ-loop
-same-length-8 c = omega (arith, c .before .before .before .before .before .before .before .before .before .before .before .before .before .before .before .before .before .before .before .before .before .before .before .before .before .before .before .before .before .before .before .loop .inv .1, c .before .before .before .before .before .before .before .before .before .before .before .before .before .before .before .before .before .before .before .run-plain .kept)
+same-length-8 c = plain-stopped (c .before .before) .run-plain .kept .1 .1 .1 .1 .1 .1 .1 .1 .0 ∙ head (plain-stopped (c .before .before)) .loop .inv .1 .7
 
 same-length-9 : tie.Need-same-length-9 Inv-loop μ-loop
-same-length-9 c = omega (arith, c .before .before .before .before .before .before .before .before .before .before .before .before .before .before .before .before .before .before .before .before .before .before .before .before .before .before .before .before .before .before .before .loop .inv .1, c .before .before .before .before .before .before .before .before .before .before .before .before .before .before .before .before .before .before .before .run-plain .kept)
+same-length-9 c = head (plain-stopped (c .before .before)) .loop .inv .1 .8
 
 same-length-10 : tie.Need-same-length-10 Inv-loop μ-loop
-same-length-10 c = omega (arith, c .before .before .before .before .before .before .before .before .before .before .before .before .before .before .before .before .before .before .before .before .before .before .before .before .before .before .before .before .before .before .before .loop .inv .1, c .before .before .before .before .before .before .before .before .before .before .before .before .before .before .before .before .before .before .before .run-plain .kept)
+same-length-10 c = head (plain-stopped (c .before .before)) .loop .inv .1 .9
 
 same-length-11 : tie.Need-same-length-11 Inv-loop μ-loop
-same-length-11 c = omega (arith, c .before .before .before .before .before .before .before .before .before .before .before .before .before .before .before .before .before .before .before .before .before .before .before .before .before .before .before .before .before .before .before .loop .inv .1, c .before .before .before .before .before .before .before .before .before .before .before .before .before .before .before .before .before .before .before .run-plain .kept)
+same-length-11 c = plain-stopped (c .before .before) .run-plain .kept .1 .1 .1 .1 .1 .1 .1 .1 .1 .0 ∙ head (plain-stopped (c .before .before)) .loop .inv .1 .10
 
 same-length-12 : tie.Need-same-length-12 Inv-loop μ-loop
-same-length-12 c = omega (arith, c .before .before .before .before .before .before .before .before .before .before .before .before .before .before .before .before .before .before .before .before .before .before .before .before .before .before .before .before .before .before .before .loop .inv .1, c .before .before .before .before .before .before .before .before .before .before .before .before .before .before .before .before .before .before .before .run-plain .kept)
+same-length-12 c = plain-stopped (c .before .before) .run-plain .kept .1 .1 .1 .1 .1 .1 .1 .1 .1 .1 .0 ∙ head (plain-stopped (c .before .before)) .loop .inv .1 .11
 
 returns : tie.Need-returns Inv-loop μ-loop
 returns c = λ a l. let u = c .before .before .before .before .before .before .before .before .before .before .before .before .before .before .before .before .before .before .before .before .before .before .before .before .before .before .before .before .before .before .before .loop .inv .0 a l in let h = c .before .before .before .before .before .before .before .before .before .before .before .before .before .before .before .before .before .before .before .run-plain .ensures a (wrapAt _ (errorsAt _ none-other)) _ _ u in subst (Ran _ _ _) (sym (c .stopped .ensures)) (ran-recount _ _ _ (omega (arith, h .few, c .before .before .before .before .before .before .before .before .before .before .before .before .before .before .before .before .before .before .before .before .before .before .before .before .before .before .before .before .before .before .before .loop .inv .2)) (reached-stop h (c .before .before .stop .given .1) .ran _ _))
@@ -106,40 +131,40 @@ stopped-requires-2 : tie.Need-stopped-requires-2 Inv-loop μ-loop
 stopped-requires-2 c κs = let p = c .before .before .before .before .before .before .before .before .before .before .before .before .before .before .before .before .before .before .before .before .before .before .before .before .before .before .before .before .before .before .before .before .before .before .before .before .before .before .before .before .before .before .before .before .before .before .before .before .before .before .before .before .before .before .before .before .before .before .before .before .before .before .before .before .before .before .before .before .before .before .before .before .before .before .before .before .before .before .before .pre .0 in let u = c .before .before .before .before .before .before .before .before .before .before .before .before .before .before .before .before .before .before .before .before .before .before .before .before .before .before .before .before .before .before .before .before .before .before .before .before .before .before .before .before .before .before .before .before .before .before .before .before .before .before .before .before .before .before .before .before .before .before .before .before .before .before .before .before .loop .inv .0 (p .setting) (p .limits) in let h = c .before .before .before .before .before .before .before .before .before .before .before .before .before .before .before .before .before .before .before .before .before .before .before .before .before .before .before .before .before .before .before .before .before .before .before .before .before .before .before .before .before .before .before .before .before .before .before .before .before .before .before .before .run-plain .ensures (p .setting) (wrapAt _ (errorsAt _ none-other)) _ _ u in let g = reached-special h (c .before .before .before .before .before .before .before .before .before .before .before .before .before .before .before .before .before .before .before .before .before .before .before .before .before .before .before .before .before .before .before .before .before .before .before .stop2 .given .1) in taken-few (g .running)
 
 same-length-13 : tie.Need-same-length-13 Inv-loop μ-loop
-same-length-13 c = omega (arith, c .before .before .before .before .before .before .before .before .before .before .before .before .before .before .before .before .before .before .before .before .before .before .before .before .before .before .before .before .before .before .before .before .before .before .before .before .before .before .before .before .before .before .before .before .before .before .before .before .before .before .before .before .before .before .before .before .before .before .before .before .before .before .before .before .before .loop .inv .1, c .before .before .before .before .before .before .before .before .before .before .before .before .before .before .before .before .before .before .before .before .before .before .before .before .before .before .before .before .before .before .before .before .before .before .before .before .before .before .before .before .before .before .before .before .before .before .before .before .before .before .before .before .before .run-plain .kept, c .before .before .before .before .before .before .before .before .before .before .before .before .before .before .before .before .before .before .before .before .before .before .special-step .kept)
+same-length-13 c = special-refused (c .before .before) .special-step .kept .1 .0 ∙ head (plain (stop (special-refused (c .before .before)))) .loop .inv .1 .0
 
 same-length-14 : tie.Need-same-length-14 Inv-loop μ-loop
-same-length-14 c = omega (arith, c .before .before .before .before .before .before .before .before .before .before .before .before .before .before .before .before .before .before .before .before .before .before .before .before .before .before .before .before .before .before .before .before .before .before .before .before .before .before .before .before .before .before .before .before .before .before .before .before .before .before .before .before .before .before .before .before .before .before .before .before .before .before .before .before .before .loop .inv .1, c .before .before .before .before .before .before .before .before .before .before .before .before .before .before .before .before .before .before .before .before .before .before .before .before .before .before .before .before .before .before .before .before .before .before .before .before .before .before .before .before .before .before .before .before .before .before .before .before .before .before .before .before .before .run-plain .kept, c .before .before .before .before .before .before .before .before .before .before .before .before .before .before .before .before .before .before .before .before .before .before .special-step .kept)
+same-length-14 c = plain (stop (special-refused (c .before .before))) .run-plain .kept .1 .1 .0 ∙ head (plain (stop (special-refused (c .before .before)))) .loop .inv .1 .1
 
 same-length-15 : tie.Need-same-length-15 Inv-loop μ-loop
-same-length-15 c = omega (arith, c .before .before .before .before .before .before .before .before .before .before .before .before .before .before .before .before .before .before .before .before .before .before .before .before .before .before .before .before .before .before .before .before .before .before .before .before .before .before .before .before .before .before .before .before .before .before .before .before .before .before .before .before .before .before .before .before .before .before .before .before .before .before .before .before .before .loop .inv .1, c .before .before .before .before .before .before .before .before .before .before .before .before .before .before .before .before .before .before .before .before .before .before .before .before .before .before .before .before .before .before .before .before .before .before .before .before .before .before .before .before .before .before .before .before .before .before .before .before .before .before .before .before .before .run-plain .kept, c .before .before .before .before .before .before .before .before .before .before .before .before .before .before .before .before .before .before .before .before .before .before .special-step .kept)
+same-length-15 c = plain (stop (special-refused (c .before .before))) .run-plain .kept .1 .1 .1 .0 ∙ head (plain (stop (special-refused (c .before .before)))) .loop .inv .1 .2
 
 same-length-16 : tie.Need-same-length-16 Inv-loop μ-loop
-same-length-16 c = omega (arith, c .before .before .before .before .before .before .before .before .before .before .before .before .before .before .before .before .before .before .before .before .before .before .before .before .before .before .before .before .before .before .before .before .before .before .before .before .before .before .before .before .before .before .before .before .before .before .before .before .before .before .before .before .before .before .before .before .before .before .before .before .before .before .before .before .before .loop .inv .1, c .before .before .before .before .before .before .before .before .before .before .before .before .before .before .before .before .before .before .before .before .before .before .before .before .before .before .before .before .before .before .before .before .before .before .before .before .before .before .before .before .before .before .before .before .before .before .before .before .before .before .before .before .before .run-plain .kept, c .before .before .before .before .before .before .before .before .before .before .before .before .before .before .before .before .before .before .before .before .before .before .special-step .kept)
+same-length-16 c = plain (stop (special-refused (c .before .before))) .run-plain .kept .1 .1 .1 .1 .0 ∙ head (plain (stop (special-refused (c .before .before)))) .loop .inv .1 .3
 
 same-length-17 : tie.Need-same-length-17 Inv-loop μ-loop
-same-length-17 c = omega (arith, c .before .before .before .before .before .before .before .before .before .before .before .before .before .before .before .before .before .before .before .before .before .before .before .before .before .before .before .before .before .before .before .before .before .before .before .before .before .before .before .before .before .before .before .before .before .before .before .before .before .before .before .before .before .before .before .before .before .before .before .before .before .before .before .before .before .loop .inv .1, c .before .before .before .before .before .before .before .before .before .before .before .before .before .before .before .before .before .before .before .before .before .before .before .before .before .before .before .before .before .before .before .before .before .before .before .before .before .before .before .before .before .before .before .before .before .before .before .before .before .before .before .before .before .run-plain .kept, c .before .before .before .before .before .before .before .before .before .before .before .before .before .before .before .before .before .before .before .before .before .before .special-step .kept)
+same-length-17 c = special-refused (c .before .before) .special-step .kept .1 .1 .1 .1 .1 .0 ∙ head (plain (stop (special-refused (c .before .before)))) .loop .inv .1 .4
 
 same-length-18 : tie.Need-same-length-18 Inv-loop μ-loop
-same-length-18 c = omega (arith, c .before .before .before .before .before .before .before .before .before .before .before .before .before .before .before .before .before .before .before .before .before .before .before .before .before .before .before .before .before .before .before .before .before .before .before .before .before .before .before .before .before .before .before .before .before .before .before .before .before .before .before .before .before .before .before .before .before .before .before .before .before .before .before .before .before .loop .inv .1, c .before .before .before .before .before .before .before .before .before .before .before .before .before .before .before .before .before .before .before .before .before .before .before .before .before .before .before .before .before .before .before .before .before .before .before .before .before .before .before .before .before .before .before .before .before .before .before .before .before .before .before .before .before .run-plain .kept, c .before .before .before .before .before .before .before .before .before .before .before .before .before .before .before .before .before .before .before .before .before .before .special-step .kept)
+same-length-18 c = special-refused (c .before .before) .special-step .kept .1 .1 .1 .1 .1 .1 .0 ∙ head (plain (stop (special-refused (c .before .before)))) .loop .inv .1 .5
 
 same-length-19 : tie.Need-same-length-19 Inv-loop μ-loop
-same-length-19 c = omega (arith, c .before .before .before .before .before .before .before .before .before .before .before .before .before .before .before .before .before .before .before .before .before .before .before .before .before .before .before .before .before .before .before .before .before .before .before .before .before .before .before .before .before .before .before .before .before .before .before .before .before .before .before .before .before .before .before .before .before .before .before .before .before .before .before .before .before .loop .inv .1, c .before .before .before .before .before .before .before .before .before .before .before .before .before .before .before .before .before .before .before .before .before .before .before .before .before .before .before .before .before .before .before .before .before .before .before .before .before .before .before .before .before .before .before .before .before .before .before .before .before .before .before .before .before .run-plain .kept, c .before .before .before .before .before .before .before .before .before .before .before .before .before .before .before .before .before .before .before .before .before .before .special-step .kept)
+same-length-19 c = special-refused (c .before .before) .special-step .kept .1 .1 .1 .1 .1 .1 .1 .0 ∙ plain (stop (special-refused (c .before .before))) .run-plain .kept .1 .1 .1 .1 .1 .1 .1 .0 ∙ head (plain (stop (special-refused (c .before .before)))) .loop .inv .1 .6
 
 same-length-20 : tie.Need-same-length-20 Inv-loop μ-loop
-same-length-20 c = omega (arith, c .before .before .before .before .before .before .before .before .before .before .before .before .before .before .before .before .before .before .before .before .before .before .before .before .before .before .before .before .before .before .before .before .before .before .before .before .before .before .before .before .before .before .before .before .before .before .before .before .before .before .before .before .before .before .before .before .before .before .before .before .before .before .before .before .before .loop .inv .1, c .before .before .before .before .before .before .before .before .before .before .before .before .before .before .before .before .before .before .before .before .before .before .before .before .before .before .before .before .before .before .before .before .before .before .before .before .before .before .before .before .before .before .before .before .before .before .before .before .before .before .before .before .before .run-plain .kept, c .before .before .before .before .before .before .before .before .before .before .before .before .before .before .before .before .before .before .before .before .before .before .special-step .kept)
+same-length-20 c = special-refused (c .before .before) .special-step .kept .1 .1 .1 .1 .1 .1 .1 .1 .0 ∙ plain (stop (special-refused (c .before .before))) .run-plain .kept .1 .1 .1 .1 .1 .1 .1 .1 .0 ∙ head (plain (stop (special-refused (c .before .before)))) .loop .inv .1 .7
 
 same-length-21 : tie.Need-same-length-21 Inv-loop μ-loop
-same-length-21 c = omega (arith, c .before .before .before .before .before .before .before .before .before .before .before .before .before .before .before .before .before .before .before .before .before .before .before .before .before .before .before .before .before .before .before .before .before .before .before .before .before .before .before .before .before .before .before .before .before .before .before .before .before .before .before .before .before .before .before .before .before .before .before .before .before .before .before .before .before .loop .inv .1, c .before .before .before .before .before .before .before .before .before .before .before .before .before .before .before .before .before .before .before .before .before .before .before .before .before .before .before .before .before .before .before .before .before .before .before .before .before .before .before .before .before .before .before .before .before .before .before .before .before .before .before .before .before .run-plain .kept, c .before .before .before .before .before .before .before .before .before .before .before .before .before .before .before .before .before .before .before .before .before .before .special-step .kept)
+same-length-21 c = special-refused (c .before .before) .special-step .kept .1 .1 .1 .1 .1 .1 .1 .1 .1 .0 ∙ head (plain (stop (special-refused (c .before .before)))) .loop .inv .1 .8
 
 same-length-22 : tie.Need-same-length-22 Inv-loop μ-loop
-same-length-22 c = omega (arith, c .before .before .before .before .before .before .before .before .before .before .before .before .before .before .before .before .before .before .before .before .before .before .before .before .before .before .before .before .before .before .before .before .before .before .before .before .before .before .before .before .before .before .before .before .before .before .before .before .before .before .before .before .before .before .before .before .before .before .before .before .before .before .before .before .before .loop .inv .1, c .before .before .before .before .before .before .before .before .before .before .before .before .before .before .before .before .before .before .before .before .before .before .before .before .before .before .before .before .before .before .before .before .before .before .before .before .before .before .before .before .before .before .before .before .before .before .before .before .before .before .before .before .before .run-plain .kept, c .before .before .before .before .before .before .before .before .before .before .before .before .before .before .before .before .before .before .before .before .before .before .special-step .kept)
+same-length-22 c = special-refused (c .before .before) .special-step .kept .1 .1 .1 .1 .1 .1 .1 .1 .1 .1 .0 ∙ head (plain (stop (special-refused (c .before .before)))) .loop .inv .1 .9
 
 same-length-23 : tie.Need-same-length-23 Inv-loop μ-loop
-same-length-23 c = omega (arith, c .before .before .before .before .before .before .before .before .before .before .before .before .before .before .before .before .before .before .before .before .before .before .before .before .before .before .before .before .before .before .before .before .before .before .before .before .before .before .before .before .before .before .before .before .before .before .before .before .before .before .before .before .before .before .before .before .before .before .before .before .before .before .before .before .before .loop .inv .1, c .before .before .before .before .before .before .before .before .before .before .before .before .before .before .before .before .before .before .before .before .before .before .before .before .before .before .before .before .before .before .before .before .before .before .before .before .before .before .before .before .before .before .before .before .before .before .before .before .before .before .before .before .before .run-plain .kept, c .before .before .before .before .before .before .before .before .before .before .before .before .before .before .before .before .before .before .before .before .before .before .special-step .kept)
+same-length-23 c = special-refused (c .before .before) .special-step .kept .1 .1 .1 .1 .1 .1 .1 .1 .1 .1 .1 .0 ∙ plain (stop (special-refused (c .before .before))) .run-plain .kept .1 .1 .1 .1 .1 .1 .1 .1 .1 .0 ∙ head (plain (stop (special-refused (c .before .before)))) .loop .inv .1 .10
 
 same-length-24 : tie.Need-same-length-24 Inv-loop μ-loop
-same-length-24 c = omega (arith, c .before .before .before .before .before .before .before .before .before .before .before .before .before .before .before .before .before .before .before .before .before .before .before .before .before .before .before .before .before .before .before .before .before .before .before .before .before .before .before .before .before .before .before .before .before .before .before .before .before .before .before .before .before .before .before .before .before .before .before .before .before .before .before .before .before .loop .inv .1, c .before .before .before .before .before .before .before .before .before .before .before .before .before .before .before .before .before .before .before .before .before .before .before .before .before .before .before .before .before .before .before .before .before .before .before .before .before .before .before .before .before .before .before .before .before .before .before .before .before .before .before .before .before .run-plain .kept, c .before .before .before .before .before .before .before .before .before .before .before .before .before .before .before .before .before .before .before .before .before .before .special-step .kept)
+same-length-24 c = special-refused (c .before .before) .special-step .kept .1 .1 .1 .1 .1 .1 .1 .1 .1 .1 .1 .1 .0 ∙ plain (stop (special-refused (c .before .before))) .run-plain .kept .1 .1 .1 .1 .1 .1 .1 .1 .1 .1 .0 ∙ head (plain (stop (special-refused (c .before .before)))) .loop .inv .1 .11
 
 returns-2 : tie.Need-returns-2 Inv-loop μ-loop
 returns-2 c = λ a l. let u = c .before .before .before .before .before .before .before .before .before .before .before .before .before .before .before .before .before .before .before .before .before .before .before .before .before .before .before .before .before .before .before .before .before .before .before .before .before .before .before .before .before .before .before .before .before .before .before .before .before .before .before .before .before .before .before .before .before .before .before .before .before .before .before .before .before .loop .inv .0 a l in let h = c .before .before .before .before .before .before .before .before .before .before .before .before .before .before .before .before .before .before .before .before .before .before .before .before .before .before .before .before .before .before .before .before .before .before .before .before .before .before .before .before .before .before .before .before .before .before .before .before .before .before .before .before .before .run-plain .ensures a (wrapAt _ (errorsAt _ none-other)) _ _ u in let g = reached-special h (c .before .before .before .before .before .before .before .before .before .before .before .before .before .before .before .before .before .before .before .before .before .before .before .before .before .before .before .before .before .before .before .before .before .before .before .before .stop2 .given .1) in subst (Ran _ _ _) (sym (c .stopped2 .ensures)) (ran-recount _ _ _ (omega (arith, h .few, c .before .before .before .before .before .before .before .before .before .before .before .before .before .before .before .before .before .before .before .before .before .before .before .before .before .before .before .before .before .before .before .before .before .before .before .before .before .before .before .before .before .before .before .before .before .before .before .before .before .before .before .before .before .before .before .before .before .before .before .before .before .before .before .before .before .loop .inv .2)) (run-refused (g .running) (g .more) (c .before .before .before .before .before .before .before .before .before .before .before .before .before .before .before .before .before .before .before .before .before .before .special-step .ensures a (g .running .state) none-other (g .running .means) (g .is)) _ (c .before .before .went .given .1) _ _))
@@ -157,40 +182,40 @@ finished-requires : tie.Need-finished-requires Inv-loop μ-loop
 finished-requires c κs = let p = c .before .before .before .before .before .before .before .before .before .before .before .before .before .before .before .before .before .before .before .before .before .before .before .before .before .before .before .before .before .before .before .before .before .before .before .before .before .before .before .before .before .before .before .before .before .before .before .before .before .before .before .before .before .before .before .before .before .before .before .before .before .before .before .before .before .before .before .before .before .before .before .before .before .before .before .before .before .before .before .pre .0 in let u = c .before .before .before .before .before .before .before .before .before .before .before .before .before .before .before .before .before .before .before .before .before .before .before .before .before .before .before .before .before .before .before .before .before .before .before .before .before .before .before .before .before .before .before .before .before .before .before .before .before .before .before .before .before .before .before .before .before .before .before .before .before .before .before .before .loop .inv .0 (p .setting) (p .limits) in let h = c .before .before .before .before .before .before .before .before .before .before .before .before .before .before .before .before .before .before .before .before .before .before .before .before .before .before .before .before .before .before .before .before .before .before .before .before .before .before .before .before .before .before .before .before .before .before .before .before .before .before .before .before .run-plain .ensures (p .setting) (wrapAt _ (errorsAt _ none-other)) _ _ u in let g = reached-special h (c .before .before .before .before .before .before .before .before .before .before .before .before .before .before .before .before .before .before .before .before .before .before .before .before .before .before .before .before .before .before .before .before .before .before .before .stop2 .given .1) in run-few (g .running) (g .more) (c .before .before .before .before .before .before .before .before .before .before .before .before .before .before .before .before .before .before .before .before .before .special-step .ensures (p .setting) (g .running .state) none-other (g .running .means) (g .is)) _ (c .before .went2 .given .1)
 
 same-length-25 : tie.Need-same-length-25 Inv-loop μ-loop
-same-length-25 c = omega (arith, c .before .before .before .before .before .before .before .before .before .before .before .before .before .before .before .before .before .before .before .before .before .before .before .before .before .before .before .before .before .before .before .before .before .before .before .before .before .before .before .before .before .before .before .before .before .before .before .before .before .before .before .before .before .before .before .before .before .before .before .before .before .before .before .before .before .loop .inv .1, c .before .before .before .before .before .before .before .before .before .before .before .before .before .before .before .before .before .before .before .before .before .before .before .before .before .before .before .before .before .before .before .before .before .before .before .before .before .before .before .before .before .before .before .before .before .before .before .before .before .before .before .before .before .run-plain .kept, c .before .before .before .before .before .before .before .before .before .before .before .before .before .before .before .before .before .before .before .before .before .before .special-step .kept)
+same-length-25 c = special-ended (c .before .before) .special-step .kept .1 .0 ∙ head (plain (stop (special-ended (c .before .before)))) .loop .inv .1 .0
 
 same-length-26 : tie.Need-same-length-26 Inv-loop μ-loop
-same-length-26 c = omega (arith, c .before .before .before .before .before .before .before .before .before .before .before .before .before .before .before .before .before .before .before .before .before .before .before .before .before .before .before .before .before .before .before .before .before .before .before .before .before .before .before .before .before .before .before .before .before .before .before .before .before .before .before .before .before .before .before .before .before .before .before .before .before .before .before .before .before .loop .inv .1, c .before .before .before .before .before .before .before .before .before .before .before .before .before .before .before .before .before .before .before .before .before .before .before .before .before .before .before .before .before .before .before .before .before .before .before .before .before .before .before .before .before .before .before .before .before .before .before .before .before .before .before .before .before .run-plain .kept, c .before .before .before .before .before .before .before .before .before .before .before .before .before .before .before .before .before .before .before .before .before .before .special-step .kept)
+same-length-26 c = plain (stop (special-ended (c .before .before))) .run-plain .kept .1 .1 .0 ∙ head (plain (stop (special-ended (c .before .before)))) .loop .inv .1 .1
 
 same-length-27 : tie.Need-same-length-27 Inv-loop μ-loop
-same-length-27 c = omega (arith, c .before .before .before .before .before .before .before .before .before .before .before .before .before .before .before .before .before .before .before .before .before .before .before .before .before .before .before .before .before .before .before .before .before .before .before .before .before .before .before .before .before .before .before .before .before .before .before .before .before .before .before .before .before .before .before .before .before .before .before .before .before .before .before .before .before .loop .inv .1, c .before .before .before .before .before .before .before .before .before .before .before .before .before .before .before .before .before .before .before .before .before .before .before .before .before .before .before .before .before .before .before .before .before .before .before .before .before .before .before .before .before .before .before .before .before .before .before .before .before .before .before .before .before .run-plain .kept, c .before .before .before .before .before .before .before .before .before .before .before .before .before .before .before .before .before .before .before .before .before .before .special-step .kept)
+same-length-27 c = plain (stop (special-ended (c .before .before))) .run-plain .kept .1 .1 .1 .0 ∙ head (plain (stop (special-ended (c .before .before)))) .loop .inv .1 .2
 
 same-length-28 : tie.Need-same-length-28 Inv-loop μ-loop
-same-length-28 c = omega (arith, c .before .before .before .before .before .before .before .before .before .before .before .before .before .before .before .before .before .before .before .before .before .before .before .before .before .before .before .before .before .before .before .before .before .before .before .before .before .before .before .before .before .before .before .before .before .before .before .before .before .before .before .before .before .before .before .before .before .before .before .before .before .before .before .before .before .loop .inv .1, c .before .before .before .before .before .before .before .before .before .before .before .before .before .before .before .before .before .before .before .before .before .before .before .before .before .before .before .before .before .before .before .before .before .before .before .before .before .before .before .before .before .before .before .before .before .before .before .before .before .before .before .before .before .run-plain .kept, c .before .before .before .before .before .before .before .before .before .before .before .before .before .before .before .before .before .before .before .before .before .before .special-step .kept)
+same-length-28 c = plain (stop (special-ended (c .before .before))) .run-plain .kept .1 .1 .1 .1 .0 ∙ head (plain (stop (special-ended (c .before .before)))) .loop .inv .1 .3
 
 same-length-29 : tie.Need-same-length-29 Inv-loop μ-loop
-same-length-29 c = omega (arith, c .before .before .before .before .before .before .before .before .before .before .before .before .before .before .before .before .before .before .before .before .before .before .before .before .before .before .before .before .before .before .before .before .before .before .before .before .before .before .before .before .before .before .before .before .before .before .before .before .before .before .before .before .before .before .before .before .before .before .before .before .before .before .before .before .before .loop .inv .1, c .before .before .before .before .before .before .before .before .before .before .before .before .before .before .before .before .before .before .before .before .before .before .before .before .before .before .before .before .before .before .before .before .before .before .before .before .before .before .before .before .before .before .before .before .before .before .before .before .before .before .before .before .before .run-plain .kept, c .before .before .before .before .before .before .before .before .before .before .before .before .before .before .before .before .before .before .before .before .before .before .special-step .kept)
+same-length-29 c = special-ended (c .before .before) .special-step .kept .1 .1 .1 .1 .1 .0 ∙ head (plain (stop (special-ended (c .before .before)))) .loop .inv .1 .4
 
 same-length-30 : tie.Need-same-length-30 Inv-loop μ-loop
-same-length-30 c = omega (arith, c .before .before .before .before .before .before .before .before .before .before .before .before .before .before .before .before .before .before .before .before .before .before .before .before .before .before .before .before .before .before .before .before .before .before .before .before .before .before .before .before .before .before .before .before .before .before .before .before .before .before .before .before .before .before .before .before .before .before .before .before .before .before .before .before .before .loop .inv .1, c .before .before .before .before .before .before .before .before .before .before .before .before .before .before .before .before .before .before .before .before .before .before .before .before .before .before .before .before .before .before .before .before .before .before .before .before .before .before .before .before .before .before .before .before .before .before .before .before .before .before .before .before .before .run-plain .kept, c .before .before .before .before .before .before .before .before .before .before .before .before .before .before .before .before .before .before .before .before .before .before .special-step .kept)
+same-length-30 c = special-ended (c .before .before) .special-step .kept .1 .1 .1 .1 .1 .1 .0 ∙ head (plain (stop (special-ended (c .before .before)))) .loop .inv .1 .5
 
 same-length-31 : tie.Need-same-length-31 Inv-loop μ-loop
-same-length-31 c = omega (arith, c .before .before .before .before .before .before .before .before .before .before .before .before .before .before .before .before .before .before .before .before .before .before .before .before .before .before .before .before .before .before .before .before .before .before .before .before .before .before .before .before .before .before .before .before .before .before .before .before .before .before .before .before .before .before .before .before .before .before .before .before .before .before .before .before .before .loop .inv .1, c .before .before .before .before .before .before .before .before .before .before .before .before .before .before .before .before .before .before .before .before .before .before .before .before .before .before .before .before .before .before .before .before .before .before .before .before .before .before .before .before .before .before .before .before .before .before .before .before .before .before .before .before .before .run-plain .kept, c .before .before .before .before .before .before .before .before .before .before .before .before .before .before .before .before .before .before .before .before .before .before .special-step .kept)
+same-length-31 c = special-ended (c .before .before) .special-step .kept .1 .1 .1 .1 .1 .1 .1 .0 ∙ plain (stop (special-ended (c .before .before))) .run-plain .kept .1 .1 .1 .1 .1 .1 .1 .0 ∙ head (plain (stop (special-ended (c .before .before)))) .loop .inv .1 .6
 
 same-length-32 : tie.Need-same-length-32 Inv-loop μ-loop
-same-length-32 c = omega (arith, c .before .before .before .before .before .before .before .before .before .before .before .before .before .before .before .before .before .before .before .before .before .before .before .before .before .before .before .before .before .before .before .before .before .before .before .before .before .before .before .before .before .before .before .before .before .before .before .before .before .before .before .before .before .before .before .before .before .before .before .before .before .before .before .before .before .loop .inv .1, c .before .before .before .before .before .before .before .before .before .before .before .before .before .before .before .before .before .before .before .before .before .before .before .before .before .before .before .before .before .before .before .before .before .before .before .before .before .before .before .before .before .before .before .before .before .before .before .before .before .before .before .before .before .run-plain .kept, c .before .before .before .before .before .before .before .before .before .before .before .before .before .before .before .before .before .before .before .before .before .before .special-step .kept)
+same-length-32 c = special-ended (c .before .before) .special-step .kept .1 .1 .1 .1 .1 .1 .1 .1 .0 ∙ plain (stop (special-ended (c .before .before))) .run-plain .kept .1 .1 .1 .1 .1 .1 .1 .1 .0 ∙ head (plain (stop (special-ended (c .before .before)))) .loop .inv .1 .7
 
 same-length-33 : tie.Need-same-length-33 Inv-loop μ-loop
-same-length-33 c = omega (arith, c .before .before .before .before .before .before .before .before .before .before .before .before .before .before .before .before .before .before .before .before .before .before .before .before .before .before .before .before .before .before .before .before .before .before .before .before .before .before .before .before .before .before .before .before .before .before .before .before .before .before .before .before .before .before .before .before .before .before .before .before .before .before .before .before .before .loop .inv .1, c .before .before .before .before .before .before .before .before .before .before .before .before .before .before .before .before .before .before .before .before .before .before .before .before .before .before .before .before .before .before .before .before .before .before .before .before .before .before .before .before .before .before .before .before .before .before .before .before .before .before .before .before .before .run-plain .kept, c .before .before .before .before .before .before .before .before .before .before .before .before .before .before .before .before .before .before .before .before .before .before .special-step .kept)
+same-length-33 c = special-ended (c .before .before) .special-step .kept .1 .1 .1 .1 .1 .1 .1 .1 .1 .0 ∙ head (plain (stop (special-ended (c .before .before)))) .loop .inv .1 .8
 
 same-length-34 : tie.Need-same-length-34 Inv-loop μ-loop
-same-length-34 c = omega (arith, c .before .before .before .before .before .before .before .before .before .before .before .before .before .before .before .before .before .before .before .before .before .before .before .before .before .before .before .before .before .before .before .before .before .before .before .before .before .before .before .before .before .before .before .before .before .before .before .before .before .before .before .before .before .before .before .before .before .before .before .before .before .before .before .before .before .loop .inv .1, c .before .before .before .before .before .before .before .before .before .before .before .before .before .before .before .before .before .before .before .before .before .before .before .before .before .before .before .before .before .before .before .before .before .before .before .before .before .before .before .before .before .before .before .before .before .before .before .before .before .before .before .before .before .run-plain .kept, c .before .before .before .before .before .before .before .before .before .before .before .before .before .before .before .before .before .before .before .before .before .before .special-step .kept)
+same-length-34 c = special-ended (c .before .before) .special-step .kept .1 .1 .1 .1 .1 .1 .1 .1 .1 .1 .0 ∙ head (plain (stop (special-ended (c .before .before)))) .loop .inv .1 .9
 
 same-length-35 : tie.Need-same-length-35 Inv-loop μ-loop
-same-length-35 c = omega (arith, c .before .before .before .before .before .before .before .before .before .before .before .before .before .before .before .before .before .before .before .before .before .before .before .before .before .before .before .before .before .before .before .before .before .before .before .before .before .before .before .before .before .before .before .before .before .before .before .before .before .before .before .before .before .before .before .before .before .before .before .before .before .before .before .before .before .loop .inv .1, c .before .before .before .before .before .before .before .before .before .before .before .before .before .before .before .before .before .before .before .before .before .before .before .before .before .before .before .before .before .before .before .before .before .before .before .before .before .before .before .before .before .before .before .before .before .before .before .before .before .before .before .before .before .run-plain .kept, c .before .before .before .before .before .before .before .before .before .before .before .before .before .before .before .before .before .before .before .before .before .before .special-step .kept)
+same-length-35 c = special-ended (c .before .before) .special-step .kept .1 .1 .1 .1 .1 .1 .1 .1 .1 .1 .1 .0 ∙ plain (stop (special-ended (c .before .before))) .run-plain .kept .1 .1 .1 .1 .1 .1 .1 .1 .1 .0 ∙ head (plain (stop (special-ended (c .before .before)))) .loop .inv .1 .10
 
 same-length-36 : tie.Need-same-length-36 Inv-loop μ-loop
-same-length-36 c = omega (arith, c .before .before .before .before .before .before .before .before .before .before .before .before .before .before .before .before .before .before .before .before .before .before .before .before .before .before .before .before .before .before .before .before .before .before .before .before .before .before .before .before .before .before .before .before .before .before .before .before .before .before .before .before .before .before .before .before .before .before .before .before .before .before .before .before .before .loop .inv .1, c .before .before .before .before .before .before .before .before .before .before .before .before .before .before .before .before .before .before .before .before .before .before .before .before .before .before .before .before .before .before .before .before .before .before .before .before .before .before .before .before .before .before .before .before .before .before .before .before .before .before .before .before .before .run-plain .kept, c .before .before .before .before .before .before .before .before .before .before .before .before .before .before .before .before .before .before .before .before .before .before .special-step .kept)
+same-length-36 c = special-ended (c .before .before) .special-step .kept .1 .1 .1 .1 .1 .1 .1 .1 .1 .1 .1 .1 .0 ∙ plain (stop (special-ended (c .before .before))) .run-plain .kept .1 .1 .1 .1 .1 .1 .1 .1 .1 .1 .0 ∙ head (plain (stop (special-ended (c .before .before)))) .loop .inv .1 .11
 
 returns-3 : tie.Need-returns-3 Inv-loop μ-loop
 returns-3 c = λ a l. let u = c .before .before .before .before .before .before .before .before .before .before .before .before .before .before .before .before .before .before .before .before .before .before .before .before .before .before .before .before .before .before .before .before .before .before .before .before .before .before .before .before .before .before .before .before .before .before .before .before .before .before .before .before .before .before .before .before .before .before .before .before .before .before .before .before .before .loop .inv .0 a l in let h = c .before .before .before .before .before .before .before .before .before .before .before .before .before .before .before .before .before .before .before .before .before .before .before .before .before .before .before .before .before .before .before .before .before .before .before .before .before .before .before .before .before .before .before .before .before .before .before .before .before .before .before .before .before .run-plain .ensures a (wrapAt _ (errorsAt _ none-other)) _ _ u in let g = reached-special h (c .before .before .before .before .before .before .before .before .before .before .before .before .before .before .before .before .before .before .before .before .before .before .before .before .before .before .before .before .before .before .before .before .before .before .before .before .stop2 .given .1) in subst (Ran _ _ _) (sym (c .finished .ensures)) (end-recount _ _ _ (omega (arith, h .few, c .before .before .before .before .before .before .before .before .before .before .before .before .before .before .before .before .before .before .before .before .before .before .before .before .before .before .before .before .before .before .before .before .before .before .before .before .before .before .before .before .before .before .before .before .before .before .before .before .before .before .before .before .before .before .before .before .before .before .before .before .before .before .before .before .before .loop .inv .2)) (run-ended (g .running) (g .more) (c .before .before .before .before .before .before .before .before .before .before .before .before .before .before .before .before .before .before .before .before .before .before .special-step .ensures a (g .running .state) none-other (g .running .means) (g .is)) _ (c .before .before .went2 .given .1)))
@@ -211,40 +236,40 @@ stopped-requires-3 : tie.Need-stopped-requires-3 Inv-loop μ-loop
 stopped-requires-3 c κs = let p = c .before .before .before .before .before .before .before .before .before .before .before .before .before .before .before .before .pre .0 in taken-few (c .before .loop .inv .0 (p .setting) (p .limits))
 
 same-length-37 : tie.Need-same-length-37 Inv-loop μ-loop
-same-length-37 c = omega (arith, c .before .before .loop .inv .1)
+same-length-37 c = c .before .before .loop .inv .1 .0
 
 same-length-38 : tie.Need-same-length-38 Inv-loop μ-loop
-same-length-38 c = omega (arith, c .before .before .loop .inv .1)
+same-length-38 c = c .before .before .loop .inv .1 .1
 
 same-length-39 : tie.Need-same-length-39 Inv-loop μ-loop
-same-length-39 c = omega (arith, c .before .before .loop .inv .1)
+same-length-39 c = c .before .before .loop .inv .1 .2
 
 same-length-40 : tie.Need-same-length-40 Inv-loop μ-loop
-same-length-40 c = omega (arith, c .before .before .loop .inv .1)
+same-length-40 c = c .before .before .loop .inv .1 .3
 
 same-length-41 : tie.Need-same-length-41 Inv-loop μ-loop
-same-length-41 c = omega (arith, c .before .before .loop .inv .1)
+same-length-41 c = c .before .before .loop .inv .1 .4
 
 same-length-42 : tie.Need-same-length-42 Inv-loop μ-loop
-same-length-42 c = omega (arith, c .before .before .loop .inv .1)
+same-length-42 c = c .before .before .loop .inv .1 .5
 
 same-length-43 : tie.Need-same-length-43 Inv-loop μ-loop
-same-length-43 c = omega (arith, c .before .before .loop .inv .1)
+same-length-43 c = c .before .before .loop .inv .1 .6
 
 same-length-44 : tie.Need-same-length-44 Inv-loop μ-loop
-same-length-44 c = omega (arith, c .before .before .loop .inv .1)
+same-length-44 c = c .before .before .loop .inv .1 .7
 
 same-length-45 : tie.Need-same-length-45 Inv-loop μ-loop
-same-length-45 c = omega (arith, c .before .before .loop .inv .1)
+same-length-45 c = c .before .before .loop .inv .1 .8
 
 same-length-46 : tie.Need-same-length-46 Inv-loop μ-loop
-same-length-46 c = omega (arith, c .before .before .loop .inv .1)
+same-length-46 c = c .before .before .loop .inv .1 .9
 
 same-length-47 : tie.Need-same-length-47 Inv-loop μ-loop
-same-length-47 c = omega (arith, c .before .before .loop .inv .1)
+same-length-47 c = c .before .before .loop .inv .1 .10
 
 same-length-48 : tie.Need-same-length-48 Inv-loop μ-loop
-same-length-48 c = omega (arith, c .before .before .loop .inv .1)
+same-length-48 c = c .before .before .loop .inv .1 .11
 
 returns-4 : tie.Need-returns-4 Inv-loop μ-loop
 returns-4 c = λ a l. let u = c .before .before .loop .inv .0 a l in let z = c .before .loop-test .left in subst (Ran _ _ _) (sym (c .stopped3 .ensures)) (ran-recount _ _ _ (omega (arith, z)) (run-spent u (omega (arith, z)) _ _))
