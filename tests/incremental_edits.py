@@ -2,9 +2,10 @@
 """incremental_edits.py [CRATE..]: the must-fail edits of the crates with code below the programs, over an incremental check.
 
 `rt ci` pays a check of the whole crate for each edit of crates/NAME/must-fail. So the edits of these crates stand in tests/edits/CRATE, in the same
-form (a remark, then 'file:', 'old:' and 'new:' lines), and are tried here in a copy of the tree: the crate is checked once as it stands, which has to
-succeed, and then with each edit, which checks again only what the edit reaches. An edit passes where the crate is refused for a fact: exit status 1,
-'logic=not-proved', and no error that says that a proof file does not fit the edited code.
+form (a remark, then 'file:', 'old:' and 'new:' lines), and are tried here in a copy of the tree, as many at once as don't touch the same function:
+each changes bodies only, and a function is proved from its own body and its callees' contracts, so no edit can hide another. A check has to refuse
+exactly the edited functions, each for a fact in its own proof; what rests on one of these is not counted. An edit whose function was only refused
+because its proof file does not fit the edited code fails.
 
 With BESIDE_RT_CI set it waits for the crates below the expander, as `rt ci` proves them beside this; else it proves them itself. Ends with
 'N passed, M failed'; exit status 0 only if M is 0.
@@ -22,6 +23,8 @@ ROOT = os.path.dirname(os.path.dirname(os.path.abspath(__file__)))
 BELOW = ["rules", "ascii", "numerals", "expression", "matching"]
 CRATES = ["expander", "expression", "matching", "numerals", "ascii"]
 WAIT = 900
+ERROR = re.compile(r"^(\S+/proofs/(\S+)\.antt:\d+:\d+): error: (.*)$", re.M)
+NO_PROOF = re.compile(r"^fn (\S+): no proof: .*`search` does not close", re.M)
 
 
 def wait_for_crates_below():
@@ -65,54 +68,124 @@ def replacements(edit):
             yield name, old, line[len("new:") :].removeprefix(" ")
 
 
-def apply(edit, folder):
-    """The texts of the files as they were, and why the edit can't be applied, or None."""
-    kept = {}
-    for name, old, new in replacements(edit):
-        path = os.path.join(folder, name)
-        text = open(path, encoding="utf-8").read()
-        kept.setdefault(path, text)
+def function_at(text, at):
+    """The function whose body the place lies in, or None."""
+    head = None
+    for head in re.finditer(r"^(?:pub(?:\(crate\))? )?fn (\w+)\(", text[:at], re.M):
+        pass
+    if head is None:
+        return None
+    body = re.compile(r"^\{$|\) (?:-> [^{}\n]+ )?\{$", re.M).search(text, head.start())
+    end = re.compile(r"^\}$", re.M).search(text, head.start())
+    return head.group(1) if body and end and body.end() <= at < end.start() else None
+
+
+def functions_of(edit, folder):
+    """The functions that an edit changes, as 'module/function', and why it can't be applied, or None."""
+    found, pairs = set(), list(replacements(edit))
+    for name, old, _ in pairs:
+        text = open(os.path.join(folder, name), encoding="utf-8").read()
         if text.count(old) != 1:
-            return kept, "its old text stands %d times in %s" % (text.count(old), name)
-        open(path, "w", encoding="utf-8").write(text.replace(old, new))
-    return kept, None if kept else "it has no replacement"
+            return found, "its old text stands %d times in %s" % (text.count(old), name)
+        function = function_at(text, text.index(old)) if name.startswith("src/") else None
+        if function is None:
+            return found, "%s: it does not lie in the body of a function" % name
+        module = name[len("src/") : -len(".rt")]
+        found.add(function if module == "lib" else module + "/" + function)
+    return found, None if pairs else "it has no replacement"
 
 
-def fault_of(edit, tree, crate):
-    """Why an edit does not pass, or None."""
-    folder = os.path.join(tree, "crates", crate)
-    kept, fault = apply(edit, folder)
-    status, said = (None, "") if fault else check(tree, crate)
+def rounds_of(functions):
+    """The edits in rounds, of which none touches a function twice."""
+    rounds = []
+    for edit, touched in functions.items():
+        for tried in rounds:
+            if not any(functions[other] & touched for other in tried):
+                tried.append(edit)
+                break
+        else:
+            rounds.append([edit])
+    return rounds
+
+
+def applied(edits, folder):
+    """The texts of the edited files as they were. Each replacement is made where its old text stands in these, whatever the others write."""
+    kept, places = {}, {}
+    for name, old, new in (pair for edit in edits for pair in replacements(edit)):
+        path = os.path.join(folder, name)
+        kept.setdefault(path, open(path, encoding="utf-8").read())
+        places.setdefault(path, []).append((kept[path].index(old), old, new))
+    for path, found in places.items():
+        text = kept[path]
+        for at, old, new in sorted(found, reverse=True):
+            text = text[:at] + new + text[at + len(old) :]
+        open(path, "w", encoding="utf-8").write(text)
+    return kept
+
+
+def refusals(said, crate):
+    """What was refused for a reason of its own: {'module/function' or a file of laws: [(place, message)]}."""
+    refused = {}
+    for place, name, message in ERROR.findall(said):
+        if "was not admitted (" not in message:
+            refused.setdefault(name.removesuffix("/Proof"), []).append((place, message))
+    for function in NO_PROOF.findall(said):
+        refused.setdefault(function.removeprefix(crate + "::").replace("::", "/"), []).append(("no proof", ""))
+    return refused
+
+
+def is_of(name, function):
+    """Whether a proof is that of a function, or of a cycle of calls that it is in."""
+    folder, _, last = name.rpartition("/")
+    return name == function or "+" in last and folder == function.rpartition("/")[0] and function.rpartition("/")[2] in last.split("+")
+
+
+def fault_of(touched, refused):
+    """Why an edit of these functions does not pass, or None."""
+    own = [e for name, errors in refused.items() if any(is_of(name, f) for f in touched) for e in errors]
+    if not own:
+        return "NOT REFUSED: %s is still proved with this edit" % ", ".join(sorted(touched))
+    if any("has no `Need-" in message for _, message in own):
+        return "refused because the proof file does not fit the edited code"
+    print("  first at %s" % own[0][0].rpartition("/proofs/")[2])
+    return None
+
+
+def try_round(edits, functions, tree, crate):
+    """How many edits of a round pass, and how many do not."""
+    began, folder = time.time(), os.path.join(tree, "crates", crate)
+    kept = applied(edits, folder)
+    status, said = check(tree, crate)
     for path, text in kept.items():
         open(path, "w", encoding="utf-8").write(text)
-    if fault:
-        return fault
-    if status == 0:
-        return "NOT REFUSED: the crate is still proved with this edit"
+    print("%s with %d edits (%d s)" % (crate, len(edits), time.time() - began), flush=True)
     if status != 1 or "logic=not-proved" not in said:
-        return "it did not reach the prover (exit status %d): %s" % (status, said[-400:])
-    if "has no `Need-" in said:
-        return "refused because the proof file does not fit the edited code"
-    first = re.search(r"^(\S+): error", said, re.M)
-    print("  first at %s" % (os.path.relpath(first.group(1), folder) if first else "?"))
-    return None
+        print("NOT REFUSED, or it did not reach the prover (exit status %d): %s" % (status, said[-2000:]))
+        return 0, len(edits)
+    refused, failed = refusals(said, crate), 0
+    for edit in edits:
+        fault = fault_of(functions[edit], refused)
+        print("%s/%s: %s" % (crate, os.path.basename(edit), fault or "refused for a fact"), flush=True)
+        failed += fault is not None
+    touched = set().union(*(functions[edit] for edit in edits))
+    others = [name for name in refused if not any(is_of(name, f) for f in touched)]
+    for name in others:
+        print("%s: refused, and no edit touches it: %s" % (name, refused[name][0]))
+    return len(edits) - failed, failed + len(others)
 
 
 def try_crate(crate, tree):
     """How many edits of a crate pass, and how many do not."""
-    began = time.time()
-    status, said = check(tree, crate)
-    print("%s as it stands: %s (%d s)" % (crate, "proved" if status == 0 else "NOT PROVED", time.time() - began), flush=True)
-    if status != 0:
-        print(said[-2000:])
-        return 0, 1
-    passed = failed = 0
+    functions, failed = {}, 0
     for edit in sorted(glob.glob(os.path.join(ROOT, "tests", "edits", crate, "*.edit"))):
-        began = time.time()
-        fault = fault_of(edit, tree, crate)
-        print("%s/%s: %s (%d s)" % (crate, os.path.basename(edit), fault or "refused for a fact", time.time() - began), flush=True)
-        passed, failed = passed + (fault is None), failed + (fault is not None)
-    return passed, failed + (passed + failed == 0)
+        touched, fault = functions_of(edit, os.path.join(tree, "crates", crate))
+        if fault:
+            print("%s/%s: %s" % (crate, os.path.basename(edit), fault))
+            failed += 1
+        else:
+            functions[edit] = touched
+    counts = [try_round(edits, functions, tree, crate) for edits in rounds_of(functions)]
+    return sum(p for p, _ in counts), sum(f for _, f in counts) + failed + (not counts)
 
 
 def main():

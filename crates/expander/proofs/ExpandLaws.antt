@@ -8,7 +8,7 @@ use native.Mathlib.Omega.{arith}
 use borrow.Author.Tests.{leb-true}
 use lib.Dec.{eqb, leb}
 use lib.ListN.{length, take, drop, replicate, length-append, length-drop}
-use lib.Seq.{length-take-le}
+use lib.Seq.{length-take-le, take-append-le}
 use Rattle.rules.specs.declared.Answer.{Answer}
 use Rattle.rules.specs.declared.Answer.the-variants as answer
 use Rattle.rules.specs.declared.Report.{Report}
@@ -20,6 +20,7 @@ use Rattle.rules.specs.Step.{step}
 use Rattle.rules.specs.Run.{Setting, Ended, endedWith, held, overfull, judged, continued, lengths, runFrom, allLendable}
 use Rattle.rules.specs.Contract.{Buffers, settingOf, reportOf, errorsOf, outputOf, fronted, zeroedBy, leftBy, runIn, Expanded}
 use Rattle.rules.proofs.Run.{run-lend, run-starts}
+use Rattle.expander.specs.Front.{Front}
 use Rattle.expander.specs.Machine.{memory, Limits}
 use Rattle.expander.specs.Run.{Ran, Wrote, Lent, LinkLengths, Zeroed}
 
@@ -46,14 +47,17 @@ all-lent t p c d s w e o q =
     let k = lend-head o [] (j .1) in
     record { text-in = a .0; pending-in = b .0; calls-in = f .0; definitions-in = g .0; streams-in = h .0; wrap-in = i .0; errors-in = j .0; output-in = k .0 }
 
+-- the lent lengths, for a run that gets as much of its own texts as is lent
 pub lent-limits :
     (text pending calls definitions streams wrap errors output errorText outputText : Bytes) (ends stack tableEnds owners : List ℕ) (budget : ℕ)
     → Lent (length text) (length pending) (length calls) (length definitions) (length streams) (length wrap) (length errors) (length output)
-    → LinkLengths ends stack tableEnds owners → length errorText ≡ length errors → length outputText ≡ length output
+    → LinkLengths ends stack tableEnds owners → length errorText ≡ 65536 → length outputText ≡ 65536
     → Limits (settingOf (record { pending = pending; calls = calls; definitions = definitions; streams = streams; wrap = wrap; errors = errors; output = output }) budget)
-    (memory text pending calls ends stack definitions tableEnds streams owners wrap errorText outputText)
+    (memory text pending calls ends stack definitions tableEnds streams owners wrap (take (length errors) errorText) (take (length output) outputText))
 unfolding settingOf
 lent-limits text pending calls definitions streams wrap errors output errorText outputText ends stack tableEnds owners budget l k e o =
+    let p = length-take-le (length errors) errorText (omega (arith, l .errors-in)) in
+    let q = length-take-le (length output) outputText (omega (arith, l .output-in)) in
     record {
       text = l .text-in;
       pending = refl;
@@ -66,10 +70,10 @@ lent-limits text pending calls definitions streams wrap errors output errorText 
       streams-most = l .streams-in;
       wrap = refl;
       wrap-most = l .wrap-in;
-      errors = sym e;
-      errors-most = omega (arith, l .errors-in);
-      output = sym o;
-      output-most = omega (arith, l .output-in);
+      errors = sym p;
+      errors-most = omega (arith, p, l .errors-in);
+      output = sym q;
+      output-most = omega (arith, q, l .output-in);
       call-ends = k .ends-are;
       stack = k .stack-are;
       table-ends = k .table-ends-are;
@@ -81,13 +85,25 @@ lent-limits text pending calls definitions streams wrap errors output errorText 
 pub part-size : (n : ℕ) (buffer : Bytes) → n ≤ length buffer → n ≡ length (take n buffer)
 part-size n buffer h = sym (length-take-le n buffer h)
 
--- what the run wrote is as short as its buffers
-module _ {e : Ended} {errors output : Bytes} {r : Report} (x : Ran e errors output r) where
-  pub output-few : (k : ℕ) → length output ≡ k → length (take (r .output) output) ≤ k
-  output-few k q = omega (arith, length-take-le (r .output) output (x .output-are .inside), x .output-are .inside)
+-- a part that kept its length, put back into its buffer
+pub put-back : (n : ℕ) (buffer part : Bytes) → n ≤ length buffer → length part ≡ length (take n buffer) → length (part ++ drop n buffer) ≡ length buffer
+put-back n buffer part h e = omega (arith, length-append part (drop n buffer), length-drop n buffer, length-take-le n buffer h, e)
 
-  pub errors-few : (k : ℕ) → length errors ≡ k → length (take (r .errors) errors) ≤ k
-  errors-few k q = omega (arith, length-take-le (r .errors) errors (x .errors-are .inside), x .errors-are .inside)
+-- a text at the front of a buffer is at the front of a longer one
+front-longer : {buffer : Bytes} {n : ℕ} {w : Bytes} (more : Bytes) → Front buffer n w → Front (buffer ++ more) n w
+front-longer {buffer} {n} more f =
+    record { text-is = take-append-le n buffer more (f .inside) ∙ f .text-is; inside = omega (arith, length-append buffer more, f .inside) }
+
+-- what the run wrote, in longer buffers, is as short as its own
+module _ {e : Ended} {errors output : Bytes} {r : Report} (x : Ran e errors output r) (moreErrors moreOutput : Bytes) where
+  pub ran-longer : Ran e (errors ++ moreErrors) (output ++ moreOutput) r
+  ran-longer = record { report = x .report; errors-are = front-longer moreErrors (x .errors-are); output-are = front-longer moreOutput (x .output-are) }
+
+  pub output-few : (k : ℕ) → length output ≡ k → length (take (r .output) (output ++ moreOutput)) ≤ k
+  output-few k q = omega (arith, length-take-le (r .output) (output ++ moreOutput) (ran-longer .output-are .inside), x .output-are .inside)
+
+  pub errors-few : (k : ℕ) → length errors ≡ k → length (take (r .errors) (errors ++ moreErrors)) ≤ k
+  errors-few k q = omega (arith, length-take-le (r .errors) (errors ++ moreErrors) (ran-longer .errors-are .inside), x .errors-are .inside)
 
 -- all zero, for a buffer that kept its length
 pub zeros : {before after : Bytes} (k : ℕ) → Zeroed before after → length before ≡ k → after ≡ replicate k 0

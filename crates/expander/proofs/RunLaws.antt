@@ -6,6 +6,9 @@ use mathlib.Core.List.{List, [], _∷_, _++_}
 use mathlib.Core.Option.{Option, none, some}
 use native.Mathlib.Omega.{arith}
 use borrow.Author.Tests.{le-leb, lt-leb}
+use mir.Syntax.{w32}
+use mir.Val.{Fits}
+use mir.Facts.{fits-le}
 use lib.ListN.{length, drop-of-length-le}
 use Rattle.rules.specs.declared.Answer.{Answer}
 use Rattle.rules.specs.declared.Answer.the-variants as answer
@@ -332,3 +335,20 @@ module _ {a : Setting} {b : Memory} {w : Ended} {budget count : ℕ} {r : Stretc
   pub reached-special : {e : Special} → r .stop ≡ stop.Special e → SpecialNext a b w (count + (budget - r .left)) r e
   unfolding Reached
   reached-special e = subst (Reached a b w (count + (budget - r .left)) r) e (h .reached)
+
+-- ---- steps counted: `budget` in all, `before` left at the head of the loop, `left` after the plain steps
+
+pub counted : {budget before left : ℕ} → left ≤ before → before ≤ budget → (budget - before) + (before - left) ≡ budget - left
+counted f h = omega arith
+
+pub counted-one : {budget before left : ℕ} → left ≤ before → before ≤ budget → 0 < left → (budget - before) + (before - left) + 1 ≡ budget - (left - 1)
+counted-one f h more = omega arith
+
+pub one-less : {before left : ℕ} → left ≤ before → 0 < left → left - 1 < before
+one-less f more = omega arith
+
+pub step-fits : {budget left : ℕ} → 0 < left → left ≤ budget → Fits w32 budget → Fits w32 (budget - left + 1)
+step-fits more f h = fits-le (omega arith) h
+
+pub none-left : {budget left : ℕ} → left ≤ 0 → (budget - left ≡ budget) × (left ≡ 0)
+none-left h = (omega arith, omega arith)

@@ -43,54 +43,8 @@ ghost use Rattle.rules.specs.Run.{lengths, runFrom, allLendable};
 ghost use Rattle.rules.specs.Contract.{settingOf, Buffers, Expanded};
 ghost use Rattle.expander.specs.Run.{Lent, LinkLengths, Wrote, Zeroed};
 
-// The run over given links, with what it wrote copied out.
+// The run over given links and texts of its own, of which it gets as much as is lent, with what it wrote copied out.
 fn copied(
-    text: &[u8],
-    pending: &mut [u8],
-    calls: &mut [u8],
-    ends: &mut [u32],
-    stack: &mut [u32],
-    definitions: &mut [u8],
-    table_ends: &mut [u32],
-    streams: &mut [u8],
-    owners: &mut [u8],
-    wrap: &mut [u8],
-    error_text: &mut [u8],
-    output_text: &mut [u8],
-    scratch: &mut [u8],
-    errors: &mut [u8],
-    output: &mut [u8],
-    budget: u32,
-) -> Report
-    requires { ⌜ Lent (length (now text)) (length (now pending)) (length (now calls)) (length (now definitions)) (length (now streams)) (length (now wrap)) (length (now errors)) (length (now output)) ⌝ }
-    requires { ⌜ LinkLengths (now ends) (now stack) (now «table_ends») (now owners) × (length (now «error_text») ≡ length (now errors)) × (length (now «output_text») ≡ length (now output)) × (length (now scratch) ≡ 65536) ⌝ }
-    ensures { λ r. ⌜ Wrote (runFrom (lengths (settingOf (record { pending = now (pending .entry); calls = now (calls .entry); definitions = now (definitions .entry); streams = now (streams .entry); wrap = now (wrap .entry); errors = now (errors .entry); output = now (output .entry) }) budget)) budget 0 (startState (freshStart (now (text .entry))))) (now (errors .entry)) (now (output .entry)) (now (errors .exit)) (now (output .exit)) r ⌝ }
-{
-    let r = run::run(
-        text,
-        pending,
-        calls,
-        ends,
-        stack,
-        definitions,
-        table_ends,
-        streams,
-        owners,
-        wrap,
-        error_text,
-        output_text,
-        scratch,
-        budget,
-    );
-    let n = r.output as usize;
-    let k = r.errors as usize;
-    pending::copy_front(&output_text[..n], output);
-    pending::copy_front(&error_text[..k], errors);
-    r
-}
-
-// The same over texts of full length, of which the run gets as much as is lent.
-fn sized(
     text: &[u8],
     pending: &mut [u8],
     calls: &mut [u8],
@@ -112,9 +66,9 @@ fn sized(
     requires { ⌜ LinkLengths (now ends) (now stack) (now «table_ends») (now owners) × (length (now «error_text») ≡ 65536) × (length (now «output_text») ≡ 65536) × (length (now scratch) ≡ 65536) ⌝ }
     ensures { λ r. ⌜ Wrote (runFrom (lengths (settingOf (record { pending = now (pending .entry); calls = now (calls .entry); definitions = now (definitions .entry); streams = now (streams .entry); wrap = now (wrap .entry); errors = now (errors .entry); output = now (output .entry) }) budget)) budget 0 (startState (freshStart (now (text .entry))))) (now (errors .entry)) (now (output .entry)) (now (errors .exit)) (now (output .exit)) r ⌝ }
 {
-    let n = output.len();
-    let k = errors.len();
-    copied(
+    let most = output.len();
+    let most_errors = errors.len();
+    let r = run::run(
         text,
         pending,
         calls,
@@ -125,16 +79,19 @@ fn sized(
         streams,
         owners,
         wrap,
-        &mut error_text[..k],
-        &mut output_text[..n],
+        &mut error_text[..most_errors],
+        &mut output_text[..most],
         scratch,
-        errors,
-        output,
         budget,
-    )
+    );
+    let n = r.output as usize;
+    let k = r.errors as usize;
+    pending::copy_front(&output_text[..n], output);
+    pending::copy_front(&error_text[..k], errors);
+    r
 }
 
-// The same over local links.
+// The same over local links and texts.
 fn work(
     text: &[u8],
     pending: &mut [u8],
@@ -156,7 +113,7 @@ fn work(
     let mut error_text = [0u8; 65536];
     let mut output_text = [0u8; 65536];
     let mut scratch = [0u8; 65536];
-    sized(
+    copied(
         text,
         pending,
         calls,

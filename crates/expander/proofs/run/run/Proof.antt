@@ -1,23 +1,19 @@
-use Prim.Native.Nat.{ℕ, _-_, _≤_}
-use mathlib.Core.Path.{_≡_, _∙_, refl, sym, subst}
+-- `expander::run::run` meets its contract. Assumes nothing.
+use Prim.Native.Nat.{ℕ, _+_, _-_, _≤_, _<_}
+use native.Mathlib.Nat.{le-trans, le-of-lt}
+use mathlib.Core.Path.{_≡_, refl, sym, subst, _∙_}
 use mathlib.Core.List.{[]}
 use native.Mathlib.Omega.{arith}
 use lib.ListN.{length}
 use Rattle.rules.specs.State.{freshStart, startState}
-use Rattle.rules.specs.Run.{Setting, lengths, runFrom}
-use Rattle.expander.specs.Machine.{Memory, memory, Limits, wrapAt, errorsAt}
-use Rattle.expander.specs.Run.{Running, Ran}
-use Rattle.expander.proofs.RunLaws.{begun, taken-few, run-spent, run-refused, run-ended, run-few, run-on, recount, ran-recount, end-recount, reached-stop, reached-special}
+use Rattle.rules.specs.Step.{step}
+use Rattle.rules.specs.Run.{Setting, Ended, lengths, runFrom}
+use Rattle.expander.specs.Machine.{Memory, memory, Limits, Gives, wrapAt, errorsAt}
+use Rattle.expander.specs.Run.{Running, Ran, Stretched, SpecialNext}
+use Rattle.expander.proofs.RunLaws.{begun, taken-few, run-spent, run-refused, run-ended, run-few, run-on, recount, ran-recount, end-recount, reached-stop, reached-special, counted, counted-one, one-less, step-fits, none-left}
 use borrow.Author.Needs.{needs}
 use Rattle.expander.proofs.run.run.Statement.{statement}
 use Rattle.expander.proofs.run.run.Tie as tie
-use Rattle.expander.proofs.run.run.Reads as reads
-use Rattle.expander.proofs.run.run.Lts as lts
-use Rattle.expander.proofs.run.finished.Reads as finished-reads
-use Rattle.expander.proofs.run.start.Reads as start-reads
-use Rattle.expander.proofs.run.stopped.Reads as stopped-reads
-use Rattle.expander.proofs.step.special_step.Reads as special-step-reads
-use Rattle.expander.proofs.stretch.run_plain.Reads as run-plain-reads
 
 -- every part of the memory is lent
 abbrev none-other : Memory
@@ -33,7 +29,7 @@ abbrev μ-loop : tie.MeasureT-loop
 μ-loop text pending₀ calls₀ ends₀ stack₀ definitions₀ table-ends₀ streams₀ owners₀ wrap₀ errors₀ output₀ scratch₀ budget from m₀ left₀ pending calls ends stack definitions table-ends streams owners wrap errors output scratch m left =
     left
 
--- the way back: from the head of the loop to the entry, from a call that came back to what stood before it
+-- the way back: to the entry, to the head of the loop, to the plain steps and to the special one
 abbrev begin : tie.At-loop Inv-loop μ-loop → tie.Start Inv-loop μ-loop
 begin c = c .before .before .before .before .before .before .before .before .before .before .before .before .before .before .before
 
@@ -49,32 +45,99 @@ plain c = c .before .before .before .before .before .before .before .before .bef
 abbrev stop : tie.After-special-step Inv-loop μ-loop → tie.After-stop2 Inv-loop μ-loop
 stop c = c .before .before .before .before .before .before .before .before .before .before .before .before .before .before
 
-abbrev special-refused : tie.After-went Inv-loop μ-loop → tie.After-special-step Inv-loop μ-loop
-special-refused c = c .before .before .before .before .before .before .before .before .before .before .before .before .before .before .before .before .before .before .before .before
+abbrev refused : tie.After-went Inv-loop μ-loop → tie.After-special-step Inv-loop μ-loop
+refused c = c .before .before .before .before .before .before .before .before .before .before .before .before .before .before .before .before .before .before .before .before
 
-abbrev special-ended : tie.After-went2 Inv-loop μ-loop → tie.After-special-step Inv-loop μ-loop
-special-ended c = c .before .before .before .before .before .before .before .before .before .before .before .before .before .before .before .before .before .before .before .before
+abbrev ended : tie.After-went2 Inv-loop μ-loop → tie.After-special-step Inv-loop μ-loop
+ended c = c .before .before .before .before .before .before .before .before .before .before .before .before .before .before .before .before .before .before .before .before
 
-abbrev special-on : tie.After-enum-told Inv-loop μ-loop → tie.After-special-step Inv-loop μ-loop
-special-on c = c .before .before .before .before .before .before .before .before .before .before .before .before .before .before .before .before .before .before .before .before
+abbrev on : tie.After-enum-told Inv-loop μ-loop → tie.After-special-step Inv-loop μ-loop
+on c = c .before .before .before .before .before .before .before .before .before .before .before .before .before .before .before .before .before .before .before .before
+
+-- the memory at the entry, after the plain steps and after the special one
+abbrev lent : tie.Start Inv-loop μ-loop → Memory
+lent c =
+    let a = c .args in
+    memory (a .text .now) (a .pending .now) (a .calls .now) (a .ends .now) (a .stack .now) (a .definitions .now) (a .table-ends .now) (a .streams .now)
+    (a .owners .now) (a .wrap .now) (a .errors .now) (a .output .now)
+
+abbrev after-plain : tie.After-run-plain Inv-loop μ-loop → Memory
+after-plain c =
+    let o = head c .loop in
+    let n = c .run-plain .last in
+    memory (begin (head c) .args .text .now) (o .pending) (n .1 .1 .0) (n .1 .1 .1 .0) (n .1 .1 .1 .1 .0) (o .definitions) (o .table-ends) (n .1 .1 .1 .1 .1 .1 .1 .0) (n .1 .1 .1 .1 .1 .1 .1 .1 .0) (o .wrap) (o .errors)
+    (n .1 .1 .1 .1 .1 .1 .1 .1 .1 .0)
+
+abbrev after-special : tie.After-special-step Inv-loop μ-loop → Memory
+after-special c =
+    let p = plain (stop c) in
+    let o = p .run-plain .last in
+    let n = c .special-step .last in
+    memory (begin (head p) .args .text .now) (n .1 .0) (o .1 .1 .0) (o .1 .1 .1 .0) (o .1 .1 .1 .1 .0) (n .1 .1 .1 .1 .1 .0) (n .1 .1 .1 .1 .1 .1 .0) (n .1 .1 .1 .1 .1 .1 .1 .0) (n .1 .1 .1 .1 .1 .1 .1 .1 .0) (n .1 .1 .1 .1 .1 .1 .1 .1 .1 .0) (n .1 .1 .1 .1 .1 .1 .1 .1 .1 .1 .0) (n .1 .1 .1 .1 .1 .1 .1 .1 .1 .1 .1 .0)
+
+abbrev whole : tie.At-loop Inv-loop μ-loop → Setting → Ended
+whole c a = runFrom (lengths a) (begin c .args .budget) 0 (startState (freshStart (begin c .args .text .now)))
+
+-- what the plain steps came to
+stretched : (c : tie.After-run-plain Inv-loop μ-loop) (a : Setting) → Limits a (lent (begin (head c))) → Stretched a (after-plain c) (whole (head c) a) (head c .loop .left) (begin (head c) .args .budget - head c .loop .left) (c .run-plain .result)
+stretched c a l =
+    let o = head c .loop in
+    c .run-plain .ensures a (wrapAt (o .wrap) (errorsAt (o .errors) none-other)) (whole (head c) a) (begin (head c) .args .budget - o .left) (o .inv .0 a l)
+
+few : (c : tie.After-run-plain Inv-loop μ-loop) → c .run-plain .result .left ≤ head c .loop .left
+few c =
+    let p = begin (head c) .pre .0 in
+    stretched c (p .setting) (p .limits) .few
+
+few-of-all : (c : tie.After-run-plain Inv-loop μ-loop) → c .run-plain .result .left ≤ begin (head c) .args .budget
+few-of-all c = le-trans (few c) (head c .loop .inv .2)
+
+-- the steps before the special one
+abbrev count : tie.After-run-plain Inv-loop μ-loop → ℕ
+count c = (begin (head c) .args .budget - head c .loop .left) + (head c .loop .left - c .run-plain .result .left)
+
+count-is : (c : tie.After-run-plain Inv-loop μ-loop) → count c ≡ begin (head c) .args .budget - c .run-plain .result .left
+count-is c = counted (few c) (head c .loop .inv .2)
+
+-- the special step is next
+next : (c : tie.After-stop2 Inv-loop μ-loop) (a : Setting) → Limits a (lent (begin (head (plain c)))) → SpecialNext a (after-plain (plain c)) (whole (head (plain c)) a) (count (plain c)) (plain c .run-plain .result) (c .stop2 .given .0 .0)
+next c a l = reached-special (stretched (plain c) a l) (c .stop2 .given .1)
+
+more : (c : tie.After-stop2 Inv-loop μ-loop) → 0 < plain c .run-plain .result .left
+more c =
+    let p = begin (head (plain c)) .pre .0 in
+    next c (p .setting) (p .limits) .more
+
+gives : (c : tie.After-special-step Inv-loop μ-loop) (a : Setting) (l : Limits a (lent (begin (head (plain (stop c)))))) → Gives a (step (next (stop c) a l .running .state)) (after-special c) (c .special-step .result)
+gives c a l =
+    let g = next (stop c) a l in
+    c .special-step .ensures a (g .running .state) none-other (g .running .means) (g .is)
 
 start-requires : tie.Need-start-requires Inv-loop μ-loop
 start-requires c κs = search needs
 
 loop-holds : tie.Need-loop-holds Inv-loop μ-loop
-loop-holds c = (λ a l. recount (begun (c .before .before .before .before .before .before .before .before .before .before .before .before .before .before .args .budget) (c .start .ensures a _ l refl)) _ (omega arith), omega arith, omega arith)
+loop-holds c =
+    (λ a l. recount (begun (c .before .before .before .before .before .before .before .before .before .before .before .before .before .before .args .budget) (c .start .ensures a _ l refl)) _ (omega arith), (refl, refl, refl, refl, refl, refl, refl, refl, refl, refl, refl, refl), omega arith)
 
 run-plain-requires : tie.Need-run-plain-requires Inv-loop μ-loop
-run-plain-requires c κs = let p = c .before .before .before .before .before .before .before .before .before .before .before .before .before .before .before .before .before .before .before .before .before .before .before .before .before .before .pre .0 in let u = c .before .before .before .before .before .before .before .before .before .before .before .loop .inv .0 (p .setting) (p .limits) in (record { others = wrapAt _ (errorsAt _ none-other); setting = p .setting; state = u .state; means = u .means }, omega (arith, c .before .before .before .before .before .before .before .before .before .before .before .loop .inv .1, c .before .before .before .before .before .before .before .before .before .before .before .before .before .before .before .before .before .before .before .before .before .before .before .before .before .before .pre .1))
+run-plain-requires c κs =
+    let h = c .before .before .before .before .before .before .before .before .before .before .before in
+    let p = begin h .pre .0 in
+    let u = h .loop .inv .0 (p .setting) (p .limits) in
+    (record { others = wrapAt (h .loop .wrap) (errorsAt (h .loop .errors) none-other); setting = p .setting; state = u .state; means = u .means }, h .loop .inv .1 .11 ∙ begin h .pre .1)
 
 enum-known-stop : tie.Need-enum-known-stop Inv-loop μ-loop
 enum-known-stop c = search needs
 
 sub-stopped : tie.Need-sub-stopped Inv-loop μ-loop
-sub-stopped c = let p = c .before .before .before .before .before .before .before .before .before .before .before .before .before .before .before .before .before .before .before .before .before .before .before .before .before .before .before .before .before .before .before .before .before .before .before .before .before .before .before .before .before .before .before .before .before .pre .0 in let u = c .before .before .before .before .before .before .before .before .before .before .before .before .before .before .before .before .before .before .before .before .before .before .before .before .before .before .before .before .before .before .loop .inv .0 (p .setting) (p .limits) in let h = c .before .before .before .before .before .before .before .before .before .before .before .before .before .before .before .before .before .before .run-plain .ensures (p .setting) (wrapAt _ (errorsAt _ none-other)) _ _ u in omega (arith, h .few, c .before .before .before .before .before .before .before .before .before .before .before .before .before .before .before .before .before .before .before .before .before .before .before .before .before .before .before .before .before .before .loop .inv .2)
+sub-stopped c = few-of-all (c .before .before .before .before .before .before .before .before .before .before .before .before .before .before .before .before .before .before)
 
 stopped-requires : tie.Need-stopped-requires Inv-loop μ-loop
-stopped-requires c κs = let p = c .before .before .before .before .before .before .before .before .before .before .before .before .before .before .before .before .before .before .before .before .before .before .before .before .before .before .before .before .before .before .before .before .before .before .before .before .before .before .before .before .before .before .before .before .before .pre .0 in let u = c .before .before .before .before .before .before .before .before .before .before .before .before .before .before .before .before .before .before .before .before .before .before .before .before .before .before .before .before .before .before .loop .inv .0 (p .setting) (p .limits) in let h = c .before .before .before .before .before .before .before .before .before .before .before .before .before .before .before .before .before .before .run-plain .ensures (p .setting) (wrapAt _ (errorsAt _ none-other)) _ _ u in reached-stop h (c .before .stop .given .1) .taken-in
+stopped-requires c κs =
+    let p = c .before .before .before .before .before .before .before .before .before .before .before .before .before .before .before .before .before .before in
+    let q = begin (head p) .pre .0 in
+    reached-stop (stretched p (q .setting) (q .limits)) (c .before .stop .given .1) .taken-in
 
 same-length : tie.Need-same-length Inv-loop μ-loop
 same-length c = head (plain-stopped (c .before .before)) .loop .inv .1 .0
@@ -113,127 +176,169 @@ same-length-12 : tie.Need-same-length-12 Inv-loop μ-loop
 same-length-12 c = plain-stopped (c .before .before) .run-plain .kept .1 .1 .1 .1 .1 .1 .1 .1 .1 .1 .0 ∙ head (plain-stopped (c .before .before)) .loop .inv .1 .11
 
 returns : tie.Need-returns Inv-loop μ-loop
-returns c = λ a l. let u = c .before .before .before .before .before .before .before .before .before .before .before .before .before .before .before .before .before .before .before .before .before .before .before .before .before .before .before .before .before .before .before .loop .inv .0 a l in let h = c .before .before .before .before .before .before .before .before .before .before .before .before .before .before .before .before .before .before .before .run-plain .ensures a (wrapAt _ (errorsAt _ none-other)) _ _ u in subst (Ran _ _ _) (sym (c .stopped .ensures)) (ran-recount _ _ _ (omega (arith, h .few, c .before .before .before .before .before .before .before .before .before .before .before .before .before .before .before .before .before .before .before .before .before .before .before .before .before .before .before .before .before .before .before .loop .inv .2)) (reached-stop h (c .before .before .stop .given .1) .ran _ _))
+returns c =
+    λ a l.
+    let p = plain-stopped (c .before .before) in
+    subst (Ran _ _ _) (sym (c .stopped .ensures)) (ran-recount _ _ _ (count-is p) (reached-stop (stretched p a l) (c .before .before .stop .given .1) .ran _ _))
 
 enum-known-stop-2 : tie.Need-enum-known-stop-2 Inv-loop μ-loop
 enum-known-stop-2 c = search needs
 
 special-step-requires : tie.Need-special-step-requires Inv-loop μ-loop
-special-step-requires c κs = let p = c .before .before .before .before .before .before .before .before .before .before .before .before .before .before .before .before .before .before .before .before .before .before .before .before .before .before .before .before .before .before .before .before .before .before .before .before .before .before .before .before .before .before .before .before .before .before .before .before .before .before .before .before .before .before .before .before .before .pre .0 in let u = c .before .before .before .before .before .before .before .before .before .before .before .before .before .before .before .before .before .before .before .before .before .before .before .before .before .before .before .before .before .before .before .before .before .before .before .before .before .before .before .before .before .before .loop .inv .0 (p .setting) (p .limits) in let h = c .before .before .before .before .before .before .before .before .before .before .before .before .before .before .before .before .before .before .before .before .before .before .before .before .before .before .before .before .before .before .run-plain .ensures (p .setting) (wrapAt _ (errorsAt _ none-other)) _ _ u in let g = reached-special h (c .before .before .before .before .before .before .before .before .before .before .before .before .before .stop2 .given .1) in (record { sound = record { others = none-other; setting = p .setting; state = g .running .state; means = g .running .means }; is = g .is }, (g .within, omega (arith, c .before .before .before .before .before .before .before .before .before .before .before .before .before .before .before .before .before .before .before .before .before .before .before .before .before .before .before .before .before .before .before .before .before .before .before .before .before .before .before .before .before .before .loop .inv .1, c .before .before .before .before .before .before .before .before .before .before .before .before .before .before .before .before .before .before .before .before .before .before .before .before .before .before .before .before .before .before .run-plain .kept, c .before .before .before .before .before .before .before .before .before .before .before .before .before .before .before .before .before .before .before .before .before .before .before .before .before .before .before .before .before .before .before .before .before .before .before .before .before .before .before .before .before .before .before .before .before .before .before .before .before .before .before .before .before .before .before .before .before .pre .1)))
+special-step-requires c κs =
+    let s = c .before .before .before .before .before .before .before .before .before .before .before .before .before in
+    let p = begin (head (plain s)) .pre .0 in
+    let g = next s (p .setting) (p .limits) in
+    (record { sound = record { others = none-other; setting = p .setting; state = g .running .state; means = g .running .means }; is = g .is }, (g .within, plain s .run-plain .kept .1 .1 .1 .1 .1 .1 .1 .1 .1 .1 .0 ∙ head (plain s) .loop .inv .1 .11 ∙ begin (head (plain s)) .pre .1))
 
 enum-known-went : tie.Need-enum-known-went Inv-loop μ-loop
 enum-known-went c = search needs
 
 sub-stopped-2 : tie.Need-sub-stopped-2 Inv-loop μ-loop
-sub-stopped-2 c = let p = c .before .before .before .before .before .before .before .before .before .before .before .before .before .before .before .before .before .before .before .before .before .before .before .before .before .before .before .before .before .before .before .before .before .before .before .before .before .before .before .before .before .before .before .before .before .before .before .before .before .before .before .before .before .before .before .before .before .before .before .before .before .before .before .before .before .before .before .before .before .before .before .before .before .before .before .before .before .before .before .pre .0 in let u = c .before .before .before .before .before .before .before .before .before .before .before .before .before .before .before .before .before .before .before .before .before .before .before .before .before .before .before .before .before .before .before .before .before .before .before .before .before .before .before .before .before .before .before .before .before .before .before .before .before .before .before .before .before .before .before .before .before .before .before .before .before .before .before .before .loop .inv .0 (p .setting) (p .limits) in let h = c .before .before .before .before .before .before .before .before .before .before .before .before .before .before .before .before .before .before .before .before .before .before .before .before .before .before .before .before .before .before .before .before .before .before .before .before .before .before .before .before .before .before .before .before .before .before .before .before .before .before .before .before .run-plain .ensures (p .setting) (wrapAt _ (errorsAt _ none-other)) _ _ u in omega (arith, h .few, c .before .before .before .before .before .before .before .before .before .before .before .before .before .before .before .before .before .before .before .before .before .before .before .before .before .before .before .before .before .before .before .before .before .before .before .before .before .before .before .before .before .before .before .before .before .before .before .before .before .before .before .before .before .before .before .before .before .before .before .before .before .before .before .before .loop .inv .2)
+sub-stopped-2 c = few-of-all (plain (stop (refused (c .before))))
 
 stopped-requires-2 : tie.Need-stopped-requires-2 Inv-loop μ-loop
-stopped-requires-2 c κs = let p = c .before .before .before .before .before .before .before .before .before .before .before .before .before .before .before .before .before .before .before .before .before .before .before .before .before .before .before .before .before .before .before .before .before .before .before .before .before .before .before .before .before .before .before .before .before .before .before .before .before .before .before .before .before .before .before .before .before .before .before .before .before .before .before .before .before .before .before .before .before .before .before .before .before .before .before .before .before .before .before .pre .0 in let u = c .before .before .before .before .before .before .before .before .before .before .before .before .before .before .before .before .before .before .before .before .before .before .before .before .before .before .before .before .before .before .before .before .before .before .before .before .before .before .before .before .before .before .before .before .before .before .before .before .before .before .before .before .before .before .before .before .before .before .before .before .before .before .before .before .loop .inv .0 (p .setting) (p .limits) in let h = c .before .before .before .before .before .before .before .before .before .before .before .before .before .before .before .before .before .before .before .before .before .before .before .before .before .before .before .before .before .before .before .before .before .before .before .before .before .before .before .before .before .before .before .before .before .before .before .before .before .before .before .before .run-plain .ensures (p .setting) (wrapAt _ (errorsAt _ none-other)) _ _ u in let g = reached-special h (c .before .before .before .before .before .before .before .before .before .before .before .before .before .before .before .before .before .before .before .before .before .before .before .before .before .before .before .before .before .before .before .before .before .before .before .stop2 .given .1) in taken-few (g .running)
+stopped-requires-2 c κs =
+    let s = stop (refused (c .before)) in
+    let p = begin (head (plain s)) .pre .0 in
+    taken-few (next s (p .setting) (p .limits) .running)
 
 same-length-13 : tie.Need-same-length-13 Inv-loop μ-loop
-same-length-13 c = special-refused (c .before .before) .special-step .kept .1 .0 ∙ head (plain (stop (special-refused (c .before .before)))) .loop .inv .1 .0
+same-length-13 c = refused (c .before .before) .special-step .kept .1 .0 ∙ head (plain (stop (refused (c .before .before)))) .loop .inv .1 .0
 
 same-length-14 : tie.Need-same-length-14 Inv-loop μ-loop
-same-length-14 c = plain (stop (special-refused (c .before .before))) .run-plain .kept .1 .1 .0 ∙ head (plain (stop (special-refused (c .before .before)))) .loop .inv .1 .1
+same-length-14 c = plain (stop (refused (c .before .before))) .run-plain .kept .1 .1 .0 ∙ head (plain (stop (refused (c .before .before)))) .loop .inv .1 .1
 
 same-length-15 : tie.Need-same-length-15 Inv-loop μ-loop
-same-length-15 c = plain (stop (special-refused (c .before .before))) .run-plain .kept .1 .1 .1 .0 ∙ head (plain (stop (special-refused (c .before .before)))) .loop .inv .1 .2
+same-length-15 c = plain (stop (refused (c .before .before))) .run-plain .kept .1 .1 .1 .0 ∙ head (plain (stop (refused (c .before .before)))) .loop .inv .1 .2
 
 same-length-16 : tie.Need-same-length-16 Inv-loop μ-loop
-same-length-16 c = plain (stop (special-refused (c .before .before))) .run-plain .kept .1 .1 .1 .1 .0 ∙ head (plain (stop (special-refused (c .before .before)))) .loop .inv .1 .3
+same-length-16 c = plain (stop (refused (c .before .before))) .run-plain .kept .1 .1 .1 .1 .0 ∙ head (plain (stop (refused (c .before .before)))) .loop .inv .1 .3
 
 same-length-17 : tie.Need-same-length-17 Inv-loop μ-loop
-same-length-17 c = special-refused (c .before .before) .special-step .kept .1 .1 .1 .1 .1 .0 ∙ head (plain (stop (special-refused (c .before .before)))) .loop .inv .1 .4
+same-length-17 c = refused (c .before .before) .special-step .kept .1 .1 .1 .1 .1 .0 ∙ head (plain (stop (refused (c .before .before)))) .loop .inv .1 .4
 
 same-length-18 : tie.Need-same-length-18 Inv-loop μ-loop
-same-length-18 c = special-refused (c .before .before) .special-step .kept .1 .1 .1 .1 .1 .1 .0 ∙ head (plain (stop (special-refused (c .before .before)))) .loop .inv .1 .5
+same-length-18 c = refused (c .before .before) .special-step .kept .1 .1 .1 .1 .1 .1 .0 ∙ head (plain (stop (refused (c .before .before)))) .loop .inv .1 .5
 
 same-length-19 : tie.Need-same-length-19 Inv-loop μ-loop
-same-length-19 c = special-refused (c .before .before) .special-step .kept .1 .1 .1 .1 .1 .1 .1 .0 ∙ plain (stop (special-refused (c .before .before))) .run-plain .kept .1 .1 .1 .1 .1 .1 .1 .0 ∙ head (plain (stop (special-refused (c .before .before)))) .loop .inv .1 .6
+same-length-19 c = refused (c .before .before) .special-step .kept .1 .1 .1 .1 .1 .1 .1 .0 ∙ plain (stop (refused (c .before .before))) .run-plain .kept .1 .1 .1 .1 .1 .1 .1 .0 ∙ head (plain (stop (refused (c .before .before)))) .loop .inv .1 .6
 
 same-length-20 : tie.Need-same-length-20 Inv-loop μ-loop
-same-length-20 c = special-refused (c .before .before) .special-step .kept .1 .1 .1 .1 .1 .1 .1 .1 .0 ∙ plain (stop (special-refused (c .before .before))) .run-plain .kept .1 .1 .1 .1 .1 .1 .1 .1 .0 ∙ head (plain (stop (special-refused (c .before .before)))) .loop .inv .1 .7
+same-length-20 c = refused (c .before .before) .special-step .kept .1 .1 .1 .1 .1 .1 .1 .1 .0 ∙ plain (stop (refused (c .before .before))) .run-plain .kept .1 .1 .1 .1 .1 .1 .1 .1 .0 ∙ head (plain (stop (refused (c .before .before)))) .loop .inv .1 .7
 
 same-length-21 : tie.Need-same-length-21 Inv-loop μ-loop
-same-length-21 c = special-refused (c .before .before) .special-step .kept .1 .1 .1 .1 .1 .1 .1 .1 .1 .0 ∙ head (plain (stop (special-refused (c .before .before)))) .loop .inv .1 .8
+same-length-21 c = refused (c .before .before) .special-step .kept .1 .1 .1 .1 .1 .1 .1 .1 .1 .0 ∙ head (plain (stop (refused (c .before .before)))) .loop .inv .1 .8
 
 same-length-22 : tie.Need-same-length-22 Inv-loop μ-loop
-same-length-22 c = special-refused (c .before .before) .special-step .kept .1 .1 .1 .1 .1 .1 .1 .1 .1 .1 .0 ∙ head (plain (stop (special-refused (c .before .before)))) .loop .inv .1 .9
+same-length-22 c = refused (c .before .before) .special-step .kept .1 .1 .1 .1 .1 .1 .1 .1 .1 .1 .0 ∙ head (plain (stop (refused (c .before .before)))) .loop .inv .1 .9
 
 same-length-23 : tie.Need-same-length-23 Inv-loop μ-loop
-same-length-23 c = special-refused (c .before .before) .special-step .kept .1 .1 .1 .1 .1 .1 .1 .1 .1 .1 .1 .0 ∙ plain (stop (special-refused (c .before .before))) .run-plain .kept .1 .1 .1 .1 .1 .1 .1 .1 .1 .0 ∙ head (plain (stop (special-refused (c .before .before)))) .loop .inv .1 .10
+same-length-23 c = refused (c .before .before) .special-step .kept .1 .1 .1 .1 .1 .1 .1 .1 .1 .1 .1 .0 ∙ plain (stop (refused (c .before .before))) .run-plain .kept .1 .1 .1 .1 .1 .1 .1 .1 .1 .0 ∙ head (plain (stop (refused (c .before .before)))) .loop .inv .1 .10
 
 same-length-24 : tie.Need-same-length-24 Inv-loop μ-loop
-same-length-24 c = special-refused (c .before .before) .special-step .kept .1 .1 .1 .1 .1 .1 .1 .1 .1 .1 .1 .1 .0 ∙ plain (stop (special-refused (c .before .before))) .run-plain .kept .1 .1 .1 .1 .1 .1 .1 .1 .1 .1 .0 ∙ head (plain (stop (special-refused (c .before .before)))) .loop .inv .1 .11
+same-length-24 c = refused (c .before .before) .special-step .kept .1 .1 .1 .1 .1 .1 .1 .1 .1 .1 .1 .1 .0 ∙ plain (stop (refused (c .before .before))) .run-plain .kept .1 .1 .1 .1 .1 .1 .1 .1 .1 .1 .0 ∙ head (plain (stop (refused (c .before .before)))) .loop .inv .1 .11
 
 returns-2 : tie.Need-returns-2 Inv-loop μ-loop
-returns-2 c = λ a l. let u = c .before .before .before .before .before .before .before .before .before .before .before .before .before .before .before .before .before .before .before .before .before .before .before .before .before .before .before .before .before .before .before .before .before .before .before .before .before .before .before .before .before .before .before .before .before .before .before .before .before .before .before .before .before .before .before .before .before .before .before .before .before .before .before .before .before .loop .inv .0 a l in let h = c .before .before .before .before .before .before .before .before .before .before .before .before .before .before .before .before .before .before .before .before .before .before .before .before .before .before .before .before .before .before .before .before .before .before .before .before .before .before .before .before .before .before .before .before .before .before .before .before .before .before .before .before .before .run-plain .ensures a (wrapAt _ (errorsAt _ none-other)) _ _ u in let g = reached-special h (c .before .before .before .before .before .before .before .before .before .before .before .before .before .before .before .before .before .before .before .before .before .before .before .before .before .before .before .before .before .before .before .before .before .before .before .before .stop2 .given .1) in subst (Ran _ _ _) (sym (c .stopped2 .ensures)) (ran-recount _ _ _ (omega (arith, h .few, c .before .before .before .before .before .before .before .before .before .before .before .before .before .before .before .before .before .before .before .before .before .before .before .before .before .before .before .before .before .before .before .before .before .before .before .before .before .before .before .before .before .before .before .before .before .before .before .before .before .before .before .before .before .before .before .before .before .before .before .before .before .before .before .before .before .loop .inv .2)) (run-refused (g .running) (g .more) (c .before .before .before .before .before .before .before .before .before .before .before .before .before .before .before .before .before .before .before .before .before .before .special-step .ensures a (g .running .state) none-other (g .running .means) (g .is)) _ (c .before .before .went .given .1) _ _))
+returns-2 c =
+    λ a l.
+    let t = refused (c .before .before) in
+    let g = next (stop t) a l in
+    subst (Ran _ _ _) (sym (c .stopped2 .ensures))
+    (ran-recount _ _ _ (count-is (plain (stop t))) (run-refused (g .running) (g .more) (gives t a l) _ (c .before .before .went .given .1) _ _))
 
 enum-known-went-2 : tie.Need-enum-known-went-2 Inv-loop μ-loop
 enum-known-went-2 c = search needs
 
 sub-steps : tie.Need-sub-steps Inv-loop μ-loop
-sub-steps c = let p = c .before .before .before .before .before .before .before .before .before .before .before .before .before .before .before .before .before .before .before .before .before .before .before .before .before .before .before .before .before .before .before .before .before .before .before .before .before .before .before .before .before .before .before .before .before .before .before .before .before .before .before .before .before .before .before .before .before .before .before .before .before .before .before .before .before .before .before .before .before .before .before .before .before .before .before .before .before .before .before .pre .0 in let u = c .before .before .before .before .before .before .before .before .before .before .before .before .before .before .before .before .before .before .before .before .before .before .before .before .before .before .before .before .before .before .before .before .before .before .before .before .before .before .before .before .before .before .before .before .before .before .before .before .before .before .before .before .before .before .before .before .before .before .before .before .before .before .before .before .loop .inv .0 (p .setting) (p .limits) in let h = c .before .before .before .before .before .before .before .before .before .before .before .before .before .before .before .before .before .before .before .before .before .before .before .before .before .before .before .before .before .before .before .before .before .before .before .before .before .before .before .before .before .before .before .before .before .before .before .before .before .before .before .before .run-plain .ensures (p .setting) (wrapAt _ (errorsAt _ none-other)) _ _ u in omega (arith, h .few, c .before .before .before .before .before .before .before .before .before .before .before .before .before .before .before .before .before .before .before .before .before .before .before .before .before .before .before .before .before .before .before .before .before .before .before .before .before .before .before .before .before .before .before .before .before .before .before .before .before .before .before .before .before .before .before .before .before .before .before .before .before .before .before .before .loop .inv .2)
+sub-steps c = few-of-all (plain (stop (ended (c .before))))
 
 add-steps : tie.Need-add-steps Inv-loop μ-loop
-add-steps c = let p = c .before .before .before .before .before .before .before .before .before .before .before .before .before .before .before .before .before .before .before .before .before .before .before .before .before .before .before .before .before .before .before .before .before .before .before .before .before .before .before .before .before .before .before .before .before .before .before .before .before .before .before .before .before .before .before .before .before .before .before .before .before .before .before .before .before .before .before .before .before .before .before .before .before .before .before .before .before .before .before .pre .0 in let u = c .before .before .before .before .before .before .before .before .before .before .before .before .before .before .before .before .before .before .before .before .before .before .before .before .before .before .before .before .before .before .before .before .before .before .before .before .before .before .before .before .before .before .before .before .before .before .before .before .before .before .before .before .before .before .before .before .before .before .before .before .before .before .before .before .loop .inv .0 (p .setting) (p .limits) in let h = c .before .before .before .before .before .before .before .before .before .before .before .before .before .before .before .before .before .before .before .before .before .before .before .before .before .before .before .before .before .before .before .before .before .before .before .before .before .before .before .before .before .before .before .before .before .before .before .before .before .before .before .before .run-plain .ensures (p .setting) (wrapAt _ (errorsAt _ none-other)) _ _ u in let g = reached-special h (c .before .before .before .before .before .before .before .before .before .before .before .before .before .before .before .before .before .before .before .before .before .before .before .before .before .before .before .before .before .before .before .before .before .before .before .stop2 .given .1) in omega (arith, h .few, g .more, c .before .before .before .before .before .before .before .before .before .before .before .before .before .before .before .before .before .before .before .before .before .before .before .before .before .before .before .before .before .before .before .before .before .before .before .before .before .before .before .before .before .before .before .before .before .before .before .before .before .before .before .before .before .before .before .before .before .before .before .before .before .before .before .before .loop .inv .2, c .before .before .before .before .before .before .before .before .before .before .before .before .before .before .before .before .before .before .before .before .before .before .before .before .before .before .before .before .before .before .before .before .before .before .before .before .before .before .before .before .before .before .before .before .before .before .before .before .before .before .before .before .before .before .before .before .before .before .before .before .before .before .before .before .before .before .before .before .before .before .before .before .before .before .before .before .before .before .before .good)
+add-steps c =
+    let s = stop (ended (c .before)) in
+    let p = plain s in
+    step-fits (more s) (few-of-all p) (begin (head p) .fits .budget)
 
 finished-requires : tie.Need-finished-requires Inv-loop μ-loop
-finished-requires c κs = let p = c .before .before .before .before .before .before .before .before .before .before .before .before .before .before .before .before .before .before .before .before .before .before .before .before .before .before .before .before .before .before .before .before .before .before .before .before .before .before .before .before .before .before .before .before .before .before .before .before .before .before .before .before .before .before .before .before .before .before .before .before .before .before .before .before .before .before .before .before .before .before .before .before .before .before .before .before .before .before .before .pre .0 in let u = c .before .before .before .before .before .before .before .before .before .before .before .before .before .before .before .before .before .before .before .before .before .before .before .before .before .before .before .before .before .before .before .before .before .before .before .before .before .before .before .before .before .before .before .before .before .before .before .before .before .before .before .before .before .before .before .before .before .before .before .before .before .before .before .before .loop .inv .0 (p .setting) (p .limits) in let h = c .before .before .before .before .before .before .before .before .before .before .before .before .before .before .before .before .before .before .before .before .before .before .before .before .before .before .before .before .before .before .before .before .before .before .before .before .before .before .before .before .before .before .before .before .before .before .before .before .before .before .before .before .run-plain .ensures (p .setting) (wrapAt _ (errorsAt _ none-other)) _ _ u in let g = reached-special h (c .before .before .before .before .before .before .before .before .before .before .before .before .before .before .before .before .before .before .before .before .before .before .before .before .before .before .before .before .before .before .before .before .before .before .before .stop2 .given .1) in run-few (g .running) (g .more) (c .before .before .before .before .before .before .before .before .before .before .before .before .before .before .before .before .before .before .before .before .before .special-step .ensures (p .setting) (g .running .state) none-other (g .running .means) (g .is)) _ (c .before .went2 .given .1)
+finished-requires c κs =
+    let t = ended (c .before) in
+    let p = begin (head (plain (stop t))) .pre .0 in
+    let g = next (stop t) (p .setting) (p .limits) in
+    run-few (g .running) (g .more) (gives t (p .setting) (p .limits)) _ (c .before .went2 .given .1)
 
 same-length-25 : tie.Need-same-length-25 Inv-loop μ-loop
-same-length-25 c = special-ended (c .before .before) .special-step .kept .1 .0 ∙ head (plain (stop (special-ended (c .before .before)))) .loop .inv .1 .0
+same-length-25 c = ended (c .before .before) .special-step .kept .1 .0 ∙ head (plain (stop (ended (c .before .before)))) .loop .inv .1 .0
 
 same-length-26 : tie.Need-same-length-26 Inv-loop μ-loop
-same-length-26 c = plain (stop (special-ended (c .before .before))) .run-plain .kept .1 .1 .0 ∙ head (plain (stop (special-ended (c .before .before)))) .loop .inv .1 .1
+same-length-26 c = plain (stop (ended (c .before .before))) .run-plain .kept .1 .1 .0 ∙ head (plain (stop (ended (c .before .before)))) .loop .inv .1 .1
 
 same-length-27 : tie.Need-same-length-27 Inv-loop μ-loop
-same-length-27 c = plain (stop (special-ended (c .before .before))) .run-plain .kept .1 .1 .1 .0 ∙ head (plain (stop (special-ended (c .before .before)))) .loop .inv .1 .2
+same-length-27 c = plain (stop (ended (c .before .before))) .run-plain .kept .1 .1 .1 .0 ∙ head (plain (stop (ended (c .before .before)))) .loop .inv .1 .2
 
 same-length-28 : tie.Need-same-length-28 Inv-loop μ-loop
-same-length-28 c = plain (stop (special-ended (c .before .before))) .run-plain .kept .1 .1 .1 .1 .0 ∙ head (plain (stop (special-ended (c .before .before)))) .loop .inv .1 .3
+same-length-28 c = plain (stop (ended (c .before .before))) .run-plain .kept .1 .1 .1 .1 .0 ∙ head (plain (stop (ended (c .before .before)))) .loop .inv .1 .3
 
 same-length-29 : tie.Need-same-length-29 Inv-loop μ-loop
-same-length-29 c = special-ended (c .before .before) .special-step .kept .1 .1 .1 .1 .1 .0 ∙ head (plain (stop (special-ended (c .before .before)))) .loop .inv .1 .4
+same-length-29 c = ended (c .before .before) .special-step .kept .1 .1 .1 .1 .1 .0 ∙ head (plain (stop (ended (c .before .before)))) .loop .inv .1 .4
 
 same-length-30 : tie.Need-same-length-30 Inv-loop μ-loop
-same-length-30 c = special-ended (c .before .before) .special-step .kept .1 .1 .1 .1 .1 .1 .0 ∙ head (plain (stop (special-ended (c .before .before)))) .loop .inv .1 .5
+same-length-30 c = ended (c .before .before) .special-step .kept .1 .1 .1 .1 .1 .1 .0 ∙ head (plain (stop (ended (c .before .before)))) .loop .inv .1 .5
 
 same-length-31 : tie.Need-same-length-31 Inv-loop μ-loop
-same-length-31 c = special-ended (c .before .before) .special-step .kept .1 .1 .1 .1 .1 .1 .1 .0 ∙ plain (stop (special-ended (c .before .before))) .run-plain .kept .1 .1 .1 .1 .1 .1 .1 .0 ∙ head (plain (stop (special-ended (c .before .before)))) .loop .inv .1 .6
+same-length-31 c = ended (c .before .before) .special-step .kept .1 .1 .1 .1 .1 .1 .1 .0 ∙ plain (stop (ended (c .before .before))) .run-plain .kept .1 .1 .1 .1 .1 .1 .1 .0 ∙ head (plain (stop (ended (c .before .before)))) .loop .inv .1 .6
 
 same-length-32 : tie.Need-same-length-32 Inv-loop μ-loop
-same-length-32 c = special-ended (c .before .before) .special-step .kept .1 .1 .1 .1 .1 .1 .1 .1 .0 ∙ plain (stop (special-ended (c .before .before))) .run-plain .kept .1 .1 .1 .1 .1 .1 .1 .1 .0 ∙ head (plain (stop (special-ended (c .before .before)))) .loop .inv .1 .7
+same-length-32 c = ended (c .before .before) .special-step .kept .1 .1 .1 .1 .1 .1 .1 .1 .0 ∙ plain (stop (ended (c .before .before))) .run-plain .kept .1 .1 .1 .1 .1 .1 .1 .1 .0 ∙ head (plain (stop (ended (c .before .before)))) .loop .inv .1 .7
 
 same-length-33 : tie.Need-same-length-33 Inv-loop μ-loop
-same-length-33 c = special-ended (c .before .before) .special-step .kept .1 .1 .1 .1 .1 .1 .1 .1 .1 .0 ∙ head (plain (stop (special-ended (c .before .before)))) .loop .inv .1 .8
+same-length-33 c = ended (c .before .before) .special-step .kept .1 .1 .1 .1 .1 .1 .1 .1 .1 .0 ∙ head (plain (stop (ended (c .before .before)))) .loop .inv .1 .8
 
 same-length-34 : tie.Need-same-length-34 Inv-loop μ-loop
-same-length-34 c = special-ended (c .before .before) .special-step .kept .1 .1 .1 .1 .1 .1 .1 .1 .1 .1 .0 ∙ head (plain (stop (special-ended (c .before .before)))) .loop .inv .1 .9
+same-length-34 c = ended (c .before .before) .special-step .kept .1 .1 .1 .1 .1 .1 .1 .1 .1 .1 .0 ∙ head (plain (stop (ended (c .before .before)))) .loop .inv .1 .9
 
 same-length-35 : tie.Need-same-length-35 Inv-loop μ-loop
-same-length-35 c = special-ended (c .before .before) .special-step .kept .1 .1 .1 .1 .1 .1 .1 .1 .1 .1 .1 .0 ∙ plain (stop (special-ended (c .before .before))) .run-plain .kept .1 .1 .1 .1 .1 .1 .1 .1 .1 .0 ∙ head (plain (stop (special-ended (c .before .before)))) .loop .inv .1 .10
+same-length-35 c = ended (c .before .before) .special-step .kept .1 .1 .1 .1 .1 .1 .1 .1 .1 .1 .1 .0 ∙ plain (stop (ended (c .before .before))) .run-plain .kept .1 .1 .1 .1 .1 .1 .1 .1 .1 .0 ∙ head (plain (stop (ended (c .before .before)))) .loop .inv .1 .10
 
 same-length-36 : tie.Need-same-length-36 Inv-loop μ-loop
-same-length-36 c = special-ended (c .before .before) .special-step .kept .1 .1 .1 .1 .1 .1 .1 .1 .1 .1 .1 .1 .0 ∙ plain (stop (special-ended (c .before .before))) .run-plain .kept .1 .1 .1 .1 .1 .1 .1 .1 .1 .1 .0 ∙ head (plain (stop (special-ended (c .before .before)))) .loop .inv .1 .11
+same-length-36 c = ended (c .before .before) .special-step .kept .1 .1 .1 .1 .1 .1 .1 .1 .1 .1 .1 .1 .0 ∙ plain (stop (ended (c .before .before))) .run-plain .kept .1 .1 .1 .1 .1 .1 .1 .1 .1 .1 .0 ∙ head (plain (stop (ended (c .before .before)))) .loop .inv .1 .11
 
 returns-3 : tie.Need-returns-3 Inv-loop μ-loop
-returns-3 c = λ a l. let u = c .before .before .before .before .before .before .before .before .before .before .before .before .before .before .before .before .before .before .before .before .before .before .before .before .before .before .before .before .before .before .before .before .before .before .before .before .before .before .before .before .before .before .before .before .before .before .before .before .before .before .before .before .before .before .before .before .before .before .before .before .before .before .before .before .before .loop .inv .0 a l in let h = c .before .before .before .before .before .before .before .before .before .before .before .before .before .before .before .before .before .before .before .before .before .before .before .before .before .before .before .before .before .before .before .before .before .before .before .before .before .before .before .before .before .before .before .before .before .before .before .before .before .before .before .before .before .run-plain .ensures a (wrapAt _ (errorsAt _ none-other)) _ _ u in let g = reached-special h (c .before .before .before .before .before .before .before .before .before .before .before .before .before .before .before .before .before .before .before .before .before .before .before .before .before .before .before .before .before .before .before .before .before .before .before .before .stop2 .given .1) in subst (Ran _ _ _) (sym (c .finished .ensures)) (end-recount _ _ _ (omega (arith, h .few, c .before .before .before .before .before .before .before .before .before .before .before .before .before .before .before .before .before .before .before .before .before .before .before .before .before .before .before .before .before .before .before .before .before .before .before .before .before .before .before .before .before .before .before .before .before .before .before .before .before .before .before .before .before .before .before .before .before .before .before .before .before .before .before .before .before .loop .inv .2)) (run-ended (g .running) (g .more) (c .before .before .before .before .before .before .before .before .before .before .before .before .before .before .before .before .before .before .before .before .before .before .special-step .ensures a (g .running .state) none-other (g .running .means) (g .is)) _ (c .before .before .went2 .given .1)))
+returns-3 c =
+    λ a l.
+    let t = ended (c .before .before) in
+    let g = next (stop t) a l in
+    subst (Ran _ _ _) (sym (c .finished .ensures))
+    (end-recount _ _ _ (count-is (plain (stop t))) (run-ended (g .running) (g .more) (gives t a l) _ (c .before .before .went2 .given .1)))
 
 enum-told : tie.Need-enum-told Inv-loop μ-loop
 enum-told c = search needs
 
 sub-left : tie.Need-sub-left Inv-loop μ-loop
-sub-left c = let p = c .before .before .before .before .before .before .before .before .before .before .before .before .before .before .before .before .before .before .before .before .before .before .before .before .before .before .before .before .before .before .before .before .before .before .before .before .before .before .before .before .before .before .before .before .before .before .before .before .before .before .before .before .before .before .before .before .before .before .before .before .before .before .before .before .before .before .before .before .before .before .before .before .before .before .before .before .before .before .before .pre .0 in let u = c .before .before .before .before .before .before .before .before .before .before .before .before .before .before .before .before .before .before .before .before .before .before .before .before .before .before .before .before .before .before .before .before .before .before .before .before .before .before .before .before .before .before .before .before .before .before .before .before .before .before .before .before .before .before .before .before .before .before .before .before .before .before .before .before .loop .inv .0 (p .setting) (p .limits) in let h = c .before .before .before .before .before .before .before .before .before .before .before .before .before .before .before .before .before .before .before .before .before .before .before .before .before .before .before .before .before .before .before .before .before .before .before .before .before .before .before .before .before .before .before .before .before .before .before .before .before .before .before .before .run-plain .ensures (p .setting) (wrapAt _ (errorsAt _ none-other)) _ _ u in let g = reached-special h (c .before .before .before .before .before .before .before .before .before .before .before .before .before .before .before .before .before .before .before .before .before .before .before .before .before .before .before .before .before .before .before .before .before .before .before .stop2 .given .1) in omega (arith, g .more)
+sub-left c = more (stop (on (c .before)))
 
 loop-less : tie.Need-loop-less Inv-loop μ-loop
-loop-less c = let p = c .before .before .before .before .before .before .before .before .before .before .before .before .before .before .before .before .before .before .before .before .before .before .before .before .before .before .before .before .before .before .before .before .before .before .before .before .before .before .before .before .before .before .before .before .before .before .before .before .before .before .before .before .before .before .before .before .before .before .before .before .before .before .before .before .before .before .before .before .before .before .before .before .before .before .before .before .before .before .before .pre .0 in let u = c .before .before .before .before .before .before .before .before .before .before .before .before .before .before .before .before .before .before .before .before .before .before .before .before .before .before .before .before .before .before .before .before .before .before .before .before .before .before .before .before .before .before .before .before .before .before .before .before .before .before .before .before .before .before .before .before .before .before .before .before .before .before .before .before .loop .inv .0 (p .setting) (p .limits) in let h = c .before .before .before .before .before .before .before .before .before .before .before .before .before .before .before .before .before .before .before .before .before .before .before .before .before .before .before .before .before .before .before .before .before .before .before .before .before .before .before .before .before .before .before .before .before .before .before .before .before .before .before .before .run-plain .ensures (p .setting) (wrapAt _ (errorsAt _ none-other)) _ _ u in let g = reached-special h (c .before .before .before .before .before .before .before .before .before .before .before .before .before .before .before .before .before .before .before .before .before .before .before .before .before .before .before .before .before .before .before .before .before .before .before .stop2 .given .1) in omega (arith, h .few, g .more)
+loop-less c =
+    let s = stop (on (c .before)) in
+    one-less (few (plain s)) (more s)
 
 loop-again : tie.Need-loop-again Inv-loop μ-loop
-loop-again c = (λ a l. let u = c .before .before .before .before .before .before .before .before .before .before .before .before .before .before .before .before .before .before .before .before .before .before .before .before .before .before .before .before .before .before .before .before .before .before .before .before .before .before .before .before .before .before .before .before .before .before .before .before .before .before .before .before .before .before .before .before .before .before .before .before .before .before .before .before .loop .inv .0 a l in let h = c .before .before .before .before .before .before .before .before .before .before .before .before .before .before .before .before .before .before .before .before .before .before .before .before .before .before .before .before .before .before .before .before .before .before .before .before .before .before .before .before .before .before .before .before .before .before .before .before .before .before .before .before .run-plain .ensures a (wrapAt _ (errorsAt _ none-other)) _ _ u in let g = reached-special h (c .before .before .before .before .before .before .before .before .before .before .before .before .before .before .before .before .before .before .before .before .before .before .before .before .before .before .before .before .before .before .before .before .before .before .before .stop2 .given .1) in recount (run-on (g .running) (g .more) (c .before .before .before .before .before .before .before .before .before .before .before .before .before .before .before .before .before .before .before .before .before .special-step .ensures a (g .running .state) none-other (g .running .means) (g .is)) (c .before .enum-told .given .1)) _ (omega (arith, h .few, g .more, c .before .before .before .before .before .before .before .before .before .before .before .before .before .before .before .before .before .before .before .before .before .before .before .before .before .before .before .before .before .before .before .before .before .before .before .before .before .before .before .before .before .before .before .before .before .before .before .before .before .before .before .before .before .before .before .before .before .before .before .before .before .before .before .before .loop .inv .2)), omega (arith, c .before .before .before .before .before .before .before .before .before .before .before .before .before .before .before .before .before .before .before .before .before .before .before .before .before .before .before .before .before .before .before .before .before .before .before .before .before .before .before .before .before .before .before .before .before .before .before .before .before .before .before .before .before .before .before .before .before .before .before .before .before .before .before .before .loop .inv .1, c .before .before .before .before .before .before .before .before .before .before .before .before .before .before .before .before .before .before .before .before .before .before .before .before .before .before .before .before .before .before .before .before .before .before .before .before .before .before .before .before .before .before .before .before .before .before .before .before .before .before .before .before .run-plain .kept, c .before .before .before .before .before .before .before .before .before .before .before .before .before .before .before .before .before .before .before .before .before .special-step .kept), let p = c .before .before .before .before .before .before .before .before .before .before .before .before .before .before .before .before .before .before .before .before .before .before .before .before .before .before .before .before .before .before .before .before .before .before .before .before .before .before .before .before .before .before .before .before .before .before .before .before .before .before .before .before .before .before .before .before .before .before .before .before .before .before .before .before .before .before .before .before .before .before .before .before .before .before .before .before .before .before .before .pre .0 in let u = c .before .before .before .before .before .before .before .before .before .before .before .before .before .before .before .before .before .before .before .before .before .before .before .before .before .before .before .before .before .before .before .before .before .before .before .before .before .before .before .before .before .before .before .before .before .before .before .before .before .before .before .before .before .before .before .before .before .before .before .before .before .before .before .before .loop .inv .0 (p .setting) (p .limits) in let h = c .before .before .before .before .before .before .before .before .before .before .before .before .before .before .before .before .before .before .before .before .before .before .before .before .before .before .before .before .before .before .before .before .before .before .before .before .before .before .before .before .before .before .before .before .before .before .before .before .before .before .before .before .run-plain .ensures (p .setting) (wrapAt _ (errorsAt _ none-other)) _ _ u in omega (arith, h .few, c .before .before .before .before .before .before .before .before .before .before .before .before .before .before .before .before .before .before .before .before .before .before .before .before .before .before .before .before .before .before .before .before .before .before .before .before .before .before .before .before .before .before .before .before .before .before .before .before .before .before .before .before .before .before .before .before .before .before .before .before .before .before .before .before .loop .inv .2))
+loop-again c =
+    let t = on (c .before) in
+    let s = stop t in
+    let p = plain s in
+    let i = head p .loop .inv in (
+      λ a l.
+          let g = next s a l in
+          recount (run-on (g .running) (g .more) (gives t a l) (c .before .enum-told .given .1)) _ (counted-one (few p) (i .2) (more s)),
+      (t .special-step .kept .1 .0 ∙ i .1 .0, p .run-plain .kept .1 .1 .0 ∙ i .1 .1, p .run-plain .kept .1 .1 .1 .0 ∙ i .1 .2, p .run-plain .kept .1 .1 .1 .1 .0 ∙ i .1 .3, t .special-step .kept .1 .1 .1 .1 .1 .0 ∙ i .1 .4, t .special-step .kept .1 .1 .1 .1 .1 .1 .0 ∙ i .1 .5, t .special-step .kept .1 .1 .1 .1 .1 .1 .1 .0 ∙ p .run-plain .kept .1 .1 .1 .1 .1 .1 .1 .0 ∙ i .1 .6, t .special-step .kept .1 .1 .1 .1 .1 .1 .1 .1 .0 ∙ p .run-plain .kept .1 .1 .1 .1 .1 .1 .1 .1 .0 ∙ i .1 .7, t .special-step .kept .1 .1 .1 .1 .1 .1 .1 .1 .1 .0 ∙ i .1 .8, t .special-step .kept .1 .1 .1 .1 .1 .1 .1 .1 .1 .1 .0 ∙ i .1 .9, t .special-step .kept .1 .1 .1 .1 .1 .1 .1 .1 .1 .1 .1 .0 ∙ p .run-plain .kept .1 .1 .1 .1 .1 .1 .1 .1 .1 .0 ∙ i .1 .10, t .special-step .kept .1 .1 .1 .1 .1 .1 .1 .1 .1 .1 .1 .1 .0 ∙ p .run-plain .kept .1 .1 .1 .1 .1 .1 .1 .1 .1 .1 .0 ∙ i .1 .11),
+      le-trans (le-of-lt (one-less (few p) (more s))) (i .2),
+    )
 
 stopped-requires-3 : tie.Need-stopped-requires-3 Inv-loop μ-loop
-stopped-requires-3 c κs = let p = c .before .before .before .before .before .before .before .before .before .before .before .before .before .before .before .before .pre .0 in taken-few (c .before .loop .inv .0 (p .setting) (p .limits))
+stopped-requires-3 c κs =
+    let h = c .before in
+    let p = begin h .pre .0 in
+    taken-few (h .loop .inv .0 (p .setting) (p .limits))
 
 same-length-37 : tie.Need-same-length-37 Inv-loop μ-loop
 same-length-37 c = c .before .before .loop .inv .1 .0
@@ -272,7 +377,11 @@ same-length-48 : tie.Need-same-length-48 Inv-loop μ-loop
 same-length-48 c = c .before .before .loop .inv .1 .11
 
 returns-4 : tie.Need-returns-4 Inv-loop μ-loop
-returns-4 c = λ a l. let u = c .before .before .loop .inv .0 a l in let z = c .before .loop-test .left in subst (Ran _ _ _) (sym (c .stopped3 .ensures)) (ran-recount _ _ _ (omega (arith, z)) (run-spent u (omega (arith, z)) _ _))
+returns-4 c =
+    λ a l.
+    let h = c .before .before in
+    let z = none-left (c .before .loop-test .left) in
+    subst (Ran _ _ _) (sym (c .stopped3 .ensures)) (ran-recount _ _ _ (z .0) (run-spent (h .loop .inv .0 a l) (z .1) _ _))
 
 pub run-spec : {M : Type 1} → statement M
 run-spec =
