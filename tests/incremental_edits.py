@@ -20,8 +20,8 @@ import tempfile
 import time
 
 ROOT = os.path.dirname(os.path.dirname(os.path.abspath(__file__)))
-BELOW = ["rules", "ascii", "numerals", "expression", "matching"]
-CRATES = ["expander", "expression", "matching", "numerals", "ascii"]
+BELOW = ["rules", "ascii", "numerals", "expression", "matching", "answers"]
+CRATES = ["expander", "expression", "matching", "numerals", "ascii", "answers"]
 WAIT = 900
 ERROR = re.compile(r"^(\S+/proofs/(\S+)\.antt:\d+:\d+): error: (.*)$", re.M)
 NO_PROOF = re.compile(r"^fn (\S+): no proof: .*`search` does not close", re.M)

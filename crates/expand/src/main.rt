@@ -4,7 +4,6 @@
 use libc::STDERR_FILENO;
 use libc::STDIN_FILENO;
 use libc::STDOUT_FILENO;
-use rules::Answer;
 use rules::Report;
 ghost use mathlib.Core.Path.{_≡_};
 ghost use Prim.Native.Nat.{_≤_};
@@ -43,34 +42,6 @@ fn read_text(buffer: &mut [u8]) -> Input
     Input::Bytes(done)
 }
 
-fn number_of(a: Answer) -> u32 {
-    match a {
-        Answer::Done => 0,
-        Answer::Exit(_) => 1,
-        Answer::Lend => 2,
-        Answer::Spent => 3,
-        Answer::Room(_) => 4,
-        Answer::Unclosed(_) => 5,
-        Answer::Name => 6,
-        Answer::Number => 7,
-        Answer::Expression => 8,
-        Answer::Divisor => 9,
-        Answer::Mark => 10,
-        Answer::NoText => 11,
-        Answer::Gone => 12,
-        Answer::Deep => 13,
-    }
-}
-
-fn detail_of(a: Answer) -> u32 {
-    match a {
-        Answer::Exit(code) => code,
-        Answer::Room(buffer) => buffer,
-        Answer::Unclosed(what) => what,
-        _ => 0,
-    }
-}
-
 fn print(n: u32, after: &[u8]) {
     io::print_decimal(STDERR_FILENO, n as u64);
     io::write_all(STDERR_FILENO, after);
@@ -79,10 +50,10 @@ fn print(n: u32, after: &[u8]) {
 // The answer line.
 fn print_report(r: Report) {
     let answer = r.answer;
-    print(number_of(answer), b" ");
+    print(answers::number_of(answer), b" ");
     print(r.steps, b" ");
     print(r.place, b" ");
-    print(detail_of(answer), b"\n");
+    print(answers::detail_of(answer), b"\n");
 }
 
 fn complain(message: &[u8]) {

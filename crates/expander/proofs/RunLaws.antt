@@ -344,11 +344,17 @@ counted f h = omega arith
 pub counted-one : {budget before left : ℕ} → left ≤ before → before ≤ budget → 0 < left → (budget - before) + (before - left) + 1 ≡ budget - (left - 1)
 counted-one f h more = omega arith
 
+pub counted-on : (count : ℕ) {budget left : ℕ} → left ≤ budget → 0 < left → count + (budget - left) + 1 ≡ count + (budget - (left - 1))
+counted-on count f more = omega arith
+
 pub one-less : {before left : ℕ} → left ≤ before → 0 < left → left - 1 < before
 one-less f more = omega arith
 
 pub step-fits : {budget left : ℕ} → 0 < left → left ≤ budget → Fits w32 budget → Fits w32 (budget - left + 1)
 step-fits more f h = fits-le (omega arith) h
 
-pub none-left : {budget left : ℕ} → left ≤ 0 → (budget - left ≡ budget) × (left ≡ 0)
-none-left h = (omega arith, omega arith)
+pub none-left : {left : ℕ} → left ≤ 0 → left ≡ 0
+none-left h = omega arith
+
+pub all-counted : (budget : ℕ) {left : ℕ} → left ≤ 0 → budget - left ≡ budget
+all-counted budget h = omega arith

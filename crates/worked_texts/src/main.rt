@@ -1,7 +1,6 @@
 // The worked texts of document 01 that are not proved of the definitions, the traps of the old box, and other texts whose outcome can be
 // worked out with the rules in hand. For each: the text, what was written, the error text if there is any, and the answer: number, detail, steps, place.
 use libc::STDOUT_FILENO;
-use rules::Answer;
 use rules::Report;
 ghost use Prim.Native.Nat.{_≤_};
 
@@ -14,38 +13,11 @@ fn write_number(n: u32) {
     io::print_decimal(STDOUT_FILENO, n as u64);
 }
 
-// Number and detail of an answer.
-fn write_answer(a: Answer) {
-    match a {
-        Answer::Done => write(b"0 0"),
-        Answer::Exit(code) => {
-            write(b"1");
-            write_number(code)
-        }
-        Answer::Lend => write(b"2 0"),
-        Answer::Spent => write(b"3 0"),
-        Answer::Room(buffer) => {
-            write(b"4");
-            write_number(buffer)
-        }
-        Answer::Unclosed(what) => {
-            write(b"5");
-            write_number(what)
-        }
-        Answer::Name => write(b"6 0"),
-        Answer::Number => write(b"7 0"),
-        Answer::Expression => write(b"8 0"),
-        Answer::Divisor => write(b"9 0"),
-        Answer::Mark => write(b"10 0"),
-        Answer::NoText => write(b"11 0"),
-        Answer::Gone => write(b"12 0"),
-        Answer::Deep => write(b"13 0"),
-    }
-}
-
+// Number, detail, steps, place.
 fn write_report(r: Report) {
     let answer = r.answer;
-    write_answer(answer);
+    io::print_decimal(STDOUT_FILENO, answers::number_of(answer) as u64);
+    write_number(answers::detail_of(answer));
     write_number(r.steps);
     write_number(r.place);
     write(b"\n");

@@ -2,7 +2,7 @@
 use Prim.Native.Nat.{ℕ, _+_, _-_, _≤_, _<_}
 use native.Mathlib.Nat.{le-trans, le-of-lt}
 use mathlib.Core.Path.{_≡_, refl, sym, subst, _∙_}
-use mathlib.Core.List.{[]}
+use mathlib.Core.List.{List, []}
 use native.Mathlib.Omega.{arith}
 use lib.ListN.{length}
 use Rattle.rules.specs.State.{freshStart, startState}
@@ -10,7 +10,7 @@ use Rattle.rules.specs.Step.{step}
 use Rattle.rules.specs.Run.{Setting, Ended, lengths, runFrom}
 use Rattle.expander.specs.Machine.{Memory, memory, Limits, Gives, wrapAt, errorsAt}
 use Rattle.expander.specs.Run.{Running, Ran, Stretched, SpecialNext}
-use Rattle.expander.proofs.RunLaws.{begun, taken-few, run-spent, run-refused, run-ended, run-few, run-on, recount, ran-recount, end-recount, reached-stop, reached-special, counted, counted-one, one-less, step-fits, none-left}
+use Rattle.expander.proofs.RunLaws.{begun, taken-few, run-spent, run-refused, run-ended, run-few, run-on, recount, ran-recount, end-recount, reached-stop, reached-special, counted, counted-one, one-less, step-fits, none-left, all-counted}
 use borrow.Author.Needs.{needs}
 use Rattle.expander.proofs.run.run.Statement.{statement}
 use Rattle.expander.proofs.run.run.Tie as tie
@@ -19,10 +19,26 @@ use Rattle.expander.proofs.run.run.Tie as tie
 abbrev none-other : Memory
 none-other = memory [] [] [] [] [] [] [] [] [] [] [] []
 
+-- two memories, each with its scratch buffer, of the same lengths
+abbrev SameLengths : Memory → List ℕ → Memory → List ℕ → Type 0
+SameLengths b s b₀ s₀ =
+    (length (b .pending) ≡ length (b₀ .pending))
+    × (length (b .calls) ≡ length (b₀ .calls))
+    × (length (b .callEnds) ≡ length (b₀ .callEnds))
+    × (length (b .stack) ≡ length (b₀ .stack))
+    × (length (b .definitions) ≡ length (b₀ .definitions))
+    × (length (b .tableEnds) ≡ length (b₀ .tableEnds))
+    × (length (b .streams) ≡ length (b₀ .streams))
+    × (length (b .owners) ≡ length (b₀ .owners))
+    × (length (b .wrap) ≡ length (b₀ .wrap))
+    × (length (b .errors) ≡ length (b₀ .errors))
+    × (length (b .output) ≡ length (b₀ .output))
+    × (length s ≡ length s₀)
+
 abbrev Inv-loop : tie.InvT-loop
 Inv-loop text pending₀ calls₀ ends₀ stack₀ definitions₀ table-ends₀ streams₀ owners₀ wrap₀ errors₀ output₀ scratch₀ budget from m₀ left₀ pending calls ends stack definitions table-ends streams owners wrap errors output scratch m left =
     ((a : Setting) → Limits a (memory text pending₀ calls₀ ends₀ stack₀ definitions₀ table-ends₀ streams₀ owners₀ wrap₀ errors₀ output₀) → Running a (memory text pending calls ends stack definitions table-ends streams owners wrap errors output) m left (budget - left) (runFrom (lengths a) budget 0 (startState (freshStart text))))
-    × ((length pending ≡ length pending₀) × (length calls ≡ length calls₀) × (length ends ≡ length ends₀) × (length stack ≡ length stack₀) × (length definitions ≡ length definitions₀) × (length table-ends ≡ length table-ends₀) × (length streams ≡ length streams₀) × (length owners ≡ length owners₀) × (length wrap ≡ length wrap₀) × (length errors ≡ length errors₀) × (length output ≡ length output₀) × (length scratch ≡ length scratch₀))
+    × SameLengths (memory text pending calls ends stack definitions table-ends streams owners wrap errors output) scratch (memory text pending₀ calls₀ ends₀ stack₀ definitions₀ table-ends₀ streams₀ owners₀ wrap₀ errors₀ output₀) scratch₀
     × (left ≤ budget)
 
 abbrev μ-loop : tie.MeasureT-loop
@@ -77,6 +93,19 @@ after-special c =
 
 abbrev whole : tie.At-loop Inv-loop μ-loop → Setting → Ended
 whole c a = runFrom (lengths a) (begin c .args .budget) 0 (startState (freshStart (begin c .args .text .now)))
+
+-- no length has changed
+kept-plain : (c : tie.After-run-plain Inv-loop μ-loop) → SameLengths (after-plain c) (c .run-plain .last .1 .1 .1 .1 .1 .1 .1 .1 .1 .1 .0) (lent (begin (head c))) (begin (head c) .args .scratch .now)
+kept-plain c =
+    let i = head c .loop .inv .1 in
+    let k = c .run-plain .kept in
+    (i .0, k .1 .1 .0 ∙ i .1, k .1 .1 .1 .0 ∙ i .2, k .1 .1 .1 .1 .0 ∙ i .3, i .4, i .5, k .1 .1 .1 .1 .1 .1 .1 .0 ∙ i .6, k .1 .1 .1 .1 .1 .1 .1 .1 .0 ∙ i .7, i .8, i .9, k .1 .1 .1 .1 .1 .1 .1 .1 .1 .0 ∙ i .10, k .1 .1 .1 .1 .1 .1 .1 .1 .1 .1 .0 ∙ i .11)
+
+kept-special : (c : tie.After-special-step Inv-loop μ-loop) → SameLengths (after-special c) (c .special-step .last .1 .1 .1 .1 .1 .1 .1 .1 .1 .1 .1 .1 .0) (lent (begin (head (plain (stop c))))) (begin (head (plain (stop c))) .args .scratch .now)
+kept-special c =
+    let i = kept-plain (plain (stop c)) in
+    let k = c .special-step .kept in
+    (k .1 .0 ∙ i .0, i .1, i .2, i .3, k .1 .1 .1 .1 .1 .0 ∙ i .4, k .1 .1 .1 .1 .1 .1 .0 ∙ i .5, k .1 .1 .1 .1 .1 .1 .1 .0 ∙ i .6, k .1 .1 .1 .1 .1 .1 .1 .1 .0 ∙ i .7, k .1 .1 .1 .1 .1 .1 .1 .1 .1 .0 ∙ i .8, k .1 .1 .1 .1 .1 .1 .1 .1 .1 .1 .0 ∙ i .9, k .1 .1 .1 .1 .1 .1 .1 .1 .1 .1 .1 .0 ∙ i .10, k .1 .1 .1 .1 .1 .1 .1 .1 .1 .1 .1 .1 .0 ∙ i .11)
 
 -- what the plain steps came to
 stretched : (c : tie.After-run-plain Inv-loop μ-loop) (a : Setting) → Limits a (lent (begin (head c))) → Stretched a (after-plain c) (whole (head c) a) (head c .loop .left) (begin (head c) .args .budget - head c .loop .left) (c .run-plain .result)
@@ -140,40 +169,40 @@ stopped-requires c κs =
     reached-stop (stretched p (q .setting) (q .limits)) (c .before .stop .given .1) .taken-in
 
 same-length : tie.Need-same-length Inv-loop μ-loop
-same-length c = head (plain-stopped (c .before .before)) .loop .inv .1 .0
+same-length c = kept-plain (plain-stopped (c .before .before)) .0
 
 same-length-2 : tie.Need-same-length-2 Inv-loop μ-loop
-same-length-2 c = plain-stopped (c .before .before) .run-plain .kept .1 .1 .0 ∙ head (plain-stopped (c .before .before)) .loop .inv .1 .1
+same-length-2 c = kept-plain (plain-stopped (c .before .before)) .1
 
 same-length-3 : tie.Need-same-length-3 Inv-loop μ-loop
-same-length-3 c = plain-stopped (c .before .before) .run-plain .kept .1 .1 .1 .0 ∙ head (plain-stopped (c .before .before)) .loop .inv .1 .2
+same-length-3 c = kept-plain (plain-stopped (c .before .before)) .2
 
 same-length-4 : tie.Need-same-length-4 Inv-loop μ-loop
-same-length-4 c = plain-stopped (c .before .before) .run-plain .kept .1 .1 .1 .1 .0 ∙ head (plain-stopped (c .before .before)) .loop .inv .1 .3
+same-length-4 c = kept-plain (plain-stopped (c .before .before)) .3
 
 same-length-5 : tie.Need-same-length-5 Inv-loop μ-loop
-same-length-5 c = head (plain-stopped (c .before .before)) .loop .inv .1 .4
+same-length-5 c = kept-plain (plain-stopped (c .before .before)) .4
 
 same-length-6 : tie.Need-same-length-6 Inv-loop μ-loop
-same-length-6 c = head (plain-stopped (c .before .before)) .loop .inv .1 .5
+same-length-6 c = kept-plain (plain-stopped (c .before .before)) .5
 
 same-length-7 : tie.Need-same-length-7 Inv-loop μ-loop
-same-length-7 c = plain-stopped (c .before .before) .run-plain .kept .1 .1 .1 .1 .1 .1 .1 .0 ∙ head (plain-stopped (c .before .before)) .loop .inv .1 .6
+same-length-7 c = kept-plain (plain-stopped (c .before .before)) .6
 
 same-length-8 : tie.Need-same-length-8 Inv-loop μ-loop
-same-length-8 c = plain-stopped (c .before .before) .run-plain .kept .1 .1 .1 .1 .1 .1 .1 .1 .0 ∙ head (plain-stopped (c .before .before)) .loop .inv .1 .7
+same-length-8 c = kept-plain (plain-stopped (c .before .before)) .7
 
 same-length-9 : tie.Need-same-length-9 Inv-loop μ-loop
-same-length-9 c = head (plain-stopped (c .before .before)) .loop .inv .1 .8
+same-length-9 c = kept-plain (plain-stopped (c .before .before)) .8
 
 same-length-10 : tie.Need-same-length-10 Inv-loop μ-loop
-same-length-10 c = head (plain-stopped (c .before .before)) .loop .inv .1 .9
+same-length-10 c = kept-plain (plain-stopped (c .before .before)) .9
 
 same-length-11 : tie.Need-same-length-11 Inv-loop μ-loop
-same-length-11 c = plain-stopped (c .before .before) .run-plain .kept .1 .1 .1 .1 .1 .1 .1 .1 .1 .0 ∙ head (plain-stopped (c .before .before)) .loop .inv .1 .10
+same-length-11 c = kept-plain (plain-stopped (c .before .before)) .10
 
 same-length-12 : tie.Need-same-length-12 Inv-loop μ-loop
-same-length-12 c = plain-stopped (c .before .before) .run-plain .kept .1 .1 .1 .1 .1 .1 .1 .1 .1 .1 .0 ∙ head (plain-stopped (c .before .before)) .loop .inv .1 .11
+same-length-12 c = kept-plain (plain-stopped (c .before .before)) .11
 
 returns : tie.Need-returns Inv-loop μ-loop
 returns c =
@@ -189,7 +218,7 @@ special-step-requires c κs =
     let s = c .before .before .before .before .before .before .before .before .before .before .before .before .before in
     let p = begin (head (plain s)) .pre .0 in
     let g = next s (p .setting) (p .limits) in
-    (record { sound = record { others = none-other; setting = p .setting; state = g .running .state; means = g .running .means }; is = g .is }, (g .within, plain s .run-plain .kept .1 .1 .1 .1 .1 .1 .1 .1 .1 .1 .0 ∙ head (plain s) .loop .inv .1 .11 ∙ begin (head (plain s)) .pre .1))
+    (record { sound = record { others = none-other; setting = p .setting; state = g .running .state; means = g .running .means }; is = g .is }, (g .within, kept-plain (plain s) .11 ∙ begin (head (plain s)) .pre .1))
 
 enum-known-went : tie.Need-enum-known-went Inv-loop μ-loop
 enum-known-went c = search needs
@@ -204,40 +233,40 @@ stopped-requires-2 c κs =
     taken-few (next s (p .setting) (p .limits) .running)
 
 same-length-13 : tie.Need-same-length-13 Inv-loop μ-loop
-same-length-13 c = refused (c .before .before) .special-step .kept .1 .0 ∙ head (plain (stop (refused (c .before .before)))) .loop .inv .1 .0
+same-length-13 c = kept-special (refused (c .before .before)) .0
 
 same-length-14 : tie.Need-same-length-14 Inv-loop μ-loop
-same-length-14 c = plain (stop (refused (c .before .before))) .run-plain .kept .1 .1 .0 ∙ head (plain (stop (refused (c .before .before)))) .loop .inv .1 .1
+same-length-14 c = kept-special (refused (c .before .before)) .1
 
 same-length-15 : tie.Need-same-length-15 Inv-loop μ-loop
-same-length-15 c = plain (stop (refused (c .before .before))) .run-plain .kept .1 .1 .1 .0 ∙ head (plain (stop (refused (c .before .before)))) .loop .inv .1 .2
+same-length-15 c = kept-special (refused (c .before .before)) .2
 
 same-length-16 : tie.Need-same-length-16 Inv-loop μ-loop
-same-length-16 c = plain (stop (refused (c .before .before))) .run-plain .kept .1 .1 .1 .1 .0 ∙ head (plain (stop (refused (c .before .before)))) .loop .inv .1 .3
+same-length-16 c = kept-special (refused (c .before .before)) .3
 
 same-length-17 : tie.Need-same-length-17 Inv-loop μ-loop
-same-length-17 c = refused (c .before .before) .special-step .kept .1 .1 .1 .1 .1 .0 ∙ head (plain (stop (refused (c .before .before)))) .loop .inv .1 .4
+same-length-17 c = kept-special (refused (c .before .before)) .4
 
 same-length-18 : tie.Need-same-length-18 Inv-loop μ-loop
-same-length-18 c = refused (c .before .before) .special-step .kept .1 .1 .1 .1 .1 .1 .0 ∙ head (plain (stop (refused (c .before .before)))) .loop .inv .1 .5
+same-length-18 c = kept-special (refused (c .before .before)) .5
 
 same-length-19 : tie.Need-same-length-19 Inv-loop μ-loop
-same-length-19 c = refused (c .before .before) .special-step .kept .1 .1 .1 .1 .1 .1 .1 .0 ∙ plain (stop (refused (c .before .before))) .run-plain .kept .1 .1 .1 .1 .1 .1 .1 .0 ∙ head (plain (stop (refused (c .before .before)))) .loop .inv .1 .6
+same-length-19 c = kept-special (refused (c .before .before)) .6
 
 same-length-20 : tie.Need-same-length-20 Inv-loop μ-loop
-same-length-20 c = refused (c .before .before) .special-step .kept .1 .1 .1 .1 .1 .1 .1 .1 .0 ∙ plain (stop (refused (c .before .before))) .run-plain .kept .1 .1 .1 .1 .1 .1 .1 .1 .0 ∙ head (plain (stop (refused (c .before .before)))) .loop .inv .1 .7
+same-length-20 c = kept-special (refused (c .before .before)) .7
 
 same-length-21 : tie.Need-same-length-21 Inv-loop μ-loop
-same-length-21 c = refused (c .before .before) .special-step .kept .1 .1 .1 .1 .1 .1 .1 .1 .1 .0 ∙ head (plain (stop (refused (c .before .before)))) .loop .inv .1 .8
+same-length-21 c = kept-special (refused (c .before .before)) .8
 
 same-length-22 : tie.Need-same-length-22 Inv-loop μ-loop
-same-length-22 c = refused (c .before .before) .special-step .kept .1 .1 .1 .1 .1 .1 .1 .1 .1 .1 .0 ∙ head (plain (stop (refused (c .before .before)))) .loop .inv .1 .9
+same-length-22 c = kept-special (refused (c .before .before)) .9
 
 same-length-23 : tie.Need-same-length-23 Inv-loop μ-loop
-same-length-23 c = refused (c .before .before) .special-step .kept .1 .1 .1 .1 .1 .1 .1 .1 .1 .1 .1 .0 ∙ plain (stop (refused (c .before .before))) .run-plain .kept .1 .1 .1 .1 .1 .1 .1 .1 .1 .0 ∙ head (plain (stop (refused (c .before .before)))) .loop .inv .1 .10
+same-length-23 c = kept-special (refused (c .before .before)) .10
 
 same-length-24 : tie.Need-same-length-24 Inv-loop μ-loop
-same-length-24 c = refused (c .before .before) .special-step .kept .1 .1 .1 .1 .1 .1 .1 .1 .1 .1 .1 .1 .0 ∙ plain (stop (refused (c .before .before))) .run-plain .kept .1 .1 .1 .1 .1 .1 .1 .1 .1 .1 .0 ∙ head (plain (stop (refused (c .before .before)))) .loop .inv .1 .11
+same-length-24 c = kept-special (refused (c .before .before)) .11
 
 returns-2 : tie.Need-returns-2 Inv-loop μ-loop
 returns-2 c =
@@ -267,40 +296,40 @@ finished-requires c κs =
     run-few (g .running) (g .more) (gives t (p .setting) (p .limits)) _ (c .before .went2 .given .1)
 
 same-length-25 : tie.Need-same-length-25 Inv-loop μ-loop
-same-length-25 c = ended (c .before .before) .special-step .kept .1 .0 ∙ head (plain (stop (ended (c .before .before)))) .loop .inv .1 .0
+same-length-25 c = kept-special (ended (c .before .before)) .0
 
 same-length-26 : tie.Need-same-length-26 Inv-loop μ-loop
-same-length-26 c = plain (stop (ended (c .before .before))) .run-plain .kept .1 .1 .0 ∙ head (plain (stop (ended (c .before .before)))) .loop .inv .1 .1
+same-length-26 c = kept-special (ended (c .before .before)) .1
 
 same-length-27 : tie.Need-same-length-27 Inv-loop μ-loop
-same-length-27 c = plain (stop (ended (c .before .before))) .run-plain .kept .1 .1 .1 .0 ∙ head (plain (stop (ended (c .before .before)))) .loop .inv .1 .2
+same-length-27 c = kept-special (ended (c .before .before)) .2
 
 same-length-28 : tie.Need-same-length-28 Inv-loop μ-loop
-same-length-28 c = plain (stop (ended (c .before .before))) .run-plain .kept .1 .1 .1 .1 .0 ∙ head (plain (stop (ended (c .before .before)))) .loop .inv .1 .3
+same-length-28 c = kept-special (ended (c .before .before)) .3
 
 same-length-29 : tie.Need-same-length-29 Inv-loop μ-loop
-same-length-29 c = ended (c .before .before) .special-step .kept .1 .1 .1 .1 .1 .0 ∙ head (plain (stop (ended (c .before .before)))) .loop .inv .1 .4
+same-length-29 c = kept-special (ended (c .before .before)) .4
 
 same-length-30 : tie.Need-same-length-30 Inv-loop μ-loop
-same-length-30 c = ended (c .before .before) .special-step .kept .1 .1 .1 .1 .1 .1 .0 ∙ head (plain (stop (ended (c .before .before)))) .loop .inv .1 .5
+same-length-30 c = kept-special (ended (c .before .before)) .5
 
 same-length-31 : tie.Need-same-length-31 Inv-loop μ-loop
-same-length-31 c = ended (c .before .before) .special-step .kept .1 .1 .1 .1 .1 .1 .1 .0 ∙ plain (stop (ended (c .before .before))) .run-plain .kept .1 .1 .1 .1 .1 .1 .1 .0 ∙ head (plain (stop (ended (c .before .before)))) .loop .inv .1 .6
+same-length-31 c = kept-special (ended (c .before .before)) .6
 
 same-length-32 : tie.Need-same-length-32 Inv-loop μ-loop
-same-length-32 c = ended (c .before .before) .special-step .kept .1 .1 .1 .1 .1 .1 .1 .1 .0 ∙ plain (stop (ended (c .before .before))) .run-plain .kept .1 .1 .1 .1 .1 .1 .1 .1 .0 ∙ head (plain (stop (ended (c .before .before)))) .loop .inv .1 .7
+same-length-32 c = kept-special (ended (c .before .before)) .7
 
 same-length-33 : tie.Need-same-length-33 Inv-loop μ-loop
-same-length-33 c = ended (c .before .before) .special-step .kept .1 .1 .1 .1 .1 .1 .1 .1 .1 .0 ∙ head (plain (stop (ended (c .before .before)))) .loop .inv .1 .8
+same-length-33 c = kept-special (ended (c .before .before)) .8
 
 same-length-34 : tie.Need-same-length-34 Inv-loop μ-loop
-same-length-34 c = ended (c .before .before) .special-step .kept .1 .1 .1 .1 .1 .1 .1 .1 .1 .1 .0 ∙ head (plain (stop (ended (c .before .before)))) .loop .inv .1 .9
+same-length-34 c = kept-special (ended (c .before .before)) .9
 
 same-length-35 : tie.Need-same-length-35 Inv-loop μ-loop
-same-length-35 c = ended (c .before .before) .special-step .kept .1 .1 .1 .1 .1 .1 .1 .1 .1 .1 .1 .0 ∙ plain (stop (ended (c .before .before))) .run-plain .kept .1 .1 .1 .1 .1 .1 .1 .1 .1 .0 ∙ head (plain (stop (ended (c .before .before)))) .loop .inv .1 .10
+same-length-35 c = kept-special (ended (c .before .before)) .10
 
 same-length-36 : tie.Need-same-length-36 Inv-loop μ-loop
-same-length-36 c = ended (c .before .before) .special-step .kept .1 .1 .1 .1 .1 .1 .1 .1 .1 .1 .1 .1 .0 ∙ plain (stop (ended (c .before .before))) .run-plain .kept .1 .1 .1 .1 .1 .1 .1 .1 .1 .1 .0 ∙ head (plain (stop (ended (c .before .before)))) .loop .inv .1 .11
+same-length-36 c = kept-special (ended (c .before .before)) .11
 
 returns-3 : tie.Need-returns-3 Inv-loop μ-loop
 returns-3 c =
@@ -330,7 +359,7 @@ loop-again c =
       λ a l.
           let g = next s a l in
           recount (run-on (g .running) (g .more) (gives t a l) (c .before .enum-told .given .1)) _ (counted-one (few p) (i .2) (more s)),
-      (t .special-step .kept .1 .0 ∙ i .1 .0, p .run-plain .kept .1 .1 .0 ∙ i .1 .1, p .run-plain .kept .1 .1 .1 .0 ∙ i .1 .2, p .run-plain .kept .1 .1 .1 .1 .0 ∙ i .1 .3, t .special-step .kept .1 .1 .1 .1 .1 .0 ∙ i .1 .4, t .special-step .kept .1 .1 .1 .1 .1 .1 .0 ∙ i .1 .5, t .special-step .kept .1 .1 .1 .1 .1 .1 .1 .0 ∙ p .run-plain .kept .1 .1 .1 .1 .1 .1 .1 .0 ∙ i .1 .6, t .special-step .kept .1 .1 .1 .1 .1 .1 .1 .1 .0 ∙ p .run-plain .kept .1 .1 .1 .1 .1 .1 .1 .1 .0 ∙ i .1 .7, t .special-step .kept .1 .1 .1 .1 .1 .1 .1 .1 .1 .0 ∙ i .1 .8, t .special-step .kept .1 .1 .1 .1 .1 .1 .1 .1 .1 .1 .0 ∙ i .1 .9, t .special-step .kept .1 .1 .1 .1 .1 .1 .1 .1 .1 .1 .1 .0 ∙ p .run-plain .kept .1 .1 .1 .1 .1 .1 .1 .1 .1 .0 ∙ i .1 .10, t .special-step .kept .1 .1 .1 .1 .1 .1 .1 .1 .1 .1 .1 .1 .0 ∙ p .run-plain .kept .1 .1 .1 .1 .1 .1 .1 .1 .1 .1 .0 ∙ i .1 .11),
+      kept-special t,
       le-trans (le-of-lt (one-less (few p) (more s))) (i .2),
     )
 
@@ -380,8 +409,9 @@ returns-4 : tie.Need-returns-4 Inv-loop μ-loop
 returns-4 c =
     λ a l.
     let h = c .before .before in
-    let z = none-left (c .before .loop-test .left) in
-    subst (Ran _ _ _) (sym (c .stopped3 .ensures)) (ran-recount _ _ _ (z .0) (run-spent (h .loop .inv .0 a l) (z .1) _ _))
+    let z = c .before .loop-test .left in
+    subst (Ran _ _ _) (sym (c .stopped3 .ensures))
+    (ran-recount _ _ _ (all-counted (begin h .args .budget) z) (run-spent (h .loop .inv .0 a l) (none-left z) _ _))
 
 pub run-spec : {M : Type 1} → statement M
 run-spec =

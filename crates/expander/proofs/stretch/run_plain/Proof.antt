@@ -1,20 +1,32 @@
-use Prim.Native.Nat.{ℕ, _+_, _-_, _≤_}
-use mathlib.Core.Path.{_≡_, refl}
+-- `expander::stretch::run_plain` meets its contract. Assumes nothing.
+use Prim.Native.Nat.{ℕ, _+_, _-_, _≤_, _<_}
+use mathlib.Core.Path.{_≡_, refl, _∙_}
+use mathlib.Core.List.{List}
 use native.Mathlib.Omega.{arith}
+use native.Mathlib.Nat.{le-trans, le-of-lt, le-refl}
 use lib.ListN.{length}
+use Rattle.rules.specs.State.{State}
+use Rattle.rules.specs.Step.{step}
 use Rattle.rules.specs.Run.{Setting, Ended}
-use Rattle.expander.specs.Events.{EventWithin, EventIs}
-use Rattle.expander.specs.Machine.{Memory, textAt, pendingAt, stringsAt, callsAt, definitionsAt, sinksAt}
+use Rattle.expander.specs.Events.{EventWithin, EventIs, PlainWithin, PlainIs}
+use Rattle.expander.specs.Machine.{Memory, Means, Gives, textAt, pendingAt, stringsAt, callsAt, definitionsAt, sinksAt}
 use Rattle.expander.specs.Run.{Running, Reached}
 use Rattle.expander.proofs.PlainLaws.{event-is, event-within, plain-goes, not-ended}
-use Rattle.expander.proofs.RunLaws.{from-here, running-sound, spent-here, refused-here, recount, run-on}
+use Rattle.expander.proofs.RunLaws.{from-here, running-sound, spent-here, refused-here, recount, run-on, counted-on, one-less, none-left}
 use borrow.Author.Needs.{needs}
 use Rattle.expander.proofs.stretch.run_plain.Statement.{statement}
 use Rattle.expander.proofs.stretch.run_plain.Tie as tie
-use Rattle.expander.proofs.stretch.run_plain.Reads as reads
-use Rattle.expander.proofs.stretch.run_plain.Lts as lts
-use Rattle.expander.proofs.events.event_ahead.Reads as event-ahead-reads
-use Rattle.expander.proofs.stretch.plain_step.Reads as plain-step-reads
+
+-- the lists that the loop changes have their first lengths
+abbrev SameLengths : (calls ends stack streams owners output scratch calls₀ ends₀ stack₀ streams₀ owners₀ output₀ scratch₀ : List ℕ) → Type 0
+SameLengths calls ends stack streams owners output scratch calls₀ ends₀ stack₀ streams₀ owners₀ output₀ scratch₀ =
+    (length calls ≡ length calls₀)
+    × (length ends ≡ length ends₀)
+    × (length stack ≡ length stack₀)
+    × (length streams ≡ length streams₀)
+    × (length owners ≡ length owners₀)
+    × (length output ≡ length output₀)
+    × (length scratch ≡ length scratch₀)
 
 abbrev Inv-loop : tie.InvT-loop
 Inv-loop text pending calls₀ ends₀ stack₀ definitions table-ends streams₀ owners₀ output₀ scratch₀ budget m₀ left₀ calls ends stack streams owners output scratch m left =
@@ -22,146 +34,259 @@ Inv-loop text pending calls₀ ends₀ stack₀ definitions table-ends streams�
     → Running a (textAt text (pendingAt pending (callsAt calls₀ ends₀ stack₀ (definitionsAt definitions table-ends (sinksAt streams₀ owners₀ output₀ b))))) m₀ budget count w
     → Running a (textAt text (pendingAt pending (callsAt calls ends stack (definitionsAt definitions table-ends (sinksAt streams owners output b))))) m left (count + (budget - left)) w)
     × (left ≤ budget)
-    × ((length calls ≡ length calls₀) × (length ends ≡ length ends₀) × (length stack ≡ length stack₀) × (length streams ≡ length streams₀) × (length owners ≡ length owners₀) × (length output ≡ length output₀) × (length scratch ≡ length scratch₀))
+    × SameLengths calls ends stack streams owners output scratch calls₀ ends₀ stack₀ streams₀ owners₀ output₀ scratch₀
 
 abbrev μ-loop : tie.MeasureT-loop
 μ-loop text pending calls₀ ends₀ stack₀ definitions table-ends streams₀ owners₀ output₀ scratch₀ budget m₀ left₀ calls ends stack streams owners output scratch m left =
     left
 
+-- the way back: to the entry, to the head of the loop, to the event and to the plain step
+abbrev begin : tie.At-loop Inv-loop μ-loop → tie.Start Inv-loop μ-loop
+begin c = c .before .before .before .before .before .before .before .before .before .before .before .before
+
+abbrev head : tie.After-event-ahead Inv-loop μ-loop → tie.At-loop Inv-loop μ-loop
+head c = c .before .before .before .before
+
+abbrev special : tie.After-e Inv-loop μ-loop → tie.After-event-ahead Inv-loop μ-loop
+special c = c .before .before .before .before
+
+abbrev event : tie.After-p Inv-loop μ-loop → tie.After-event-ahead Inv-loop μ-loop
+event c = c .before .before .before .before
+
+abbrev plain : tie.After-plain-step Inv-loop μ-loop → tie.After-p Inv-loop μ-loop
+plain c = c .before .before .before .before .before .before .before .before
+
+abbrev refused : tie.After-went Inv-loop μ-loop → tie.After-plain-step Inv-loop μ-loop
+refused c = c .before .before .before .before .before .before .before .before .before .before .before .before .before .before .before
+
+abbrev ended : tie.After-went2 Inv-loop μ-loop → tie.After-plain-step Inv-loop μ-loop
+ended c = c .before .before .before .before .before .before .before .before .before .before .before .before .before .before .before
+
+abbrev on : tie.After-enum-told Inv-loop μ-loop → tie.After-plain-step Inv-loop μ-loop
+on c = c .before .before .before .before .before .before .before .before .before .before .before .before .before .before .before
+
+-- the memory at the head of the loop and after the plain step, with the parts b that are not lent
+abbrev standing : tie.At-loop Inv-loop μ-loop → Memory → Memory
+standing c b =
+    let a = begin c .args in
+    let o = c .loop in
+    textAt (a .text .now)
+    (pendingAt (a .pending .now)
+    (callsAt (o .calls) (o .ends) (o .stack) (definitionsAt (a .definitions .now) (a .table-ends .now) (sinksAt (o .streams) (o .owners) (o .output) b))))
+
+abbrev after : tie.After-plain-step Inv-loop μ-loop → Memory → Memory
+after c b =
+    let a = begin (head (event (plain c))) .args in
+    let n = c .plain-step .last in
+    textAt (a .text .now)
+    (pendingAt (a .pending .now)
+    (callsAt (n .1 .1 .0) (n .1 .1 .1 .0) (n .1 .1 .1 .1 .0) (definitionsAt (a .definitions .now) (a .table-ends .now) (sinksAt (n .1 .1 .1 .1 .1 .0) (n .1 .1 .1 .1 .1 .1 .0) (n .1 .1 .1 .1 .1 .1 .1 .0) b))))
+
+-- no length has changed
+kept-event : (c : tie.After-event-ahead Inv-loop μ-loop) → let o = head c .loop in let a = begin (head c) .args in SameLengths (o .calls) (o .ends) (o .stack) (o .streams) (o .owners) (o .output) (c .event-ahead .last .1 .1 .1 .1 .1 .0) (a .calls .now) (a .ends .now) (a .stack .now) (a .streams .now) (a .owners .now) (a .output .now) (a .scratch .now)
+kept-event c =
+    let i = head c .loop .inv .2 in
+    (i .0, i .1, i .2, i .3, i .4, i .5, c .event-ahead .kept .1 .1 .1 .1 .1 .0 ∙ i .6)
+
+kept-plain : (c : tie.After-plain-step Inv-loop μ-loop) → let n = c .plain-step .last in let a = begin (head (event (plain c))) .args in SameLengths (n .1 .1 .0) (n .1 .1 .1 .0) (n .1 .1 .1 .1 .0) (n .1 .1 .1 .1 .1 .0) (n .1 .1 .1 .1 .1 .1 .0) (n .1 .1 .1 .1 .1 .1 .1 .0) (event (plain c) .event-ahead .last .1 .1 .1 .1 .1 .0) (a .calls .now) (a .ends .now) (a .stack .now) (a .streams .now) (a .owners .now) (a .output .now) (a .scratch .now)
+kept-plain c =
+    let i = kept-event (event (plain c)) in
+    let k = c .plain-step .kept in
+    (k .1 .1 .0 ∙ i .0, k .1 .1 .1 .0 ∙ i .1, k .1 .1 .1 .1 .0 ∙ i .2, k .1 .1 .1 .1 .1 .0 ∙ i .3, k .1 .1 .1 .1 .1 .1 .0 ∙ i .4, k .1 .1 .1 .1 .1 .1 .1 .0 ∙ i .5, i .6)
+
+-- a step is left, and it is plain
+more : (c : tie.After-plain-step Inv-loop μ-loop) → 0 < head (event (plain c)) .loop .left
+more c = event (plain c) .before .before .before .loop-test .taken
+
+within : (c : tie.After-p Inv-loop μ-loop) → let h = head (event c) in PlainWithin (begin h .args .text .now) (begin h .args .pending .now) (h .loop .m) (c .p .given .0 .0)
+unfolding EventWithin
+within c = event-within _ _ _ (c .p .given .1) (event c .event-ahead .ensures .0)
+
+is : (c : tie.After-p Inv-loop μ-loop) {a : Setting} {s : State} (b : Memory) → Means a (standing (head (event c)) b) (head (event c) .loop .m) s → PlainIs s (c .p .given .0 .0)
+unfolding EventIs
+is c {a} {s} b h =
+    let o = head (event c) .loop in
+    event-is s (c .p .given .1) (event c .event-ahead .ensures .1 a s (stringsAt (o .calls) (o .ends) (sinksAt (o .streams) (o .owners) (o .output) b)) h)
+
+gives : (c : tie.After-plain-step Inv-loop μ-loop) {a : Setting} {s : State} (b : Memory) → Means a (standing (head (event (plain c))) b) (head (event (plain c)) .loop .m) s → Gives a (step s) (after c b) (c .plain-step .result)
+gives c {a} {s} b h =
+    let d = begin (head (event (plain c))) .args in
+    c .plain-step .ensures a s (definitionsAt (d .definitions .now) (d .table-ends .now) b) h (is (plain c) b h)
+
 loop-holds : tie.Need-loop-holds Inv-loop μ-loop
-loop-holds c = (λ a b w count u. recount u _ (omega arith), omega arith, omega arith)
+loop-holds c = (λ a b w count u. recount u _ (omega arith), le-refl _, (refl, refl, refl, refl, refl, refl, refl))
 
 event-ahead-requires : tie.Need-event-ahead-requires Inv-loop μ-loop
-event-ahead-requires c κs = let p = c .before .before .before .before .before .before .before .before .before .before .before .before .before .before .before .pre .0 in let u = c .before .before .before .loop .inv .0 (p .setting) (p .others) _ 0 (from-here _ 0 (p .means)) in (running-sound _ u refl, omega (arith, c .before .before .before .loop .inv .2, c .before .before .before .before .before .before .before .before .before .before .before .before .before .before .before .pre .1))
+event-ahead-requires c κs =
+    let h = c .before .before .before in
+    let p = begin h .pre .0 in
+    let u = h .loop .inv .0 (p .setting) (p .others) _ 0 (from-here _ 0 (p .means)) in
+    (running-sound _ u refl, h .loop .inv .2 .6 ∙ begin h .pre .1)
 
 enum-known-e : tie.Need-enum-known-e Inv-loop μ-loop
 enum-known-e c = search needs
 
 same-length : tie.Need-same-length Inv-loop μ-loop
-same-length c = omega (arith, c .before .before .before .before .before .before .before .before .before .loop .inv .2, c .before .before .before .before .before .event-ahead .kept)
+same-length c = kept-event (special (c .before)) .0
 
 same-length-2 : tie.Need-same-length-2 Inv-loop μ-loop
-same-length-2 c = omega (arith, c .before .before .before .before .before .before .before .before .before .loop .inv .2, c .before .before .before .before .before .event-ahead .kept)
+same-length-2 c = kept-event (special (c .before)) .1
 
 same-length-3 : tie.Need-same-length-3 Inv-loop μ-loop
-same-length-3 c = omega (arith, c .before .before .before .before .before .before .before .before .before .loop .inv .2, c .before .before .before .before .before .event-ahead .kept)
+same-length-3 c = kept-event (special (c .before)) .2
 
 same-length-4 : tie.Need-same-length-4 Inv-loop μ-loop
-same-length-4 c = omega (arith, c .before .before .before .before .before .before .before .before .before .loop .inv .2, c .before .before .before .before .before .event-ahead .kept)
+same-length-4 c = kept-event (special (c .before)) .3
 
 same-length-5 : tie.Need-same-length-5 Inv-loop μ-loop
-same-length-5 c = omega (arith, c .before .before .before .before .before .before .before .before .before .loop .inv .2, c .before .before .before .before .before .event-ahead .kept)
+same-length-5 c = kept-event (special (c .before)) .4
 
 same-length-6 : tie.Need-same-length-6 Inv-loop μ-loop
-same-length-6 c = omega (arith, c .before .before .before .before .before .before .before .before .before .loop .inv .2, c .before .before .before .before .before .event-ahead .kept)
+same-length-6 c = kept-event (special (c .before)) .5
 
 same-length-7 : tie.Need-same-length-7 Inv-loop μ-loop
-same-length-7 c = omega (arith, c .before .before .before .before .before .before .before .before .before .loop .inv .2, c .before .before .before .before .before .event-ahead .kept)
+same-length-7 c = kept-event (special (c .before)) .6
 
 returns : tie.Need-returns Inv-loop μ-loop
 unfolding Reached EventWithin EventIs
-returns c = λ a b w count u. let v = c .before .before .before .before .before .before .before .before .before .loop .inv .0 a b w count u in let e = c .before .e .given .1 in record { few = c .before .before .before .before .before .before .before .before .before .loop .inv .1; reached = record { running = v; more = c .before .before .before .before .before .before .before .before .loop-test .taken; within = event-within _ _ _ e (c .before .before .before .before .before .event-ahead .ensures .0); is = event-is (v .state) e (c .before .before .before .before .before .event-ahead .ensures .1 a (v .state) (stringsAt _ _ (sinksAt _ _ _ b)) (v .means)) } }
+returns c =
+    λ a b w count u.
+    let x = special (c .before) in
+    let o = head x .loop in
+    let v = o .inv .0 a b w count u in
+    let e = c .before .e .given .1 in
+    record {
+      few = o .inv .1;
+      reached = record {
+        running = v;
+        more = x .before .before .before .loop-test .taken;
+        within = event-within _ _ _ e (x .event-ahead .ensures .0);
+        is = event-is (v .state) e (x .event-ahead .ensures .1 a (v .state) (stringsAt (o .calls) (o .ends) (sinksAt (o .streams) (o .owners) (o .output) b)) (v .means));
+      };
+    }
 
 enum-known-p : tie.Need-enum-known-p Inv-loop μ-loop
 enum-known-p c = search needs
 
 plain-step-requires : tie.Need-plain-step-requires Inv-loop μ-loop
-unfolding EventWithin
-plain-step-requires c κs = let p = c .before .before .before .before .before .before .before .before .before .before .before .before .before .before .before .before .before .before .before .before .before .before .before .before .before .before .before .pre .0 in let u = c .before .before .before .before .before .before .before .before .before .before .before .before .before .before .before .loop .inv .0 (p .setting) (p .others) _ 0 (from-here _ 0 (p .means)) in (running-sound _ u refl, event-within _ _ _ (c .before .before .before .before .before .before .before .p .given .1) (c .before .before .before .before .before .before .before .before .before .before .before .event-ahead .ensures .0))
+plain-step-requires c κs =
+    let x = c .before .before .before .before .before .before .before in
+    let h = head (event x) in
+    let p = begin h .pre .0 in
+    let u = h .loop .inv .0 (p .setting) (p .others) _ 0 (from-here _ 0 (p .means)) in
+    (running-sound _ u refl, within x)
 
 enum-known-went : tie.Need-enum-known-went Inv-loop μ-loop
 enum-known-went c = search needs
 
 same-length-8 : tie.Need-same-length-8 Inv-loop μ-loop
-same-length-8 c = omega (arith, c .before .before .before .before .before .before .before .before .before .before .before .before .before .before .before .before .before .before .before .before .before .before .before .before .before .before .before .before .before .before .before .before .loop .inv .2, c .before .before .before .before .before .before .before .before .before .before .before .before .before .before .before .before .plain-step .kept, c .before .before .before .before .before .before .before .before .before .before .before .before .before .before .before .before .before .before .before .before .before .before .before .before .before .before .before .before .event-ahead .kept)
+same-length-8 c = kept-plain (refused (c .before)) .0
 
 same-length-9 : tie.Need-same-length-9 Inv-loop μ-loop
-same-length-9 c = omega (arith, c .before .before .before .before .before .before .before .before .before .before .before .before .before .before .before .before .before .before .before .before .before .before .before .before .before .before .before .before .before .before .before .before .loop .inv .2, c .before .before .before .before .before .before .before .before .before .before .before .before .before .before .before .before .plain-step .kept, c .before .before .before .before .before .before .before .before .before .before .before .before .before .before .before .before .before .before .before .before .before .before .before .before .before .before .before .before .event-ahead .kept)
+same-length-9 c = kept-plain (refused (c .before)) .1
 
 same-length-10 : tie.Need-same-length-10 Inv-loop μ-loop
-same-length-10 c = omega (arith, c .before .before .before .before .before .before .before .before .before .before .before .before .before .before .before .before .before .before .before .before .before .before .before .before .before .before .before .before .before .before .before .before .loop .inv .2, c .before .before .before .before .before .before .before .before .before .before .before .before .before .before .before .before .plain-step .kept, c .before .before .before .before .before .before .before .before .before .before .before .before .before .before .before .before .before .before .before .before .before .before .before .before .before .before .before .before .event-ahead .kept)
+same-length-10 c = kept-plain (refused (c .before)) .2
 
 same-length-11 : tie.Need-same-length-11 Inv-loop μ-loop
-same-length-11 c = omega (arith, c .before .before .before .before .before .before .before .before .before .before .before .before .before .before .before .before .before .before .before .before .before .before .before .before .before .before .before .before .before .before .before .before .loop .inv .2, c .before .before .before .before .before .before .before .before .before .before .before .before .before .before .before .before .plain-step .kept, c .before .before .before .before .before .before .before .before .before .before .before .before .before .before .before .before .before .before .before .before .before .before .before .before .before .before .before .before .event-ahead .kept)
+same-length-11 c = kept-plain (refused (c .before)) .3
 
 same-length-12 : tie.Need-same-length-12 Inv-loop μ-loop
-same-length-12 c = omega (arith, c .before .before .before .before .before .before .before .before .before .before .before .before .before .before .before .before .before .before .before .before .before .before .before .before .before .before .before .before .before .before .before .before .loop .inv .2, c .before .before .before .before .before .before .before .before .before .before .before .before .before .before .before .before .plain-step .kept, c .before .before .before .before .before .before .before .before .before .before .before .before .before .before .before .before .before .before .before .before .before .before .before .before .before .before .before .before .event-ahead .kept)
+same-length-12 c = kept-plain (refused (c .before)) .4
 
 same-length-13 : tie.Need-same-length-13 Inv-loop μ-loop
-same-length-13 c = omega (arith, c .before .before .before .before .before .before .before .before .before .before .before .before .before .before .before .before .before .before .before .before .before .before .before .before .before .before .before .before .before .before .before .before .loop .inv .2, c .before .before .before .before .before .before .before .before .before .before .before .before .before .before .before .before .plain-step .kept, c .before .before .before .before .before .before .before .before .before .before .before .before .before .before .before .before .before .before .before .before .before .before .before .before .before .before .before .before .event-ahead .kept)
+same-length-13 c = kept-plain (refused (c .before)) .5
 
 same-length-14 : tie.Need-same-length-14 Inv-loop μ-loop
-same-length-14 c = omega (arith, c .before .before .before .before .before .before .before .before .before .before .before .before .before .before .before .before .before .before .before .before .before .before .before .before .before .before .before .before .before .before .before .before .loop .inv .2, c .before .before .before .before .before .before .before .before .before .before .before .before .before .before .before .before .plain-step .kept, c .before .before .before .before .before .before .before .before .before .before .before .before .before .before .before .before .before .before .before .before .before .before .before .before .before .before .before .before .event-ahead .kept)
+same-length-14 c = kept-plain (refused (c .before)) .6
 
 returns-2 : tie.Need-returns-2 Inv-loop μ-loop
-unfolding Reached EventIs
-returns-2 c = λ a b w count u. let v = c .before .before .before .before .before .before .before .before .before .before .before .before .before .before .before .before .before .before .before .before .before .before .before .before .before .before .before .before .before .before .before .before .loop .inv .0 a b w count u in record { few = c .before .before .before .before .before .before .before .before .before .before .before .before .before .before .before .before .before .before .before .before .before .before .before .before .before .before .before .before .before .before .before .before .loop .inv .1; reached = refused-here v (c .before .before .before .before .before .before .before .before .before .before .before .before .before .before .before .before .before .before .before .before .before .before .before .before .before .before .before .before .before .before .before .loop-test .taken) (c .before .before .before .before .before .before .before .before .before .before .before .before .before .before .before .before .plain-step .ensures a (v .state) (definitionsAt _ _ b) (v .means) (event-is (v .state) (c .before .before .before .before .before .before .before .before .before .before .before .before .before .before .before .before .before .before .before .before .before .before .before .before .p .given .1) (c .before .before .before .before .before .before .before .before .before .before .before .before .before .before .before .before .before .before .before .before .before .before .before .before .before .before .before .before .event-ahead .ensures .1 a (v .state) (stringsAt _ _ (sinksAt _ _ _ b)) (v .means)))) (c .before .went .given .1) }
+unfolding Reached
+returns-2 c =
+    λ a b w count u.
+    let x = refused (c .before) in
+    let i = head (event (plain x)) .loop .inv in
+    let v = i .0 a b w count u in
+    record { few = i .1; reached = refused-here v (more x) (gives x b (v .means)) (c .before .went .given .1) }
 
 enum-known-went-2 : tie.Need-enum-known-went-2 Inv-loop μ-loop
 enum-known-went-2 c = search needs
 
 same-length-15 : tie.Need-same-length-15 Inv-loop μ-loop
-same-length-15 c = omega (arith, c .before .before .before .before .before .before .before .before .before .before .before .before .before .before .before .before .before .before .before .before .before .before .before .before .before .before .before .before .before .before .before .before .loop .inv .2, c .before .before .before .before .before .before .before .before .before .before .before .before .before .before .before .before .plain-step .kept, c .before .before .before .before .before .before .before .before .before .before .before .before .before .before .before .before .before .before .before .before .before .before .before .before .before .before .before .before .event-ahead .kept)
+same-length-15 c = kept-plain (ended (c .before)) .0
 
 same-length-16 : tie.Need-same-length-16 Inv-loop μ-loop
-same-length-16 c = omega (arith, c .before .before .before .before .before .before .before .before .before .before .before .before .before .before .before .before .before .before .before .before .before .before .before .before .before .before .before .before .before .before .before .before .loop .inv .2, c .before .before .before .before .before .before .before .before .before .before .before .before .before .before .before .before .plain-step .kept, c .before .before .before .before .before .before .before .before .before .before .before .before .before .before .before .before .before .before .before .before .before .before .before .before .before .before .before .before .event-ahead .kept)
+same-length-16 c = kept-plain (ended (c .before)) .1
 
 same-length-17 : tie.Need-same-length-17 Inv-loop μ-loop
-same-length-17 c = omega (arith, c .before .before .before .before .before .before .before .before .before .before .before .before .before .before .before .before .before .before .before .before .before .before .before .before .before .before .before .before .before .before .before .before .loop .inv .2, c .before .before .before .before .before .before .before .before .before .before .before .before .before .before .before .before .plain-step .kept, c .before .before .before .before .before .before .before .before .before .before .before .before .before .before .before .before .before .before .before .before .before .before .before .before .before .before .before .before .event-ahead .kept)
+same-length-17 c = kept-plain (ended (c .before)) .2
 
 same-length-18 : tie.Need-same-length-18 Inv-loop μ-loop
-same-length-18 c = omega (arith, c .before .before .before .before .before .before .before .before .before .before .before .before .before .before .before .before .before .before .before .before .before .before .before .before .before .before .before .before .before .before .before .before .loop .inv .2, c .before .before .before .before .before .before .before .before .before .before .before .before .before .before .before .before .plain-step .kept, c .before .before .before .before .before .before .before .before .before .before .before .before .before .before .before .before .before .before .before .before .before .before .before .before .before .before .before .before .event-ahead .kept)
+same-length-18 c = kept-plain (ended (c .before)) .3
 
 same-length-19 : tie.Need-same-length-19 Inv-loop μ-loop
-same-length-19 c = omega (arith, c .before .before .before .before .before .before .before .before .before .before .before .before .before .before .before .before .before .before .before .before .before .before .before .before .before .before .before .before .before .before .before .before .loop .inv .2, c .before .before .before .before .before .before .before .before .before .before .before .before .before .before .before .before .plain-step .kept, c .before .before .before .before .before .before .before .before .before .before .before .before .before .before .before .before .before .before .before .before .before .before .before .before .before .before .before .before .event-ahead .kept)
+same-length-19 c = kept-plain (ended (c .before)) .4
 
 same-length-20 : tie.Need-same-length-20 Inv-loop μ-loop
-same-length-20 c = omega (arith, c .before .before .before .before .before .before .before .before .before .before .before .before .before .before .before .before .before .before .before .before .before .before .before .before .before .before .before .before .before .before .before .before .loop .inv .2, c .before .before .before .before .before .before .before .before .before .before .before .before .before .before .before .before .plain-step .kept, c .before .before .before .before .before .before .before .before .before .before .before .before .before .before .before .before .before .before .before .before .before .before .before .before .before .before .before .before .event-ahead .kept)
+same-length-20 c = kept-plain (ended (c .before)) .5
 
 same-length-21 : tie.Need-same-length-21 Inv-loop μ-loop
-same-length-21 c = omega (arith, c .before .before .before .before .before .before .before .before .before .before .before .before .before .before .before .before .before .before .before .before .before .before .before .before .before .before .before .before .before .before .before .before .loop .inv .2, c .before .before .before .before .before .before .before .before .before .before .before .before .before .before .before .before .plain-step .kept, c .before .before .before .before .before .before .before .before .before .before .before .before .before .before .before .before .before .before .before .before .before .before .before .before .before .before .before .before .event-ahead .kept)
+same-length-21 c = kept-plain (ended (c .before)) .6
 
 returns-3 : tie.Need-returns-3 Inv-loop μ-loop
-unfolding EventIs EventWithin
-returns-3 c = λ a b w count u. let v = c .before .before .before .before .before .before .before .before .before .before .before .before .before .before .before .before .before .before .before .before .before .before .before .before .before .before .before .before .before .before .before .before .loop .inv .0 a b w count u in let e = event-is (v .state) (c .before .before .before .before .before .before .before .before .before .before .before .before .before .before .before .before .before .before .before .before .before .before .before .before .p .given .1) (c .before .before .before .before .before .before .before .before .before .before .before .before .before .before .before .before .before .before .before .before .before .before .before .before .before .before .before .before .event-ahead .ensures .1 a (v .state) (stringsAt _ _ (sinksAt _ _ _ b)) (v .means)) in absurd (not-ended (plain-goes (v .means) _ (event-within _ _ _ (c .before .before .before .before .before .before .before .before .before .before .before .before .before .before .before .before .before .before .before .before .before .before .before .before .p .given .1) (c .before .before .before .before .before .before .before .before .before .before .before .before .before .before .before .before .before .before .before .before .before .before .before .before .before .before .before .before .event-ahead .ensures .0)) e) (c .before .before .before .before .before .before .before .before .before .before .before .before .before .before .before .before .plain-step .ensures a (v .state) (definitionsAt _ _ b) (v .means) (event-is (v .state) (c .before .before .before .before .before .before .before .before .before .before .before .before .before .before .before .before .before .before .before .before .before .before .before .before .p .given .1) (c .before .before .before .before .before .before .before .before .before .before .before .before .before .before .before .before .before .before .before .before .before .before .before .before .before .before .before .before .event-ahead .ensures .1 a (v .state) (stringsAt _ _ (sinksAt _ _ _ b)) (v .means)))) _ (c .before .went2 .given .1))
+returns-3 c =
+    λ a b w count u.
+    let x = ended (c .before) in
+    let v = head (event (plain x)) .loop .inv .0 a b w count u in
+    absurd (not-ended (plain-goes (v .means) _ (within (plain x)) (is (plain x) b (v .means))) (gives x b (v .means)) _ (c .before .went2 .given .1))
 
 enum-told : tie.Need-enum-told Inv-loop μ-loop
 enum-told c = search needs
 
 sub-left : tie.Need-sub-left Inv-loop μ-loop
-sub-left c = omega (arith, c .before .before .before .before .before .before .before .before .before .before .before .before .before .before .before .before .before .before .before .before .before .before .before .before .before .before .before .before .before .before .loop-test .taken)
+sub-left c = more (on c)
 
 loop-less : tie.Need-loop-less Inv-loop μ-loop
-loop-less c = omega (arith, c .before .before .before .before .before .before .before .before .before .before .before .before .before .before .before .before .before .before .before .before .before .before .before .before .before .before .before .before .before .before .loop-test .taken)
+loop-less c = one-less (le-refl _) (more (on c))
 
 loop-again : tie.Need-loop-again Inv-loop μ-loop
-unfolding EventIs
-loop-again c = (λ a b w count u. let v = c .before .before .before .before .before .before .before .before .before .before .before .before .before .before .before .before .before .before .before .before .before .before .before .before .before .before .before .before .before .before .before .loop .inv .0 a b w count u in recount (run-on v (c .before .before .before .before .before .before .before .before .before .before .before .before .before .before .before .before .before .before .before .before .before .before .before .before .before .before .before .before .before .before .loop-test .taken) (c .before .before .before .before .before .before .before .before .before .before .before .before .before .before .before .plain-step .ensures a (v .state) (definitionsAt _ _ b) (v .means) (event-is (v .state) (c .before .before .before .before .before .before .before .before .before .before .before .before .before .before .before .before .before .before .before .before .before .before .before .p .given .1) (c .before .before .before .before .before .before .before .before .before .before .before .before .before .before .before .before .before .before .before .before .before .before .before .before .before .before .before .event-ahead .ensures .1 a (v .state) (stringsAt _ _ (sinksAt _ _ _ b)) (v .means)))) (c .enum-told .given .1)) _ (omega (arith, c .before .before .before .before .before .before .before .before .before .before .before .before .before .before .before .before .before .before .before .before .before .before .before .before .before .before .before .before .before .before .before .loop .inv .1, c .before .before .before .before .before .before .before .before .before .before .before .before .before .before .before .before .before .before .before .before .before .before .before .before .before .before .before .before .before .before .loop-test .taken)), omega (arith, c .before .before .before .before .before .before .before .before .before .before .before .before .before .before .before .before .before .before .before .before .before .before .before .before .before .before .before .before .before .before .before .loop .inv .1), omega (arith, c .before .before .before .before .before .before .before .before .before .before .before .before .before .before .before .before .before .before .before .before .before .before .before .before .before .before .before .before .before .before .before .loop .inv .2, c .before .before .before .before .before .before .before .before .before .before .before .before .before .before .before .plain-step .kept, c .before .before .before .before .before .before .before .before .before .before .before .before .before .before .before .before .before .before .before .before .before .before .before .before .before .before .before .event-ahead .kept))
+loop-again c =
+    let x = on c in
+    let i = head (event (plain x)) .loop .inv in (
+      λ a b w count u.
+          let v = i .0 a b w count u in
+          recount (run-on v (more x) (gives x b (v .means)) (c .enum-told .given .1)) _ (counted-on count (i .1) (more x)),
+      le-trans (le-of-lt (one-less (le-refl _) (more x))) (i .1),
+      kept-plain x,
+    )
 
 same-length-22 : tie.Need-same-length-22 Inv-loop μ-loop
-same-length-22 c = omega (arith, c .before .loop .inv .2)
+same-length-22 c = c .before .loop .inv .2 .0
 
 same-length-23 : tie.Need-same-length-23 Inv-loop μ-loop
-same-length-23 c = omega (arith, c .before .loop .inv .2)
+same-length-23 c = c .before .loop .inv .2 .1
 
 same-length-24 : tie.Need-same-length-24 Inv-loop μ-loop
-same-length-24 c = omega (arith, c .before .loop .inv .2)
+same-length-24 c = c .before .loop .inv .2 .2
 
 same-length-25 : tie.Need-same-length-25 Inv-loop μ-loop
-same-length-25 c = omega (arith, c .before .loop .inv .2)
+same-length-25 c = c .before .loop .inv .2 .3
 
 same-length-26 : tie.Need-same-length-26 Inv-loop μ-loop
-same-length-26 c = omega (arith, c .before .loop .inv .2)
+same-length-26 c = c .before .loop .inv .2 .4
 
 same-length-27 : tie.Need-same-length-27 Inv-loop μ-loop
-same-length-27 c = omega (arith, c .before .loop .inv .2)
+same-length-27 c = c .before .loop .inv .2 .5
 
 same-length-28 : tie.Need-same-length-28 Inv-loop μ-loop
-same-length-28 c = omega (arith, c .before .loop .inv .2)
+same-length-28 c = c .before .loop .inv .2 .6
 
 returns-4 : tie.Need-returns-4 Inv-loop μ-loop
 unfolding Reached
-returns-4 c = λ a b w count u. let v = c .before .loop .inv .0 a b w count u in record { few = c .before .loop .inv .1; reached = spent-here v (omega (arith, c .loop-test .left)) }
+returns-4 c =
+    λ a b w count u.
+    let i = c .before .loop .inv in
+    record { few = i .1; reached = spent-here (i .0 a b w count u) (none-left (c .loop-test .left)) }
 
 pub run-plain-spec : {M : Type 1} → statement M
 run-plain-spec =

@@ -1,9 +1,9 @@
--- `capi::number_of` meets its contract: each case gives the number of its answer. Assumes nothing.
+-- `answers::number_of` meets its contract: each case gives the number of its answer. Assumes nothing.
 use mathlib.Core.Path.{sym, ap}
 use Rattle.rules.specs.Answers.{answerNumber}
 use borrow.Author.Needs.{needs}
-use Rattle.capi.proofs.number_of.Statement.{statement}
-use Rattle.capi.proofs.number_of.Tie as tie
+use Rattle.answers.proofs.number_of.Statement.{statement}
+use Rattle.answers.proofs.number_of.Tie as tie
 
 enum-told : tie.Need-enum-told
 enum-told c = search needs

@@ -1,10 +1,10 @@
--- `capi::detail_of` meets its contract: three answers carry a detail, and it is 0 with the others. Assumes nothing.
+-- `answers::detail_of` meets its contract: three answers carry a detail, and it is 0 with the others. Assumes nothing.
 use mathlib.Core.Path.{sym, ap}
 use Rattle.rules.specs.Answers.{answerDetail}
-use Rattle.capi.proofs.Reports.{no-detail}
+use Rattle.answers.proofs.Details.{no-detail}
 use borrow.Author.Needs.{needs}
-use Rattle.capi.proofs.detail_of.Statement.{statement}
-use Rattle.capi.proofs.detail_of.Tie as tie
+use Rattle.answers.proofs.detail_of.Statement.{statement}
+use Rattle.answers.proofs.detail_of.Tie as tie
 
 enum-known-a : tie.Need-enum-known-a
 enum-known-a c = search needs

@@ -1,8 +1,8 @@
--- `capi::numbers_of` meets its contract: the six numbers in the order of the rules. Assumes nothing.
+-- `answers::numbers_of` meets its contract: the six numbers in the order of the rules. Assumes nothing.
 use Rattle.rules.specs.Answers.{numbers}
 use borrow.Author.Needs.{needs}
-use Rattle.capi.proofs.numbers_of.Statement.{statement}
-use Rattle.capi.proofs.numbers_of.Tie as tie
+use Rattle.answers.proofs.numbers_of.Statement.{statement}
+use Rattle.answers.proofs.numbers_of.Tie as tie
 
 number-of-requires : tie.Need-number-of-requires
 number-of-requires c κs = search needs
