@@ -17,7 +17,7 @@ use Rattle.rules.specs.declared.Token.the-variants as token
 use Rattle.rules.specs.Bytes.{Bytes, isBlank}
 use Rattle.rules.specs.Answers.{done, unclosedQuote, unclosedComment, unclosedCall, faultAnswer}
 use Rattle.rules.specs.Marks.{MarkTexts, markTexts}
-use Rattle.rules.specs.Source.{Source, ahead, advance, pushBack}
+use Rattle.rules.specs.Source.{Source, ahead, pushBack}
 use Rattle.rules.specs.Streams.{finishedStreams}
 use Rattle.rules.specs.Table.{Meaning, Definition}
 use Rattle.rules.specs.State.{Call, State, Outcome, next, stop, refused, withCalls, withSource, withStreams, withWrap, taking, resulting, emitting}
@@ -332,17 +332,6 @@ module _ {text pending : Bytes} {p : Position} {t : Token} where
 pub quoted-order : (text pending : Bytes) (p : Position) {t : Token} {i j n : ℕ} → t ≡ token.Quoted i j n → TokenWithin text pending p t → i ≤ j
 unfolding TokenWithin
 quoted-order text pending p e w = subst (TokenWithin text pending p) e w .0
-
--- a byte was taken
-pub byte-taken :
-    {a : Setting} {b : Memory} {m m′ : Machine} {s : State} {t : Token} {x : ℕ} {to : Position} → Means a b m s → t ≡ token.Byte x
-    → TokenWithin (b .text) (b .pending) (m .source) t
-    → ((text : Bytes) (y : Source) → SourceIn text (b .pending) (m .source) y → 1 ≤ length (ahead y) → SourceIn text (b .pending) to (advance 1 y))
-    → m′ ≡ sourceSet to m → Means a b m′ (taking 1 s)
-unfolding TokenWithin taking
-byte-taken {a} {b} {m} {s} r e w f g =
-    let l : 1 ≤ length (ahead (s .source)) = omega (arith, subst (TokenWithin (b .text) (b .pending) (m .source)) e w, ahead-long (r .source)) in
-    subst (λ (k : Machine). Means a b k (taking 1 s)) (sym g) (with-source r (f (b .text) (s .source) (r .source) l) refl)
 
 module _ {a : Setting} {b : Memory} {m : Machine} {s : State} (r : Means a b m s) where
   abbrev parts : Bytes

@@ -1,4 +1,3 @@
-use native.Mathlib.Omega.{arith}
 use Rattle.expander.proofs.ExpandLaws.{output-inside, errors-inside}
 use Rattle.expand.proofs.Reading.{part-long}
 use borrow.Author.Needs.{needs}
@@ -64,10 +63,10 @@ cast-k : tie.Need-cast-k
 cast-k c = search needs
 
 array-share-prefix-output : tie.Need-array-share-prefix-output
-array-share-prefix-output c = output-inside (c .before .before .before .before .before .before .before .before .before .expand .ensures) (omega (arith, c .before .before .before .before .before .before .before .before .before .expand .kept))
+array-share-prefix-output c = output-inside (c .before .before .before .before .before .before .before .before .before .expand .ensures) (c .before .before .before .before .before .before .before .before .before .expand .kept .1 .1 .1 .1 .1 .1 .1 .0)
 
 slice-aggregate-write-all : tie.Need-slice-aggregate-write-all
-slice-aggregate-write-all c = part-long _ _ (output-inside (c .before .before .before .before .before .before .before .before .before .before .expand .ensures) (omega (arith, c .before .before .before .before .before .before .before .before .before .before .expand .kept)))
+slice-aggregate-write-all c = part-long _ _ (output-inside (c .before .before .before .before .before .before .before .before .before .before .expand .ensures) (c .before .before .before .before .before .before .before .before .before .before .expand .kept .1 .1 .1 .1 .1 .1 .1 .0))
 
 write-all-requires : tie.Need-write-all-requires
 write-all-requires c κs = search needs
@@ -82,10 +81,10 @@ returns : tie.Need-returns
 returns c = search needs
 
 array-share-prefix-errors : tie.Need-array-share-prefix-errors
-array-share-prefix-errors c = errors-inside (c .before .before .before .before .before .before .before .before .before .before .before .before .expand .ensures) (omega (arith, c .before .before .before .before .before .before .before .before .before .before .before .before .expand .kept))
+array-share-prefix-errors c = errors-inside (c .before .before .before .before .before .before .before .before .before .before .before .before .expand .ensures) (c .before .before .before .before .before .before .before .before .before .before .before .before .expand .kept .1 .1 .1 .1 .1 .1 .0)
 
 slice-aggregate-write-all-2 : tie.Need-slice-aggregate-write-all-2
-slice-aggregate-write-all-2 c = part-long _ _ (errors-inside (c .before .before .before .before .before .before .before .before .before .before .before .before .before .expand .ensures) (omega (arith, c .before .before .before .before .before .before .before .before .before .before .before .before .before .expand .kept)))
+slice-aggregate-write-all-2 c = part-long _ _ (errors-inside (c .before .before .before .before .before .before .before .before .before .before .before .before .before .expand .ensures) (c .before .before .before .before .before .before .before .before .before .before .before .before .before .expand .kept .1 .1 .1 .1 .1 .1 .0))
 
 write-all-requires-2 : tie.Need-write-all-requires-2
 write-all-requires-2 c κs = search needs

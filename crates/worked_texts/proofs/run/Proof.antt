@@ -1,4 +1,3 @@
-use native.Mathlib.Omega.{arith}
 use Rattle.expander.proofs.ExpandLaws.{output-inside, errors-inside}
 use Rattle.worked_texts.proofs.Written.{part-long}
 use borrow.Author.Needs.{needs}
@@ -29,10 +28,10 @@ write-requires-2 : tie.Need-write-requires-2
 write-requires-2 c κs = search needs
 
 slice-reshare-prefix-write : tie.Need-slice-reshare-prefix-write
-slice-reshare-prefix-write c = output-inside (c .before .before .before .before .before .before .before .before .before .before .before .before .before .before .before .before .before .before .before .expand .ensures) (omega (arith, c .before .before .before .before .before .before .before .before .before .before .before .before .before .before .before .before .before .before .before .expand .kept))
+slice-reshare-prefix-write c = output-inside (c .before .before .before .before .before .before .before .before .before .before .before .before .before .before .before .before .before .before .before .expand .ensures) (c .before .before .before .before .before .before .before .before .before .before .before .before .before .before .before .before .before .before .before .expand .kept .1 .1 .1 .1 .1 .1 .1 .0)
 
 slice-aggregate-write-2 : tie.Need-slice-aggregate-write-2
-slice-aggregate-write-2 c = part-long _ _ (output-inside (c .before .before .before .before .before .before .before .before .before .before .before .before .before .before .before .before .before .before .before .before .expand .ensures) (omega (arith, c .before .before .before .before .before .before .before .before .before .before .before .before .before .before .before .before .before .before .before .before .expand .kept)))
+slice-aggregate-write-2 c = part-long _ _ (output-inside (c .before .before .before .before .before .before .before .before .before .before .before .before .before .before .before .before .before .before .before .before .expand .ensures) (c .before .before .before .before .before .before .before .before .before .before .before .before .before .before .before .before .before .before .before .before .expand .kept .1 .1 .1 .1 .1 .1 .1 .0))
 
 write-requires-3 : tie.Need-write-requires-3
 write-requires-3 c κs = search needs
@@ -44,10 +43,10 @@ write-requires-4 : tie.Need-write-requires-4
 write-requires-4 c κs = search needs
 
 slice-reshare-prefix-write-2 : tie.Need-slice-reshare-prefix-write-2
-slice-reshare-prefix-write-2 c = errors-inside (c .before .before .before .before .before .before .before .before .before .before .before .before .before .before .before .before .before .before .before .before .before .before .before .before .expand .ensures) (omega (arith, c .before .before .before .before .before .before .before .before .before .before .before .before .before .before .before .before .before .before .before .before .before .before .before .before .expand .kept))
+slice-reshare-prefix-write-2 c = errors-inside (c .before .before .before .before .before .before .before .before .before .before .before .before .before .before .before .before .before .before .before .before .before .before .before .before .expand .ensures) (c .before .before .before .before .before .before .before .before .before .before .before .before .before .before .before .before .before .before .before .before .before .before .before .before .expand .kept .1 .1 .1 .1 .1 .1 .0)
 
 slice-aggregate-write-4 : tie.Need-slice-aggregate-write-4
-slice-aggregate-write-4 c = part-long _ _ (errors-inside (c .before .before .before .before .before .before .before .before .before .before .before .before .before .before .before .before .before .before .before .before .before .before .before .before .before .expand .ensures) (omega (arith, c .before .before .before .before .before .before .before .before .before .before .before .before .before .before .before .before .before .before .before .before .before .before .before .before .before .expand .kept)))
+slice-aggregate-write-4 c = part-long _ _ (errors-inside (c .before .before .before .before .before .before .before .before .before .before .before .before .before .before .before .before .before .before .before .before .before .before .before .before .before .expand .ensures) (c .before .before .before .before .before .before .before .before .before .before .before .before .before .before .before .before .before .before .before .before .before .before .before .before .before .expand .kept .1 .1 .1 .1 .1 .1 .0))
 
 write-requires-5 : tie.Need-write-requires-5
 write-requires-5 c κs = search needs
@@ -61,26 +60,30 @@ write-requires-6 c κs = search needs
 write-report-requires : tie.Need-write-report-requires
 write-report-requires c κs = search needs
 
+-- the call of the expander
+abbrev expanded : tie.After-write-report → tie.After-expand
+expanded c = c .before .before .before .before .before .before .before .before .before .before .before .before .before .before .before .before .before .before .before .before .before .before .before .before .before
+
 same-length : tie.Need-same-length
-same-length c = search needs
+same-length c = expanded c .expand .kept .1 .0
 
 same-length-2 : tie.Need-same-length-2
-same-length-2 c = search needs
+same-length-2 c = expanded c .expand .kept .1 .1 .0
 
 same-length-3 : tie.Need-same-length-3
-same-length-3 c = search needs
+same-length-3 c = expanded c .expand .kept .1 .1 .1 .0
 
 same-length-4 : tie.Need-same-length-4
-same-length-4 c = search needs
+same-length-4 c = expanded c .expand .kept .1 .1 .1 .1 .0
 
 same-length-5 : tie.Need-same-length-5
-same-length-5 c = search needs
+same-length-5 c = expanded c .expand .kept .1 .1 .1 .1 .1 .0
 
 same-length-6 : tie.Need-same-length-6
-same-length-6 c = search needs
+same-length-6 c = expanded c .expand .kept .1 .1 .1 .1 .1 .1 .0
 
 same-length-7 : tie.Need-same-length-7
-same-length-7 c = search needs
+same-length-7 c = expanded c .expand .kept .1 .1 .1 .1 .1 .1 .1 .0
 
 returns : tie.Need-returns
 returns c = search needs
