@@ -147,7 +147,8 @@ def fault_of(touched, refused):
         return "NOT REFUSED: %s is still proved with this edit" % ", ".join(sorted(touched))
     if any("has no `Need-" in message for _, message in own):
         return "refused because the proof file does not fit the edited code"
-    print("  first at %s" % own[0][0].rpartition("/proofs/")[2])
+    place, message = own[0]
+    print("  first at %s, %s" % (place.rpartition("/proofs/")[2], message.partition(":")[0] or "of what was searched for"))
     return None
 
 

@@ -18,25 +18,25 @@ abbrev expanded : tie.After-numbers-of → tie.After-expand
 expanded c = c .before .before .before .before .before .before .before .before .before .before .before .before .before .before .before
 
 same-length : tie.Need-same-length
-same-length c = expanded c .expand .kept .1 .0
+same-length c = search needs
 
 same-length-2 : tie.Need-same-length-2
-same-length-2 c = expanded c .expand .kept .1 .1 .0
+same-length-2 c = search needs
 
 same-length-3 : tie.Need-same-length-3
-same-length-3 c = expanded c .expand .kept .1 .1 .1 .0
+same-length-3 c = search needs
 
 same-length-4 : tie.Need-same-length-4
-same-length-4 c = expanded c .expand .kept .1 .1 .1 .1 .0
+same-length-4 c = search needs
 
 same-length-5 : tie.Need-same-length-5
-same-length-5 c = expanded c .expand .kept .1 .1 .1 .1 .1 .0
+same-length-5 c = search needs
 
 same-length-6 : tie.Need-same-length-6
-same-length-6 c = expanded c .expand .kept .1 .1 .1 .1 .1 .1 .0
+same-length-6 c = search needs
 
 same-length-7 : tie.Need-same-length-7
-same-length-7 c = expanded c .expand .kept .1 .1 .1 .1 .1 .1 .1 .0
+same-length-7 c = search needs
 
 returns : tie.Need-returns
 returns c = reported (expanded c .expand .ensures) (c .numbers-of .ensures)

@@ -1,3 +1,4 @@
+-- `expander::expand` meets its contract. Assumes nothing.
 use lib.ListN.{length}
 use Rattle.expander.proofs.ExpandLaws.{all-lent, zeros, expanded, not-lent}
 use Rattle.rules.specs.Contract.{settingOf}
@@ -7,11 +8,6 @@ use native.Mathlib.Omega.{arith}
 use borrow.Author.Needs.{needs}
 use Rattle.expander.proofs.expand.Statement.{statement}
 use Rattle.expander.proofs.expand.Tie as tie
-use Rattle.expander.proofs.expand.Reads as reads
-use Rattle.expander.proofs.expand.Lts as lts
-use Rattle.expander.proofs.clear_five.Reads as clear-five-reads
-use Rattle.expander.proofs.lendable.Reads as lendable-reads
-use Rattle.expander.proofs.work.Reads as work-reads
 
 lendable-requires : tie.Need-lendable-requires
 lendable-requires c κs = search needs
@@ -22,33 +18,26 @@ work-requires c κs = all-lent _ _ _ _ _ _ _ _ (sym (c .before .before .before .
 clear-five-requires : tie.Need-clear-five-requires
 clear-five-requires c κs = search needs
 
--- the calls that were lent slices, from each way out
-abbrev at-clear-five : tie.After-slice-known19 → tie.After-clear-five
-at-clear-five c = c .before .before .before .before .before .before .before .before .before .before
-
-abbrev at-work : tie.After-slice-known19 → tie.After-work
-at-work c = c .before .before .before .before .before .before .before .before .before .before .before .before .before .before .before .before .before .before .before .before .before .before .before .before .before .before .before .before .before .before
-
 same-length : tie.Need-same-length
-same-length c = at-clear-five c .clear-five .kept .0 ∙ at-work c .work .kept .1 .0
+same-length c = search needs
 
 same-length-2 : tie.Need-same-length-2
-same-length-2 c = at-clear-five c .clear-five .kept .1 .0 ∙ at-work c .work .kept .1 .1 .0
+same-length-2 c = search needs
 
 same-length-3 : tie.Need-same-length-3
-same-length-3 c = at-clear-five c .clear-five .kept .1 .1 .0 ∙ at-work c .work .kept .1 .1 .1 .0
+same-length-3 c = search needs
 
 same-length-4 : tie.Need-same-length-4
-same-length-4 c = at-clear-five c .clear-five .kept .1 .1 .1 .0 ∙ at-work c .work .kept .1 .1 .1 .1 .0
+same-length-4 c = search needs
 
 same-length-5 : tie.Need-same-length-5
-same-length-5 c = at-clear-five c .clear-five .kept .1 .1 .1 .1 .0 ∙ at-work c .work .kept .1 .1 .1 .1 .1 .0
+same-length-5 c = search needs
 
 same-length-6 : tie.Need-same-length-6
-same-length-6 c = at-work c .work .kept .1 .1 .1 .1 .1 .1 .0
+same-length-6 c = search needs
 
 same-length-7 : tie.Need-same-length-7
-same-length-7 c = at-work c .work .kept .1 .1 .1 .1 .1 .1 .1 .0
+same-length-7 c = search needs
 
 returns : tie.Need-returns
 unfolding settingOf lengths
