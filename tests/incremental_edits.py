@@ -7,8 +7,8 @@ each changes bodies only, and a function is proved from its own body and its cal
 exactly the edited functions, each for a fact in its own proof; what rests on one of these is not counted. An edit whose function was only refused
 because its proof file does not fit the edited code fails.
 
-With BESIDE_RT_CI set it waits for the crates below the expander, as `rt ci` proves them beside this; else it proves them itself. Ends with
-'N passed, M failed'; exit status 0 only if M is 0.
+Where RT_CI_ENDED names a file, `rt ci` runs beside this, and the file will be there when that has ended: the crates below the expander are then taken
+from it as soon as it has proved them. Else they are proved here. Ends with 'N passed, M failed'; exit status 0 only if M is 0.
 """
 import glob
 import os
@@ -22,19 +22,19 @@ import time
 ROOT = os.path.dirname(os.path.dirname(os.path.abspath(__file__)))
 BELOW = ["rules", "ascii", "numerals", "expression", "matching", "answers"]
 CRATES = ["expander", "expression", "matching", "numerals", "ascii", "answers"]
-WAIT = 900
 ERROR = re.compile(r"^(\S+/proofs/(\S+)\.antt:\d+:\d+): error: (.*)$", re.M)
 NO_PROOF = re.compile(r"^fn (\S+): no proof: .*`search` does not close", re.M)
 
 
-def wait_for_crates_below():
-    """True once `rt ci` has proved them; False where none is running."""
-    end = time.time() + WAIT
-    while os.environ.get("BESIDE_RT_CI") and time.time() < end:
-        if all(os.path.exists(os.path.join(ROOT, "target", "stamp", name)) for name in BELOW):
-            return True
+def crates_below_are_proved():
+    """Whether `rt ci`, which runs beside this, has proved the crates below the expander; it is given time for that."""
+    ended = os.environ.get("RT_CI_ENDED")
+    stamps = [os.path.join(ROOT, "target", "stamp", name) for name in BELOW]
+    while ended and not all(map(os.path.exists, stamps)):
+        if os.path.exists(ended):
+            return False
         time.sleep(1)
-    return False
+    return bool(ended)
 
 
 def copy_tree(to):
@@ -43,7 +43,7 @@ def copy_tree(to):
         f.write("\n".join(line for line in lines if line.split(":")[0] in BELOW + ["expander"]) + "\n")
     for name in BELOW + ["expander"]:
         shutil.copytree(os.path.join(ROOT, "crates", name), os.path.join(to, "crates", name))
-    if wait_for_crates_below():
+    if crates_below_are_proved():
         os.makedirs(os.path.join(to, "target", "stamp"))
         for name in BELOW:
             shutil.copytree(os.path.join(ROOT, "target", "rlib", name + ".rlib"), os.path.join(to, "target", "rlib", name + ".rlib"))
