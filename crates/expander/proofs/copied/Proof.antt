@@ -125,48 +125,6 @@ copy-front-requires-2 c κs =
 abbrev at-run : tie.After-slice-known28 → tie.After-run
 at-run c = c .before .before .before .before .before .before .before .before .before .before .before .before .before .before .before .before .before .before .before .before .before .before .before .before .before .before .before .before .before .before .before .before .before .before .before .before
 
-same-length : tie.Need-same-length
-same-length c = at-run c .run .kept .1 .0
-
-same-length-2 : tie.Need-same-length-2
-same-length-2 c = at-run c .run .kept .1 .1 .0
-
-same-length-3 : tie.Need-same-length-3
-same-length-3 c = at-run c .run .kept .1 .1 .1 .0
-
-same-length-4 : tie.Need-same-length-4
-same-length-4 c = at-run c .run .kept .1 .1 .1 .1 .0
-
-same-length-5 : tie.Need-same-length-5
-same-length-5 c = at-run c .run .kept .1 .1 .1 .1 .1 .0
-
-same-length-6 : tie.Need-same-length-6
-same-length-6 c = at-run c .run .kept .1 .1 .1 .1 .1 .1 .0
-
-same-length-7 : tie.Need-same-length-7
-same-length-7 c = at-run c .run .kept .1 .1 .1 .1 .1 .1 .1 .0
-
-same-length-8 : tie.Need-same-length-8
-same-length-8 c = at-run c .run .kept .1 .1 .1 .1 .1 .1 .1 .1 .0
-
-same-length-9 : tie.Need-same-length-9
-same-length-9 c = at-run c .run .kept .1 .1 .1 .1 .1 .1 .1 .1 .1 .0
-
-same-length-10 : tie.Need-same-length-10
-same-length-10 c = let w = at-run c in put-back (length (begin w .args .errors .now)) (begin w .args .error-text .now) (errors-left w) (error-fits (begin w)) (w .run .kept .1 .1 .1 .1 .1 .1 .1 .1 .1 .1 .0)
-
-same-length-11 : tie.Need-same-length-11
-same-length-11 c = let w = at-run c in put-back (length (begin w .args .output .now)) (begin w .args .output-text .now) (output-left w) (output-fits (begin w)) (w .run .kept .1 .1 .1 .1 .1 .1 .1 .1 .1 .1 .1 .0)
-
-same-length-12 : tie.Need-same-length-12
-same-length-12 c = at-run c .run .kept .1 .1 .1 .1 .1 .1 .1 .1 .1 .1 .1 .1 .0
-
-same-length-13 : tie.Need-same-length-13
-same-length-13 c = c .before .before .copy-front2 .kept .1 .0
-
-same-length-14 : tie.Need-same-length-14
-same-length-14 c = c .before .before .before .before .before .before .before .copy-front .kept .1 .0
-
 returns : tie.Need-returns
 returns c = wrote (longer (at-run c)) (c .before .before .copy-front2 .ensures) (c .before .before .before .before .before .before .before .copy-front .ensures)
 
@@ -187,18 +145,18 @@ copied-spec =
     slice-reshare-prefix-copy-front-2
     slice-aggregate-copy-front-2
     copy-front-requires-2
-    same-length
-    same-length-2
-    same-length-3
-    same-length-4
-    same-length-5
-    same-length-6
-    same-length-7
-    same-length-8
-    same-length-9
-    same-length-10
-    same-length-11
-    same-length-12
-    same-length-13
-    same-length-14
+    (λ c. at-run c .run .kept .1 .0)
+    (λ c. at-run c .run .kept .1 .1 .0)
+    (λ c. at-run c .run .kept .1 .1 .1 .0)
+    (λ c. at-run c .run .kept .1 .1 .1 .1 .0)
+    (λ c. at-run c .run .kept .1 .1 .1 .1 .1 .0)
+    (λ c. at-run c .run .kept .1 .1 .1 .1 .1 .1 .0)
+    (λ c. at-run c .run .kept .1 .1 .1 .1 .1 .1 .1 .0)
+    (λ c. at-run c .run .kept .1 .1 .1 .1 .1 .1 .1 .1 .0)
+    (λ c. at-run c .run .kept .1 .1 .1 .1 .1 .1 .1 .1 .1 .0)
+    (λ c. let w = at-run c in put-back (length (begin w .args .errors .now)) (begin w .args .error-text .now) (errors-left w) (error-fits (begin w)) (w .run .kept .1 .1 .1 .1 .1 .1 .1 .1 .1 .1 .0))
+    (λ c. let w = at-run c in put-back (length (begin w .args .output .now)) (begin w .args .output-text .now) (output-left w) (output-fits (begin w)) (w .run .kept .1 .1 .1 .1 .1 .1 .1 .1 .1 .1 .1 .0))
+    (λ c. at-run c .run .kept .1 .1 .1 .1 .1 .1 .1 .1 .1 .1 .1 .1 .0)
+    (λ c. c .before .before .copy-front2 .kept .1 .0)
+    (λ c. c .before .before .before .before .before .before .before .copy-front .kept .1 .0)
     returns)

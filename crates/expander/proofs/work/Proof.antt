@@ -31,27 +31,6 @@ copied-requires c κs = (c .before .before .before .before .before .before .befo
 abbrev at-copied : tie.After-slice-known14 → tie.After-copied
 at-copied c = c .before .before .before .before .before .before .before .before .before .before .before .before .before .before .before .before .before .before .before .before .before
 
-same-length : tie.Need-same-length
-same-length c = at-copied c .copied .kept .1 .0
-
-same-length-2 : tie.Need-same-length-2
-same-length-2 c = at-copied c .copied .kept .1 .1 .0
-
-same-length-3 : tie.Need-same-length-3
-same-length-3 c = at-copied c .copied .kept .1 .1 .1 .1 .1 .0
-
-same-length-4 : tie.Need-same-length-4
-same-length-4 c = at-copied c .copied .kept .1 .1 .1 .1 .1 .1 .1 .0
-
-same-length-5 : tie.Need-same-length-5
-same-length-5 c = at-copied c .copied .kept .1 .1 .1 .1 .1 .1 .1 .1 .1 .0
-
-same-length-6 : tie.Need-same-length-6
-same-length-6 c = at-copied c .copied .kept .1 .1 .1 .1 .1 .1 .1 .1 .1 .1 .1 .1 .1 .0
-
-same-length-7 : tie.Need-same-length-7
-same-length-7 c = at-copied c .copied .kept .1 .1 .1 .1 .1 .1 .1 .1 .1 .1 .1 .1 .1 .1 .0
-
 returns : tie.Need-returns
 returns c = at-copied c .copied .ensures
 
@@ -67,11 +46,11 @@ work-spec =
     slice-aggregate-copied-6
     slice-aggregate-copied-7
     copied-requires
-    same-length
-    same-length-2
-    same-length-3
-    same-length-4
-    same-length-5
-    same-length-6
-    same-length-7
+    (λ c. at-copied c .copied .kept .1 .0)
+    (λ c. at-copied c .copied .kept .1 .1 .0)
+    (λ c. at-copied c .copied .kept .1 .1 .1 .1 .1 .0)
+    (λ c. at-copied c .copied .kept .1 .1 .1 .1 .1 .1 .1 .0)
+    (λ c. at-copied c .copied .kept .1 .1 .1 .1 .1 .1 .1 .1 .1 .0)
+    (λ c. at-copied c .copied .kept .1 .1 .1 .1 .1 .1 .1 .1 .1 .1 .1 .1 .1 .0)
+    (λ c. at-copied c .copied .kept .1 .1 .1 .1 .1 .1 .1 .1 .1 .1 .1 .1 .1 .1 .0)
     returns)

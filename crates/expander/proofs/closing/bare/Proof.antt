@@ -170,18 +170,6 @@ at-search c = c .before .before .before .before
 abbrev at-perform : tie.After-slice-known22 → tie.After-perform
 at-perform c = c .before .before .before .before .before .before .before .before .before .before .before .before .before .before .before .before .before .before
 
-same-length : tie.Need-same-length
-same-length c = at-give-text c .give-text .kept .0
-
-same-length-2 : tie.Need-same-length-2
-same-length-2 c = refl
-
-same-length-3 : tie.Need-same-length-3
-same-length-3 c = refl
-
-same-length-4 : tie.Need-same-length-4
-same-length-4 c = at-copy-name c .copy-name .kept .1 .1 .1 .1 .0
-
 returns : tie.Need-returns
 returns c =
     λ a s b w m f.
@@ -192,15 +180,6 @@ returns c =
     gives-after (g .result) (c .before .with-source .ensures) (c .given .ensures)
     (calls-text q (nameOf p s) (c .before .before .before .before .before .before .before .before .before .before .before .before .before .before .before .before .before .meaning .given .1) n (g .ensures a (taking (p .args .n) s) (lent p b) (p .args .m) [] (q .means) (q .arguments)))
 
-same-length-5 : tie.Need-same-length-5
-same-length-5 c = at-give c .give .kept .0
-
-same-length-6 : tie.Need-same-length-6
-same-length-6 c = refl
-
-same-length-7 : tie.Need-same-length-7
-same-length-7 c = refl
-
 returns-2 : tie.Need-returns-2
 returns-2 c =
     λ a s b w m f.
@@ -209,9 +188,6 @@ returns-2 c =
     let g = c .before .before .before .before .give in
     gives-after (g .result) (c .before .with-source2 .ensures) (c .given2 .ensures)
     (calls-number q (nameOf p s) (c .before .before .before .before .before .before .before .before .before .before .before .before .before .before .meaning2 .given .1) (g .ensures a (taking (p .args .n) s) (lent p b) (p .args .m) [] (q .means) (q .arguments)))
-
-same-length-8 : tie.Need-same-length-8
-same-length-8 c = at-search c .search .kept .0
 
 returns-3 : tie.Need-returns-3
 returns-3 c =
@@ -223,42 +199,12 @@ returns-3 c =
     gives-after (g .result) (c .before .with-source3 .ensures) (c .given3 .ensures)
     (calls-search q (nameOf p s) (c .before .before .before .before .before .before .before .before .before .before .meaning2 .given .1) i (g .ensures a (taking (p .args .n) s) (lent p b) (p .args .m) [] (q .means) (q .arguments)))
 
-same-length-9 : tie.Need-same-length-9
-same-length-9 c = at-perform c .perform .kept .1 .0
-
-same-length-10 : tie.Need-same-length-10
-same-length-10 c = at-perform c .perform .kept .1 .1 .1 .1 .0
-
-same-length-11 : tie.Need-same-length-11
-same-length-11 c = at-perform c .perform .kept .1 .1 .1 .1 .1 .0
-
-same-length-12 : tie.Need-same-length-12
-same-length-12 c = at-perform c .perform .kept .1 .1 .1 .1 .1 .1 .0
-
-same-length-13 : tie.Need-same-length-13
-same-length-13 c = at-perform c .perform .kept .1 .1 .1 .1 .1 .1 .1 .0
-
-same-length-14 : tie.Need-same-length-14
-same-length-14 c = at-perform c .perform .kept .1 .1 .1 .1 .1 .1 .1 .1 .0
-
-same-length-15 : tie.Need-same-length-15
-same-length-15 c = at-perform c .perform .kept .1 .1 .1 .1 .1 .1 .1 .1 .1 .0
-
-same-length-16 : tie.Need-same-length-16
-same-length-16 c = at-perform c .perform .kept .1 .1 .1 .1 .1 .1 .1 .1 .1 .1 .0
-
-same-length-17 : tie.Need-same-length-17
-same-length-17 c = at-perform c .perform .kept .1 .1 .1 .1 .1 .1 .1 .1 .1 .1 .1 .0
-
 returns-4 : tie.Need-returns-4
 returns-4 c =
     λ a s b w m f.
     let p = c .before .before .before .before .before .before .before .before .before .before .before .before .before .before .before .before .before .before .before .before .before .before .before .before .before .before .before .before .before .before .before .before .before .before .before .before .before .before .before .before .before .before .before .before .before .before .before .before .before .before .before in
     let q = ready-in (left (c .before .before .before .before .before .before .before .before .before .before .before .before .before .before .before .before .before .before .before .before .before .before .before .before .before .before .before .before .before .before .before .before .before .before .before) b m f) (c .before .before .before .before .before .before .before .before .before .before .before .before .before .before .before .before .before .before .before .before .before .before .before .before .before .before .before .before .with-source4 .ensures) in
     calls-number q (nameOf p s) (c .before .before .before .before .before .before .before .before .before .before .before .before .before .before .before .before .before .before .before .before .before .before .before .before .before .before .before .before .before .before .before .before .before .meaning2 .given .1) (c .before .before .before .before .before .before .before .before .before .before .before .before .before .before .before .before .before .before .perform .ensures a (taking (p .args .n) s) (lent p b) [] (q .means) (q .arguments))
-
-same-length-18 : tie.Need-same-length-18
-same-length-18 c = refl
 
 returns-5 : tie.Need-returns-5
 returns-5 c =
@@ -292,26 +238,26 @@ bare-spec =
     perform-requires
     enum-told-4
     refused-requires
-    same-length
-    same-length-2
-    same-length-3
-    same-length-4
+    (λ c. at-give-text c .give-text .kept .0)
+    (λ c. refl)
+    (λ c. refl)
+    (λ c. at-copy-name c .copy-name .kept .1 .1 .1 .1 .0)
     returns
-    same-length-5
-    same-length-6
-    same-length-7
+    (λ c. at-give c .give .kept .0)
+    (λ c. refl)
+    (λ c. refl)
     returns-2
-    same-length-8
+    (λ c. at-search c .search .kept .0)
     returns-3
-    same-length-9
-    same-length-10
-    same-length-11
-    same-length-12
-    same-length-13
-    same-length-14
-    same-length-15
-    same-length-16
-    same-length-17
+    (λ c. at-perform c .perform .kept .1 .0)
+    (λ c. at-perform c .perform .kept .1 .1 .1 .1 .0)
+    (λ c. at-perform c .perform .kept .1 .1 .1 .1 .1 .0)
+    (λ c. at-perform c .perform .kept .1 .1 .1 .1 .1 .1 .0)
+    (λ c. at-perform c .perform .kept .1 .1 .1 .1 .1 .1 .1 .0)
+    (λ c. at-perform c .perform .kept .1 .1 .1 .1 .1 .1 .1 .1 .0)
+    (λ c. at-perform c .perform .kept .1 .1 .1 .1 .1 .1 .1 .1 .1 .0)
+    (λ c. at-perform c .perform .kept .1 .1 .1 .1 .1 .1 .1 .1 .1 .1 .0)
+    (λ c. at-perform c .perform .kept .1 .1 .1 .1 .1 .1 .1 .1 .1 .1 .1 .0)
     returns-4
-    same-length-18
+    (λ c. refl)
     returns-5)

@@ -187,15 +187,6 @@ at-search c = c .before .before .before .before
 abbrev at-perform : tie.After-slice-known21 → tie.After-perform
 at-perform c = c .before .before .before .before .before .before .before .before .before .before .before .before .before .before .before .before .before .before
 
-same-length : tie.Need-same-length
-same-length c = at-give-text c .give-text .kept .0
-
-same-length-2 : tie.Need-same-length-2
-same-length-2 c = refl
-
-same-length-3 : tie.Need-same-length-3
-same-length-3 c = refl
-
 returns : tie.Need-returns
 returns c =
     λ a s b k ks m e.
@@ -205,15 +196,6 @@ returns c =
     gives-after (g .result) (c .before .with-calls .ensures) (c .given .ensures)
     (closes k ks s (calls-text q (k .name) (c .before .before .before .before .before .before .before .before .before .before .before .i .given .1) (name l b m e) (g .ensures a (withCalls ks s) (lent (start l) b) (after l) (argsOf k) (q .means) (q .arguments))))
 
-same-length-4 : tie.Need-same-length-4
-same-length-4 c = at-give c .give .kept .0
-
-same-length-5 : tie.Need-same-length-5
-same-length-5 c = refl
-
-same-length-6 : tie.Need-same-length-6
-same-length-6 c = refl
-
 returns-2 : tie.Need-returns-2
 returns-2 c =
     λ a s b k ks m e.
@@ -222,15 +204,6 @@ returns-2 c =
     let g = c .before .before .before .before .give in
     gives-after (g .result) (c .before .with-calls2 .ensures) (c .given2 .ensures)
     (closes k ks s (calls-number q (k .name) (c .before .before .before .before .before .before .before .before .before .before .before .before .before .before .k .given .1) (g .ensures a (withCalls ks s) (lent (start l) b) (after l) (argsOf k) (q .means) (q .arguments))))
-
-same-length-7 : tie.Need-same-length-7
-same-length-7 c = at-search c .search .kept .0
-
-same-length-8 : tie.Need-same-length-8
-same-length-8 c = refl
-
-same-length-9 : tie.Need-same-length-9
-same-length-9 c = refl
 
 returns-3 : tie.Need-returns-3
 returns-3 c =
@@ -242,45 +215,12 @@ returns-3 c =
     gives-after (g .result) (c .before .with-calls3 .ensures) (c .given3 .ensures)
     (closes k ks s (calls-search q (k .name) (c .before .before .before .before .before .before .before .before .before .before .k .given .1) i (g .ensures a (withCalls ks s) (lent (start l) b) (after l) (argsOf k) (q .means) (q .arguments))))
 
-same-length-10 : tie.Need-same-length-10
-same-length-10 c = at-perform c .perform .kept .1 .0
-
-same-length-11 : tie.Need-same-length-11
-same-length-11 c = at-perform c .perform .kept .1 .1 .1 .1 .0
-
-same-length-12 : tie.Need-same-length-12
-same-length-12 c = at-perform c .perform .kept .1 .1 .1 .1 .1 .0
-
-same-length-13 : tie.Need-same-length-13
-same-length-13 c = at-perform c .perform .kept .1 .1 .1 .1 .1 .1 .0
-
-same-length-14 : tie.Need-same-length-14
-same-length-14 c = at-perform c .perform .kept .1 .1 .1 .1 .1 .1 .1 .0
-
-same-length-15 : tie.Need-same-length-15
-same-length-15 c = at-perform c .perform .kept .1 .1 .1 .1 .1 .1 .1 .1 .0
-
-same-length-16 : tie.Need-same-length-16
-same-length-16 c = at-perform c .perform .kept .1 .1 .1 .1 .1 .1 .1 .1 .1 .0
-
-same-length-17 : tie.Need-same-length-17
-same-length-17 c = at-perform c .perform .kept .1 .1 .1 .1 .1 .1 .1 .1 .1 .1 .0
-
-same-length-18 : tie.Need-same-length-18
-same-length-18 c = at-perform c .perform .kept .1 .1 .1 .1 .1 .1 .1 .1 .1 .1 .1 .0
-
 returns-4 : tie.Need-returns-4
 returns-4 c =
     λ a s b k ks m e.
     let l = c .before .before .before .before .before .before .before .before .before .before .before .before .before .before .before .before .before .before .before .before .before .before .before .before .before .before .before .before .before .before .before .before .before .before .before in
     let q = ready-in (left l b m e) (c .before .before .before .before .before .before .before .before .before .before .before .before .before .before .before .before .before .before .before .before .before .before .before .before .before .before .before .before .with-calls4 .ensures) in
     closes k ks s (calls-number q (k .name) (c .before .before .before .before .before .before .before .before .before .before .before .before .before .before .before .before .before .before .before .before .before .before .before .before .before .before .before .before .before .before .before .before .before .k .given .1) (c .before .before .before .before .before .before .before .before .before .before .before .before .before .before .before .before .before .before .perform .ensures a (withCalls ks s) (lent (start l) b) (argsOf k) (q .means) (q .arguments)))
-
-same-length-19 : tie.Need-same-length-19
-same-length-19 c = refl
-
-same-length-20 : tie.Need-same-length-20
-same-length-20 c = refl
 
 returns-5 : tie.Need-returns-5
 returns-5 c =
@@ -315,28 +255,28 @@ close-spec =
     perform-requires
     enum-told-4
     refused-requires
-    same-length
-    same-length-2
-    same-length-3
+    (λ c. at-give-text c .give-text .kept .0)
+    (λ c. refl)
+    (λ c. refl)
     returns
-    same-length-4
-    same-length-5
-    same-length-6
+    (λ c. at-give c .give .kept .0)
+    (λ c. refl)
+    (λ c. refl)
     returns-2
-    same-length-7
-    same-length-8
-    same-length-9
+    (λ c. at-search c .search .kept .0)
+    (λ c. refl)
+    (λ c. refl)
     returns-3
-    same-length-10
-    same-length-11
-    same-length-12
-    same-length-13
-    same-length-14
-    same-length-15
-    same-length-16
-    same-length-17
-    same-length-18
+    (λ c. at-perform c .perform .kept .1 .0)
+    (λ c. at-perform c .perform .kept .1 .1 .1 .1 .0)
+    (λ c. at-perform c .perform .kept .1 .1 .1 .1 .1 .0)
+    (λ c. at-perform c .perform .kept .1 .1 .1 .1 .1 .1 .0)
+    (λ c. at-perform c .perform .kept .1 .1 .1 .1 .1 .1 .1 .0)
+    (λ c. at-perform c .perform .kept .1 .1 .1 .1 .1 .1 .1 .1 .0)
+    (λ c. at-perform c .perform .kept .1 .1 .1 .1 .1 .1 .1 .1 .1 .0)
+    (λ c. at-perform c .perform .kept .1 .1 .1 .1 .1 .1 .1 .1 .1 .1 .0)
+    (λ c. at-perform c .perform .kept .1 .1 .1 .1 .1 .1 .1 .1 .1 .1 .1 .0)
     returns-4
-    same-length-19
-    same-length-20
+    (λ c. refl)
+    (λ c. refl)
     returns-5)

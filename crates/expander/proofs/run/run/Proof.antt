@@ -168,42 +168,6 @@ stopped-requires c κs =
     let q = begin (head p) .pre .0 in
     reached-stop (stretched p (q .setting) (q .limits)) (c .before .stop .given .1) .taken-in
 
-same-length : tie.Need-same-length Inv-loop μ-loop
-same-length c = kept-plain (plain-stopped (c .before .before)) .0
-
-same-length-2 : tie.Need-same-length-2 Inv-loop μ-loop
-same-length-2 c = kept-plain (plain-stopped (c .before .before)) .1
-
-same-length-3 : tie.Need-same-length-3 Inv-loop μ-loop
-same-length-3 c = kept-plain (plain-stopped (c .before .before)) .2
-
-same-length-4 : tie.Need-same-length-4 Inv-loop μ-loop
-same-length-4 c = kept-plain (plain-stopped (c .before .before)) .3
-
-same-length-5 : tie.Need-same-length-5 Inv-loop μ-loop
-same-length-5 c = kept-plain (plain-stopped (c .before .before)) .4
-
-same-length-6 : tie.Need-same-length-6 Inv-loop μ-loop
-same-length-6 c = kept-plain (plain-stopped (c .before .before)) .5
-
-same-length-7 : tie.Need-same-length-7 Inv-loop μ-loop
-same-length-7 c = kept-plain (plain-stopped (c .before .before)) .6
-
-same-length-8 : tie.Need-same-length-8 Inv-loop μ-loop
-same-length-8 c = kept-plain (plain-stopped (c .before .before)) .7
-
-same-length-9 : tie.Need-same-length-9 Inv-loop μ-loop
-same-length-9 c = kept-plain (plain-stopped (c .before .before)) .8
-
-same-length-10 : tie.Need-same-length-10 Inv-loop μ-loop
-same-length-10 c = kept-plain (plain-stopped (c .before .before)) .9
-
-same-length-11 : tie.Need-same-length-11 Inv-loop μ-loop
-same-length-11 c = kept-plain (plain-stopped (c .before .before)) .10
-
-same-length-12 : tie.Need-same-length-12 Inv-loop μ-loop
-same-length-12 c = kept-plain (plain-stopped (c .before .before)) .11
-
 returns : tie.Need-returns Inv-loop μ-loop
 returns c =
     λ a l.
@@ -232,42 +196,6 @@ stopped-requires-2 c κs =
     let p = begin (head (plain s)) .pre .0 in
     taken-few (next s (p .setting) (p .limits) .running)
 
-same-length-13 : tie.Need-same-length-13 Inv-loop μ-loop
-same-length-13 c = kept-special (refused (c .before .before)) .0
-
-same-length-14 : tie.Need-same-length-14 Inv-loop μ-loop
-same-length-14 c = kept-special (refused (c .before .before)) .1
-
-same-length-15 : tie.Need-same-length-15 Inv-loop μ-loop
-same-length-15 c = kept-special (refused (c .before .before)) .2
-
-same-length-16 : tie.Need-same-length-16 Inv-loop μ-loop
-same-length-16 c = kept-special (refused (c .before .before)) .3
-
-same-length-17 : tie.Need-same-length-17 Inv-loop μ-loop
-same-length-17 c = kept-special (refused (c .before .before)) .4
-
-same-length-18 : tie.Need-same-length-18 Inv-loop μ-loop
-same-length-18 c = kept-special (refused (c .before .before)) .5
-
-same-length-19 : tie.Need-same-length-19 Inv-loop μ-loop
-same-length-19 c = kept-special (refused (c .before .before)) .6
-
-same-length-20 : tie.Need-same-length-20 Inv-loop μ-loop
-same-length-20 c = kept-special (refused (c .before .before)) .7
-
-same-length-21 : tie.Need-same-length-21 Inv-loop μ-loop
-same-length-21 c = kept-special (refused (c .before .before)) .8
-
-same-length-22 : tie.Need-same-length-22 Inv-loop μ-loop
-same-length-22 c = kept-special (refused (c .before .before)) .9
-
-same-length-23 : tie.Need-same-length-23 Inv-loop μ-loop
-same-length-23 c = kept-special (refused (c .before .before)) .10
-
-same-length-24 : tie.Need-same-length-24 Inv-loop μ-loop
-same-length-24 c = kept-special (refused (c .before .before)) .11
-
 returns-2 : tie.Need-returns-2 Inv-loop μ-loop
 returns-2 c =
     λ a l.
@@ -294,42 +222,6 @@ finished-requires c κs =
     let p = begin (head (plain (stop t))) .pre .0 in
     let g = next (stop t) (p .setting) (p .limits) in
     run-few (g .running) (g .more) (gives t (p .setting) (p .limits)) _ (c .before .went2 .given .1)
-
-same-length-25 : tie.Need-same-length-25 Inv-loop μ-loop
-same-length-25 c = kept-special (ended (c .before .before)) .0
-
-same-length-26 : tie.Need-same-length-26 Inv-loop μ-loop
-same-length-26 c = kept-special (ended (c .before .before)) .1
-
-same-length-27 : tie.Need-same-length-27 Inv-loop μ-loop
-same-length-27 c = kept-special (ended (c .before .before)) .2
-
-same-length-28 : tie.Need-same-length-28 Inv-loop μ-loop
-same-length-28 c = kept-special (ended (c .before .before)) .3
-
-same-length-29 : tie.Need-same-length-29 Inv-loop μ-loop
-same-length-29 c = kept-special (ended (c .before .before)) .4
-
-same-length-30 : tie.Need-same-length-30 Inv-loop μ-loop
-same-length-30 c = kept-special (ended (c .before .before)) .5
-
-same-length-31 : tie.Need-same-length-31 Inv-loop μ-loop
-same-length-31 c = kept-special (ended (c .before .before)) .6
-
-same-length-32 : tie.Need-same-length-32 Inv-loop μ-loop
-same-length-32 c = kept-special (ended (c .before .before)) .7
-
-same-length-33 : tie.Need-same-length-33 Inv-loop μ-loop
-same-length-33 c = kept-special (ended (c .before .before)) .8
-
-same-length-34 : tie.Need-same-length-34 Inv-loop μ-loop
-same-length-34 c = kept-special (ended (c .before .before)) .9
-
-same-length-35 : tie.Need-same-length-35 Inv-loop μ-loop
-same-length-35 c = kept-special (ended (c .before .before)) .10
-
-same-length-36 : tie.Need-same-length-36 Inv-loop μ-loop
-same-length-36 c = kept-special (ended (c .before .before)) .11
 
 returns-3 : tie.Need-returns-3 Inv-loop μ-loop
 returns-3 c =
@@ -369,42 +261,6 @@ stopped-requires-3 c κs =
     let p = begin h .pre .0 in
     taken-few (h .loop .inv .0 (p .setting) (p .limits))
 
-same-length-37 : tie.Need-same-length-37 Inv-loop μ-loop
-same-length-37 c = c .before .before .loop .inv .1 .0
-
-same-length-38 : tie.Need-same-length-38 Inv-loop μ-loop
-same-length-38 c = c .before .before .loop .inv .1 .1
-
-same-length-39 : tie.Need-same-length-39 Inv-loop μ-loop
-same-length-39 c = c .before .before .loop .inv .1 .2
-
-same-length-40 : tie.Need-same-length-40 Inv-loop μ-loop
-same-length-40 c = c .before .before .loop .inv .1 .3
-
-same-length-41 : tie.Need-same-length-41 Inv-loop μ-loop
-same-length-41 c = c .before .before .loop .inv .1 .4
-
-same-length-42 : tie.Need-same-length-42 Inv-loop μ-loop
-same-length-42 c = c .before .before .loop .inv .1 .5
-
-same-length-43 : tie.Need-same-length-43 Inv-loop μ-loop
-same-length-43 c = c .before .before .loop .inv .1 .6
-
-same-length-44 : tie.Need-same-length-44 Inv-loop μ-loop
-same-length-44 c = c .before .before .loop .inv .1 .7
-
-same-length-45 : tie.Need-same-length-45 Inv-loop μ-loop
-same-length-45 c = c .before .before .loop .inv .1 .8
-
-same-length-46 : tie.Need-same-length-46 Inv-loop μ-loop
-same-length-46 c = c .before .before .loop .inv .1 .9
-
-same-length-47 : tie.Need-same-length-47 Inv-loop μ-loop
-same-length-47 c = c .before .before .loop .inv .1 .10
-
-same-length-48 : tie.Need-same-length-48 Inv-loop μ-loop
-same-length-48 c = c .before .before .loop .inv .1 .11
-
 returns-4 : tie.Need-returns-4 Inv-loop μ-loop
 returns-4 c =
     λ a l.
@@ -425,69 +281,69 @@ run-spec =
     enum-known-stop
     sub-stopped
     stopped-requires
-    same-length
-    same-length-2
-    same-length-3
-    same-length-4
-    same-length-5
-    same-length-6
-    same-length-7
-    same-length-8
-    same-length-9
-    same-length-10
-    same-length-11
-    same-length-12
+    (λ c. kept-plain (plain-stopped (c .before .before)) .0)
+    (λ c. kept-plain (plain-stopped (c .before .before)) .1)
+    (λ c. kept-plain (plain-stopped (c .before .before)) .2)
+    (λ c. kept-plain (plain-stopped (c .before .before)) .3)
+    (λ c. kept-plain (plain-stopped (c .before .before)) .4)
+    (λ c. kept-plain (plain-stopped (c .before .before)) .5)
+    (λ c. kept-plain (plain-stopped (c .before .before)) .6)
+    (λ c. kept-plain (plain-stopped (c .before .before)) .7)
+    (λ c. kept-plain (plain-stopped (c .before .before)) .8)
+    (λ c. kept-plain (plain-stopped (c .before .before)) .9)
+    (λ c. kept-plain (plain-stopped (c .before .before)) .10)
+    (λ c. kept-plain (plain-stopped (c .before .before)) .11)
     returns
     enum-known-stop-2
     special-step-requires
     enum-known-went
     sub-stopped-2
     stopped-requires-2
-    same-length-13
-    same-length-14
-    same-length-15
-    same-length-16
-    same-length-17
-    same-length-18
-    same-length-19
-    same-length-20
-    same-length-21
-    same-length-22
-    same-length-23
-    same-length-24
+    (λ c. kept-special (refused (c .before .before)) .0)
+    (λ c. kept-special (refused (c .before .before)) .1)
+    (λ c. kept-special (refused (c .before .before)) .2)
+    (λ c. kept-special (refused (c .before .before)) .3)
+    (λ c. kept-special (refused (c .before .before)) .4)
+    (λ c. kept-special (refused (c .before .before)) .5)
+    (λ c. kept-special (refused (c .before .before)) .6)
+    (λ c. kept-special (refused (c .before .before)) .7)
+    (λ c. kept-special (refused (c .before .before)) .8)
+    (λ c. kept-special (refused (c .before .before)) .9)
+    (λ c. kept-special (refused (c .before .before)) .10)
+    (λ c. kept-special (refused (c .before .before)) .11)
     returns-2
     enum-known-went-2
     sub-steps
     add-steps
     finished-requires
-    same-length-25
-    same-length-26
-    same-length-27
-    same-length-28
-    same-length-29
-    same-length-30
-    same-length-31
-    same-length-32
-    same-length-33
-    same-length-34
-    same-length-35
-    same-length-36
+    (λ c. kept-special (ended (c .before .before)) .0)
+    (λ c. kept-special (ended (c .before .before)) .1)
+    (λ c. kept-special (ended (c .before .before)) .2)
+    (λ c. kept-special (ended (c .before .before)) .3)
+    (λ c. kept-special (ended (c .before .before)) .4)
+    (λ c. kept-special (ended (c .before .before)) .5)
+    (λ c. kept-special (ended (c .before .before)) .6)
+    (λ c. kept-special (ended (c .before .before)) .7)
+    (λ c. kept-special (ended (c .before .before)) .8)
+    (λ c. kept-special (ended (c .before .before)) .9)
+    (λ c. kept-special (ended (c .before .before)) .10)
+    (λ c. kept-special (ended (c .before .before)) .11)
     returns-3
     enum-told
     sub-left
     loop-less
     loop-again
     stopped-requires-3
-    same-length-37
-    same-length-38
-    same-length-39
-    same-length-40
-    same-length-41
-    same-length-42
-    same-length-43
-    same-length-44
-    same-length-45
-    same-length-46
-    same-length-47
-    same-length-48
+    (λ c. c .before .before .loop .inv .1 .0)
+    (λ c. c .before .before .loop .inv .1 .1)
+    (λ c. c .before .before .loop .inv .1 .2)
+    (λ c. c .before .before .loop .inv .1 .3)
+    (λ c. c .before .before .loop .inv .1 .4)
+    (λ c. c .before .before .loop .inv .1 .5)
+    (λ c. c .before .before .loop .inv .1 .6)
+    (λ c. c .before .before .loop .inv .1 .7)
+    (λ c. c .before .before .loop .inv .1 .8)
+    (λ c. c .before .before .loop .inv .1 .9)
+    (λ c. c .before .before .loop .inv .1 .10)
+    (λ c. c .before .before .loop .inv .1 .11)
     returns-4)

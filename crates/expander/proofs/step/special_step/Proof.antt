@@ -77,21 +77,6 @@ at-close c = c .before .before .before .before .before .before .before .before .
 abbrev at-bare : tie.After-slice-known29 → tie.After-bare
 at-bare c = c .before .before .before .before .before .before .before .before .before .before .before .before .before .before .before .before .before .before
 
-same-length : tie.Need-same-length
-same-length c = at-the-end c .at-end .kept .0
-
-same-length-2 : tie.Need-same-length-2
-same-length-2 c = refl
-
-same-length-3 : tie.Need-same-length-3
-same-length-3 c = refl
-
-same-length-4 : tie.Need-same-length-4
-same-length-4 c = refl
-
-same-length-5 : tie.Need-same-length-5
-same-length-5 c = at-the-end c .at-end .kept .1 .1 .1 .1 .0
-
 returns : tie.Need-returns
 unfolding SpecialIs SpecialWithin faultAnswer taking withSource NameFound
 returns c = λ a s b r h. by (special-is s (c .before .before .before .before .before .before .before .before .before .before .enum-told .given .1) h) (c .before .before .before .before .at-end .ensures a s (textAt _ (callsAt _ _ _ (definitionsAt _ _ (errorsAt _ b)))) r)
@@ -104,63 +89,9 @@ returns-3 : tie.Need-returns-3
 unfolding SpecialIs SpecialWithin faultAnswer taking withSource NameFound
 returns-3 c = λ a s b r h. turned-refused unclosedComment (special-is s (c .before .enum-told3 .given .1) h) (c .refused2 .ensures)
 
-same-length-6 : tie.Need-same-length-6
-same-length-6 c = at-close c .close .kept .1 .0
-
-same-length-7 : tie.Need-same-length-7
-same-length-7 c = at-close c .close .kept .1 .1 .1 .1 .1 .0
-
-same-length-8 : tie.Need-same-length-8
-same-length-8 c = at-close c .close .kept .1 .1 .1 .1 .1 .1 .0
-
-same-length-9 : tie.Need-same-length-9
-same-length-9 c = at-close c .close .kept .1 .1 .1 .1 .1 .1 .1 .0
-
-same-length-10 : tie.Need-same-length-10
-same-length-10 c = at-close c .close .kept .1 .1 .1 .1 .1 .1 .1 .1 .0
-
-same-length-11 : tie.Need-same-length-11
-same-length-11 c = at-close c .close .kept .1 .1 .1 .1 .1 .1 .1 .1 .1 .0
-
-same-length-12 : tie.Need-same-length-12
-same-length-12 c = at-close c .close .kept .1 .1 .1 .1 .1 .1 .1 .1 .1 .1 .0
-
-same-length-13 : tie.Need-same-length-13
-same-length-13 c = at-close c .close .kept .1 .1 .1 .1 .1 .1 .1 .1 .1 .1 .1 .0
-
-same-length-14 : tie.Need-same-length-14
-same-length-14 c = at-close c .close .kept .1 .1 .1 .1 .1 .1 .1 .1 .1 .1 .1 .1 .0
-
 returns-4 : tie.Need-returns-4
 unfolding SpecialIs SpecialWithin faultAnswer taking withSource NameFound
 returns-4 c = let w = special-within _ _ _ (c .before .before .before .before .before .before .before .before .before .before .before .before .before .before .before .before .before .before .before .before .before .before .before .before .before .before .before .before .before .before .before .enum-told4 .given .1) (c .before .before .before .before .before .before .before .before .before .before .before .before .before .before .before .before .before .before .before .before .before .before .before .before .before .before .before .before .before .before .before .before .before .before .before .before .before .before .before .before .before .before .before .before .before .before .pre .1 .0) in λ a s b r h. let i = some-calls r (w .1) in by (special-is s (c .before .before .before .before .before .before .before .before .before .before .before .before .before .before .before .before .before .before .before .before .before .before .before .before .before .before .before .before .before .before .before .enum-told4 .given .1) h (i .top) (i .rest) (i .is)) (c .before .before .before .before .before .before .before .before .before .before .before .before .before .before .before .before .before .before .close .ensures a (taking 1 s) b (i .top) (i .rest) (one-taken r (w .0) (c .before .before .before .before .before .before .before .before .before .before .before .before .before .before .before .before .before .before .before .before .before .before .before .before .before .before .before .before .before .advanced .ensures) (c .before .before .before .before .before .before .before .before .before .before .before .before .before .before .before .before .before .before .before .with-source .ensures)) (i .is))
-
-same-length-15 : tie.Need-same-length-15
-same-length-15 c = at-bare c .bare .kept .1 .0
-
-same-length-16 : tie.Need-same-length-16
-same-length-16 c = at-bare c .bare .kept .1 .1 .1 .1 .0
-
-same-length-17 : tie.Need-same-length-17
-same-length-17 c = at-bare c .bare .kept .1 .1 .1 .1 .1 .0
-
-same-length-18 : tie.Need-same-length-18
-same-length-18 c = at-bare c .bare .kept .1 .1 .1 .1 .1 .1 .0
-
-same-length-19 : tie.Need-same-length-19
-same-length-19 c = at-bare c .bare .kept .1 .1 .1 .1 .1 .1 .1 .0
-
-same-length-20 : tie.Need-same-length-20
-same-length-20 c = at-bare c .bare .kept .1 .1 .1 .1 .1 .1 .1 .1 .0
-
-same-length-21 : tie.Need-same-length-21
-same-length-21 c = at-bare c .bare .kept .1 .1 .1 .1 .1 .1 .1 .1 .1 .0
-
-same-length-22 : tie.Need-same-length-22
-same-length-22 c = at-bare c .bare .kept .1 .1 .1 .1 .1 .1 .1 .1 .1 .1 .0
-
-same-length-23 : tie.Need-same-length-23
-same-length-23 c = at-bare c .bare .kept .1 .1 .1 .1 .1 .1 .1 .1 .1 .1 .1 .0
 
 returns-5 : tie.Need-returns-5
 unfolding SpecialIs SpecialWithin faultAnswer taking withSource NameFound
@@ -182,31 +113,31 @@ special-step-spec =
     close-requires
     enum-known-e
     bare-requires
-    same-length
-    same-length-2
-    same-length-3
-    same-length-4
-    same-length-5
+    (λ c. at-the-end c .at-end .kept .0)
+    (λ c. refl)
+    (λ c. refl)
+    (λ c. refl)
+    (λ c. at-the-end c .at-end .kept .1 .1 .1 .1 .0)
     returns
     returns-2
     returns-3
-    same-length-6
-    same-length-7
-    same-length-8
-    same-length-9
-    same-length-10
-    same-length-11
-    same-length-12
-    same-length-13
-    same-length-14
+    (λ c. at-close c .close .kept .1 .0)
+    (λ c. at-close c .close .kept .1 .1 .1 .1 .1 .0)
+    (λ c. at-close c .close .kept .1 .1 .1 .1 .1 .1 .0)
+    (λ c. at-close c .close .kept .1 .1 .1 .1 .1 .1 .1 .0)
+    (λ c. at-close c .close .kept .1 .1 .1 .1 .1 .1 .1 .1 .0)
+    (λ c. at-close c .close .kept .1 .1 .1 .1 .1 .1 .1 .1 .1 .0)
+    (λ c. at-close c .close .kept .1 .1 .1 .1 .1 .1 .1 .1 .1 .1 .0)
+    (λ c. at-close c .close .kept .1 .1 .1 .1 .1 .1 .1 .1 .1 .1 .1 .0)
+    (λ c. at-close c .close .kept .1 .1 .1 .1 .1 .1 .1 .1 .1 .1 .1 .1 .0)
     returns-4
-    same-length-15
-    same-length-16
-    same-length-17
-    same-length-18
-    same-length-19
-    same-length-20
-    same-length-21
-    same-length-22
-    same-length-23
+    (λ c. at-bare c .bare .kept .1 .0)
+    (λ c. at-bare c .bare .kept .1 .1 .1 .1 .0)
+    (λ c. at-bare c .bare .kept .1 .1 .1 .1 .1 .0)
+    (λ c. at-bare c .bare .kept .1 .1 .1 .1 .1 .1 .0)
+    (λ c. at-bare c .bare .kept .1 .1 .1 .1 .1 .1 .1 .0)
+    (λ c. at-bare c .bare .kept .1 .1 .1 .1 .1 .1 .1 .1 .0)
+    (λ c. at-bare c .bare .kept .1 .1 .1 .1 .1 .1 .1 .1 .1 .0)
+    (λ c. at-bare c .bare .kept .1 .1 .1 .1 .1 .1 .1 .1 .1 .1 .0)
+    (λ c. at-bare c .bare .kept .1 .1 .1 .1 .1 .1 .1 .1 .1 .1 .1 .0)
     returns-5)

@@ -100,49 +100,13 @@ at-next-argument c = c .before .before .before .before
 abbrev at-open-call : tie.After-slice-known23 → tie.After-open-call
 at-open-call c = c .before .before .before .before .before .before
 
-same-length : tie.Need-same-length
-same-length c = at-deliver c .deliver .kept .1 .1 .0
-
-same-length-2 : tie.Need-same-length-2
-same-length-2 c = at-deliver c .deliver .kept .1 .1 .1 .0
-
-same-length-3 : tie.Need-same-length-3
-same-length-3 c = at-deliver c .deliver .kept .1 .1 .1 .1 .0
-
-same-length-4 : tie.Need-same-length-4
-same-length-4 c = at-deliver c .deliver .kept .1 .1 .1 .1 .1 .0
-
-same-length-5 : tie.Need-same-length-5
-same-length-5 c = at-deliver c .deliver .kept .1 .1 .1 .1 .1 .1 .0
-
-same-length-6 : tie.Need-same-length-6
-same-length-6 c = at-deliver c .deliver .kept .1 .1 .1 .1 .1 .1 .1 .0
-
 returns : tie.Need-returns
 unfolding PlainIs PlainWithin taking withSource
 returns c = λ a s b r h. by (plain-is s (c .before .before .before .before .before .before .before .before .before .before .before .before .before .before .before .before .before .before .before .before .p .given .1) h) (c .before .before .before .before .before .before .before .before .before .before .before .before .deliver .ensures a s b r)
 
-same-length-7 : tie.Need-same-length-7
-same-length-7 c = at-emit-byte c .emit-byte .kept .0
-
-same-length-8 : tie.Need-same-length-8
-same-length-8 c = at-emit-byte c .emit-byte .kept .1 .0
-
-same-length-9 : tie.Need-same-length-9
-same-length-9 c = at-emit-byte c .emit-byte .kept .1 .1 .0
-
 returns-2 : tie.Need-returns-2
 unfolding PlainIs PlainWithin taking withSource
 returns-2 c = let w = plain-within _ _ _ (c .before .before .before .before .before .before .before .before .before .before .before .before .before .p2 .given .1) (c .before .before .before .before .before .before .before .before .before .before .before .before .before .before .before .before .before .before .before .before .before .before .before .pre .1) in λ a s b r h. by (plain-is s (c .before .before .before .before .before .before .before .before .before .before .before .before .before .p2 .given .1) h) (c .before .before .before .before .before .before .emit-byte .ensures a (taking 1 s) (textAt _ (pendingAt _ (callsAt _ _ _ b))) (one-taken r w (c .before .before .before .before .before .before .before .before .before .before .before .advanced .ensures) (c .before .before .before .before .before .before .before .with-source .ensures)))
-
-same-length-10 : tie.Need-same-length-10
-same-length-10 c = at-collect-byte c .collect-byte .kept .0
-
-same-length-11 : tie.Need-same-length-11
-same-length-11 c = at-collect-byte c .collect-byte .kept .1 .0
-
-same-length-12 : tie.Need-same-length-12
-same-length-12 c = at-collect-byte c .collect-byte .kept .1 .1 .0
 
 returns-3 : tie.Need-returns-3
 unfolding PlainIs PlainWithin taking withSource
@@ -152,27 +116,9 @@ returns-4 : tie.Need-returns-4
 unfolding PlainIs PlainWithin taking withSource
 returns-4 c = let w = plain-within _ _ _ (c .before .before .before .enum-told .given .1) (c .before .before .before .before .before .before .before .before .before .before .before .before .before .pre .1) in λ a s b r h. turned-on (one-taken r w (c .before .before .advanced3 .ensures) (c .before .with-source3 .ensures)) (plain-is s (c .before .before .before .enum-told .given .1) h) (c .on .ensures)
 
-same-length-13 : tie.Need-same-length-13
-same-length-13 c = refl
-
-same-length-14 : tie.Need-same-length-14
-same-length-14 c = at-next-argument c .next-argument .kept .1 .0
-
-same-length-15 : tie.Need-same-length-15
-same-length-15 c = at-next-argument c .next-argument .kept .1 .1 .0
-
 returns-5 : tie.Need-returns-5
 unfolding PlainIs PlainWithin taking withSource
 returns-5 c = let w = plain-within _ _ _ (c .before .before .before .before .before .before .before .before .before .before .enum-told2 .given .1) (c .before .before .before .before .before .before .before .before .before .before .before .before .before .before .before .before .before .before .before .before .pre .1) in λ a s b r h. let i = some-calls r (w .1) in by (plain-is s (c .before .before .before .before .before .before .before .before .before .before .enum-told2 .given .1) h (i .top) (i .rest) (i .is)) (c .before .before .before .before .next-argument .ensures a (taking 1 s) (textAt _ (pendingAt _ (sinksAt _ _ _ b))) (i .top) (i .rest) (one-taken r (w .0) (c .before .before .before .before .before .before .before .before .before .advanced4 .ensures) (c .before .before .before .before .before .with-source4 .ensures)) (i .is))
-
-same-length-16 : tie.Need-same-length-16
-same-length-16 c = at-open-call c .open-call .kept .1 .1 .0
-
-same-length-17 : tie.Need-same-length-17
-same-length-17 c = at-open-call c .open-call .kept .1 .1 .1 .0
-
-same-length-18 : tie.Need-same-length-18
-same-length-18 c = at-open-call c .open-call .kept .1 .1 .1 .1 .0
 
 returns-6 : tie.Need-returns-6
 unfolding PlainIs PlainWithin taking withSource
@@ -202,27 +148,27 @@ plain-step-spec =
     next-argument-requires
     enum-known-p-4
     open-call-requires
-    same-length
-    same-length-2
-    same-length-3
-    same-length-4
-    same-length-5
-    same-length-6
+    (λ c. at-deliver c .deliver .kept .1 .1 .0)
+    (λ c. at-deliver c .deliver .kept .1 .1 .1 .0)
+    (λ c. at-deliver c .deliver .kept .1 .1 .1 .1 .0)
+    (λ c. at-deliver c .deliver .kept .1 .1 .1 .1 .1 .0)
+    (λ c. at-deliver c .deliver .kept .1 .1 .1 .1 .1 .1 .0)
+    (λ c. at-deliver c .deliver .kept .1 .1 .1 .1 .1 .1 .1 .0)
     returns
-    same-length-7
-    same-length-8
-    same-length-9
+    (λ c. at-emit-byte c .emit-byte .kept .0)
+    (λ c. at-emit-byte c .emit-byte .kept .1 .0)
+    (λ c. at-emit-byte c .emit-byte .kept .1 .1 .0)
     returns-2
-    same-length-10
-    same-length-11
-    same-length-12
+    (λ c. at-collect-byte c .collect-byte .kept .0)
+    (λ c. at-collect-byte c .collect-byte .kept .1 .0)
+    (λ c. at-collect-byte c .collect-byte .kept .1 .1 .0)
     returns-3
     returns-4
-    same-length-13
-    same-length-14
-    same-length-15
+    (λ c. refl)
+    (λ c. at-next-argument c .next-argument .kept .1 .0)
+    (λ c. at-next-argument c .next-argument .kept .1 .1 .0)
     returns-5
-    same-length-16
-    same-length-17
-    same-length-18
+    (λ c. at-open-call c .open-call .kept .1 .1 .0)
+    (λ c. at-open-call c .open-call .kept .1 .1 .1 .0)
+    (λ c. at-open-call c .open-call .kept .1 .1 .1 .1 .0)
     returns-6)

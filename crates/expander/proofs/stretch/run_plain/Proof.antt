@@ -126,27 +126,6 @@ event-ahead-requires c κs =
 enum-known-e : tie.Need-enum-known-e Inv-loop μ-loop
 enum-known-e c = search needs
 
-same-length : tie.Need-same-length Inv-loop μ-loop
-same-length c = kept-event (special (c .before)) .0
-
-same-length-2 : tie.Need-same-length-2 Inv-loop μ-loop
-same-length-2 c = kept-event (special (c .before)) .1
-
-same-length-3 : tie.Need-same-length-3 Inv-loop μ-loop
-same-length-3 c = kept-event (special (c .before)) .2
-
-same-length-4 : tie.Need-same-length-4 Inv-loop μ-loop
-same-length-4 c = kept-event (special (c .before)) .3
-
-same-length-5 : tie.Need-same-length-5 Inv-loop μ-loop
-same-length-5 c = kept-event (special (c .before)) .4
-
-same-length-6 : tie.Need-same-length-6 Inv-loop μ-loop
-same-length-6 c = kept-event (special (c .before)) .5
-
-same-length-7 : tie.Need-same-length-7 Inv-loop μ-loop
-same-length-7 c = kept-event (special (c .before)) .6
-
 returns : tie.Need-returns Inv-loop μ-loop
 unfolding Reached EventWithin EventIs
 returns c =
@@ -179,27 +158,6 @@ plain-step-requires c κs =
 enum-known-went : tie.Need-enum-known-went Inv-loop μ-loop
 enum-known-went c = search needs
 
-same-length-8 : tie.Need-same-length-8 Inv-loop μ-loop
-same-length-8 c = kept-plain (refused (c .before)) .0
-
-same-length-9 : tie.Need-same-length-9 Inv-loop μ-loop
-same-length-9 c = kept-plain (refused (c .before)) .1
-
-same-length-10 : tie.Need-same-length-10 Inv-loop μ-loop
-same-length-10 c = kept-plain (refused (c .before)) .2
-
-same-length-11 : tie.Need-same-length-11 Inv-loop μ-loop
-same-length-11 c = kept-plain (refused (c .before)) .3
-
-same-length-12 : tie.Need-same-length-12 Inv-loop μ-loop
-same-length-12 c = kept-plain (refused (c .before)) .4
-
-same-length-13 : tie.Need-same-length-13 Inv-loop μ-loop
-same-length-13 c = kept-plain (refused (c .before)) .5
-
-same-length-14 : tie.Need-same-length-14 Inv-loop μ-loop
-same-length-14 c = kept-plain (refused (c .before)) .6
-
 returns-2 : tie.Need-returns-2 Inv-loop μ-loop
 unfolding Reached
 returns-2 c =
@@ -211,27 +169,6 @@ returns-2 c =
 
 enum-known-went-2 : tie.Need-enum-known-went-2 Inv-loop μ-loop
 enum-known-went-2 c = search needs
-
-same-length-15 : tie.Need-same-length-15 Inv-loop μ-loop
-same-length-15 c = kept-plain (ended (c .before)) .0
-
-same-length-16 : tie.Need-same-length-16 Inv-loop μ-loop
-same-length-16 c = kept-plain (ended (c .before)) .1
-
-same-length-17 : tie.Need-same-length-17 Inv-loop μ-loop
-same-length-17 c = kept-plain (ended (c .before)) .2
-
-same-length-18 : tie.Need-same-length-18 Inv-loop μ-loop
-same-length-18 c = kept-plain (ended (c .before)) .3
-
-same-length-19 : tie.Need-same-length-19 Inv-loop μ-loop
-same-length-19 c = kept-plain (ended (c .before)) .4
-
-same-length-20 : tie.Need-same-length-20 Inv-loop μ-loop
-same-length-20 c = kept-plain (ended (c .before)) .5
-
-same-length-21 : tie.Need-same-length-21 Inv-loop μ-loop
-same-length-21 c = kept-plain (ended (c .before)) .6
 
 returns-3 : tie.Need-returns-3 Inv-loop μ-loop
 returns-3 c =
@@ -260,27 +197,6 @@ loop-again c =
       kept-plain x,
     )
 
-same-length-22 : tie.Need-same-length-22 Inv-loop μ-loop
-same-length-22 c = c .before .loop .inv .2 .0
-
-same-length-23 : tie.Need-same-length-23 Inv-loop μ-loop
-same-length-23 c = c .before .loop .inv .2 .1
-
-same-length-24 : tie.Need-same-length-24 Inv-loop μ-loop
-same-length-24 c = c .before .loop .inv .2 .2
-
-same-length-25 : tie.Need-same-length-25 Inv-loop μ-loop
-same-length-25 c = c .before .loop .inv .2 .3
-
-same-length-26 : tie.Need-same-length-26 Inv-loop μ-loop
-same-length-26 c = c .before .loop .inv .2 .4
-
-same-length-27 : tie.Need-same-length-27 Inv-loop μ-loop
-same-length-27 c = c .before .loop .inv .2 .5
-
-same-length-28 : tie.Need-same-length-28 Inv-loop μ-loop
-same-length-28 c = c .before .loop .inv .2 .6
-
 returns-4 : tie.Need-returns-4 Inv-loop μ-loop
 unfolding Reached
 returns-4 c =
@@ -297,43 +213,43 @@ run-plain-spec =
     loop-holds
     event-ahead-requires
     enum-known-e
-    same-length
-    same-length-2
-    same-length-3
-    same-length-4
-    same-length-5
-    same-length-6
-    same-length-7
+    (λ c. kept-event (special (c .before)) .0)
+    (λ c. kept-event (special (c .before)) .1)
+    (λ c. kept-event (special (c .before)) .2)
+    (λ c. kept-event (special (c .before)) .3)
+    (λ c. kept-event (special (c .before)) .4)
+    (λ c. kept-event (special (c .before)) .5)
+    (λ c. kept-event (special (c .before)) .6)
     returns
     enum-known-p
     plain-step-requires
     enum-known-went
-    same-length-8
-    same-length-9
-    same-length-10
-    same-length-11
-    same-length-12
-    same-length-13
-    same-length-14
+    (λ c. kept-plain (refused (c .before)) .0)
+    (λ c. kept-plain (refused (c .before)) .1)
+    (λ c. kept-plain (refused (c .before)) .2)
+    (λ c. kept-plain (refused (c .before)) .3)
+    (λ c. kept-plain (refused (c .before)) .4)
+    (λ c. kept-plain (refused (c .before)) .5)
+    (λ c. kept-plain (refused (c .before)) .6)
     returns-2
     enum-known-went-2
-    same-length-15
-    same-length-16
-    same-length-17
-    same-length-18
-    same-length-19
-    same-length-20
-    same-length-21
+    (λ c. kept-plain (ended (c .before)) .0)
+    (λ c. kept-plain (ended (c .before)) .1)
+    (λ c. kept-plain (ended (c .before)) .2)
+    (λ c. kept-plain (ended (c .before)) .3)
+    (λ c. kept-plain (ended (c .before)) .4)
+    (λ c. kept-plain (ended (c .before)) .5)
+    (λ c. kept-plain (ended (c .before)) .6)
     returns-3
     enum-told
     sub-left
     loop-less
     loop-again
-    same-length-22
-    same-length-23
-    same-length-24
-    same-length-25
-    same-length-26
-    same-length-27
-    same-length-28
+    (λ c. c .before .loop .inv .2 .0)
+    (λ c. c .before .loop .inv .2 .1)
+    (λ c. c .before .loop .inv .2 .2)
+    (λ c. c .before .loop .inv .2 .3)
+    (λ c. c .before .loop .inv .2 .4)
+    (λ c. c .before .loop .inv .2 .5)
+    (λ c. c .before .loop .inv .2 .6)
     returns-4)
