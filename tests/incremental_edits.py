@@ -7,8 +7,9 @@ each changes bodies only, and a function is proved from its own body and its cal
 exactly the edited functions, each for a fact in its own proof; what rests on one of these is not counted. An edit whose function was only refused
 because its proof file does not fit the edited code fails.
 
-Where RT_CI_ENDED names a file, `rt ci` runs beside this, and the file will be there when that has ended: the crates below the expander are then taken
-from it as soon as it has proved them. Else they are proved here. Ends with 'N passed, M failed'; exit status 0 only if M is 0.
+Where RT_CI_ENDED names a file, `rt ci` runs beside this, and the file will be there when that has ended. Each crate is then taken as soon as `rt ci` has
+proved it, with the modules that were checked for that, so that only what the edits reach is checked here; should the toolchain not know these modules again,
+it checks all, and the edits take longer. Else all is proved here. Ends with 'N passed, M failed'; exit status 0 only if M is 0.
 """
 import glob
 import os
@@ -21,16 +22,16 @@ import time
 
 ROOT = os.path.dirname(os.path.dirname(os.path.abspath(__file__)))
 BELOW = ["rules", "ascii", "numerals", "expression", "matching", "answers"]
-CRATES = ["expander", "expression", "matching", "numerals", "ascii", "answers"]
+CRATES = ["answers", "ascii", "numerals", "matching", "expression", "expander"]
+SMALLEST = "answers"
 ERROR = re.compile(r"^(\S+/proofs/(\S+)\.antt:\d+:\d+): error: (.*)$", re.M)
 NO_PROOF = re.compile(r"^fn (\S+): no proof: .*`search` does not close", re.M)
 
 
-def crates_below_are_proved():
-    """Whether `rt ci`, which runs beside this, has proved the crates below the expander; it is given time for that."""
+def proved_by_rt_ci(crate):
+    """Whether `rt ci`, which runs beside this, has proved a crate; it is given time for that."""
     ended = os.environ.get("RT_CI_ENDED")
-    stamps = [os.path.join(ROOT, "target", "stamp", name) for name in BELOW]
-    while ended and not all(map(os.path.exists, stamps)):
+    while ended and not os.path.exists(os.path.join(ROOT, "target", "stamp", crate)):
         if os.path.exists(ended):
             return False
         time.sleep(1)
@@ -41,13 +42,23 @@ def copy_tree(to):
     lines = open(os.path.join(ROOT, "crates.txt")).read().splitlines()
     with open(os.path.join(to, "crates.txt"), "w") as f:
         f.write("\n".join(line for line in lines if line.split(":")[0] in BELOW + ["expander"]) + "\n")
+    os.makedirs(os.path.join(to, "target", "stamp"))
     for name in BELOW + ["expander"]:
         shutil.copytree(os.path.join(ROOT, "crates", name), os.path.join(to, "crates", name))
-    if crates_below_are_proved():
-        os.makedirs(os.path.join(to, "target", "stamp"))
-        for name in BELOW:
-            shutil.copytree(os.path.join(ROOT, "target", "rlib", name + ".rlib"), os.path.join(to, "target", "rlib", name + ".rlib"))
-            shutil.copy(os.path.join(ROOT, "target", "stamp", name), os.path.join(to, "target", "stamp", name))
+    for name in filter(proved_by_rt_ci, BELOW):
+        shutil.copytree(os.path.join(ROOT, "target", "rlib", name + ".rlib"), os.path.join(to, "target", "rlib", name + ".rlib"))
+        shutil.copy(os.path.join(ROOT, "target", "stamp", name), os.path.join(to, "target", "stamp", name))
+
+
+def copy_checked(crate, tree):
+    """What `rt ci` checked of a crate, put where an incremental check looks for it: in the one folder that such a check of the smallest crate made."""
+    if proved_by_rt_ci(crate):
+        smallest = os.path.join(tree, "target", "inc", SMALLEST)
+        if not os.path.exists(smallest):
+            check(tree, SMALLEST)
+        if crate != SMALLEST:
+            checked = os.path.join(ROOT, "target", "rlib", crate + ".rlib", "toolchain", "checked")
+            shutil.copytree(checked, os.path.join(tree, "target", "inc", crate, os.listdir(smallest)[0]))
 
 
 def check(tree, crate):
@@ -177,6 +188,7 @@ def try_round(edits, functions, tree, crate):
 
 def try_crate(crate, tree):
     """How many edits of a crate pass, and how many do not."""
+    copy_checked(crate, tree)
     functions, failed = {}, 0
     for edit in sorted(glob.glob(os.path.join(ROOT, "tests", "edits", crate, "*.edit"))):
         touched, fault = functions_of(edit, os.path.join(tree, "crates", crate))

@@ -181,7 +181,7 @@ enum-told : tie.Need-enum-told Inv-loop μ-loop
 enum-told c = search needs
 
 sub-left : tie.Need-sub-left Inv-loop μ-loop
-sub-left c = more (on c)
+sub-left c = omega (arith, more (on c))
 
 loop-less : tie.Need-loop-less Inv-loop μ-loop
 loop-less c = one-less (le-refl _) (more (on c))
