@@ -3,8 +3,8 @@
 
 `rt ci` pays a check of the whole crate for each edit of crates/NAME/must-fail. So the edits of these crates stand in tests/edits/CRATE, in the same
 form (a remark, then 'file:', 'old:' and 'new:' lines), and are tried here in a copy of the tree, as many at once as don't touch the same function:
-each changes bodies only, and a function is proved from its own body and its callees' contracts, so no edit can hide another. A check has to refuse
-exactly the edited functions, each for a fact in its own proof; what rests on one of these is not counted. An edit whose function was only refused
+each changes bodies only, and a function is proved from its own body and its callees' contracts, so no edit can hide another. A check has to refuse,
+for a fact in its own proof, a function of each edit, and none that no edit touches; what rests on one of these is not counted. An edit whose function was only refused
 because its proof file does not fit the edited code fails.
 
 Where RT_CI_ENDED names a file, `rt ci` runs beside this, and the file will be there when that has ended. Each crate is then taken as soon as `rt ci` has
