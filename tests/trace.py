@@ -1,8 +1,9 @@
 #!/usr/bin/env python3
 """trace.py [--helpers]: each name in the second column of the tables of docs/TRACE.md is declared in the file that the third column names.
 
-A name counts as declared in a .antt file by a signature, a constructor or a field, and in a .rt file by an item, a field or a variant.
-With --helpers it also lists, for a reader's eye, the definitions of crates/rules/specs that no row names.
+Declarations are, in a .antt file, names with a signature, records, their fields, data types and their constructors, at the top or in a module; in a .rt file
+functions, structs, enums, variants, fields and consts; in a .py file what is defined at its top; in a .md file the headings. A word in a comment or in a body is
+none, which is tried first on a small file of each kind. With --helpers it also lists, for a reader's eye, the definitions of crates/rules/specs that no row names.
 Ends with 'N passed, M failed'; exit status 0 only if M is 0.
 """
 import os
@@ -10,47 +11,107 @@ import re
 import sys
 
 ROOT = os.path.dirname(os.path.dirname(os.path.abspath(__file__)))
+PUB = r"(?:pub(?:\(\w+\))? )?"
 
 
-def declared(path):
-    text = re.sub(r"--.*|//.*", "", open(path, encoding="utf-8").read())
-    if path.endswith(".rt"):
-        return set(re.findall(r"[A-Za-z_]\w*", text))
-    names = set()
-    for found in re.finditer(r"^\s*((?:unfoldable |abbrev |pub |data |record )*)([^\s(:]+(?: [a-zA-Z]\w*)*)(?: \([^)]*\))* :", text, re.M):
-        names.update(found.group(2).split())
-    names.update(re.findall(r"(?:data|record) (\S+)", text))
+def declared_antt(text):
+    """Signatures stand at the left, or two columns inside a module (or its `where`), a mutual block, a record or a data type; a function's `where` stands further in."""
+    names, blocks = set(), []
+    for line in re.sub(r"--.*", "", text).split("\n"):
+        body = line.strip()
+        indent = len(line) - len(line.lstrip())
+        if not body:
+            continue
+        while blocks and blocks[-1] >= indent:
+            blocks.pop()
+        if indent != (blocks[-1] + 2 if blocks else 0):
+            continue
+        kind = re.match(r"(?:pub )?(?:record|data) (\S+)", body)
+        names.update(kind.groups() if kind else ())
+        signature = re.match(r"(?:unfoldable |abbrev )?(?:pub )?([^(){}=:;,]+) :(?: |$)", body)
+        names.update(signature.group(1).split() if signature and not kind else ())
+        if kind or re.match(r"module |(?:unfoldable )?mutual\b|where$", body):
+            blocks.append(indent)
     return names
+
+
+def declared_rt(text):
+    """As `rt fmt` lays it out: an item and a field begin a line, and a variant stands four columns in; the fields of a short variant follow it."""
+    text = re.sub(r"//.*", "", text)
+    names = set(re.findall(r"^ *%s(?:extern \"C\" )?(?:fn|struct|enum|const) (\w+)" % PUB, text, re.M))
+    for kind, body in re.findall(r"^%s(struct|enum) [^\n]*\{\n(.*?)^\}" % PUB, text, re.M | re.S):
+        names.update(re.findall(r"(?:^ +|[{,] )%s(\w+): " % PUB, body, re.M))
+        names.update(re.findall(r"^    (\w+)", body, re.M) if kind == "enum" else ())
+    return names
+
+
+def declared_py(text):
+    return set(re.findall(r"^(?:def |class |(?=\w+ = ))(\w+)", text, re.M))
+
+
+def declared_md(text):
+    return set(re.findall(r"^#+ (.*)$", text, re.M))
+
+
+DECLARED = {".antt": declared_antt, ".rt": declared_rt, ".py": declared_py, ".md": declared_md}
+
+# a file of each kind, and what it declares
+SAMPLES = {
+    ".antt": (
+        "-- said : ℕ\nuse a.{used}\nunfoldable pub f : ℕ\nf = let z : ℕ = g in z\n  where\n    inner : ℕ\n\npub record R (p : ℕ) : Type 0 where\n  pub field : ℕ\n\n"
+        "pub data D : Type 0 where\n  one two : D\n\nmodule _ (q : ℕ) where\n  pub law :\n      (t : ℕ) → ℕ\n  law t = helper t\n\n"
+        "module _\n    {r : ℕ}\n  where\n    pub deep : ℕ\n    deep = helper r\n      where\n        inmost : ℕ\n",
+        {"f", "R", "field", "D", "one", "two", "law", "deep"},
+    ),
+    ".rt": (
+        "// said\nuse rules::Used;\nconst LIMIT: usize = 3;\n\npub struct S {\n    pub field: u8,\n}\n\nenum E {\n    Case,\n    Held(Inner),\n    Placed {\n        end: usize,\n    },\n    Short { n: usize, m: Inner },\n}\n\n"
+        "impl S {\n    pub(crate) fn method(self, given: u8) -> u8 {\n        let local: u8 = helper(given);\n        local\n    }\n}\n",
+        {"LIMIT", "S", "field", "E", "Case", "Held", "Placed", "end", "Short", "n", "m", "method"},
+    ),
+    ".py": ("# said\nimport used\nTOP = 1\n\n\ndef f(given):\n    local = helper(given)\n", {"TOP", "f"}),
+    ".md": ("# A page\n\nsaid\n\n## A part of it\n", {"A page", "A part of it"}),
+}
+
+
+def read(path):
+    with open(path, encoding="utf-8") as f:
+        return f.read()
+
+
+def rows():
+    """Line number and cells of each row of the tables."""
+    for number, line in enumerate(read(os.path.join(ROOT, "docs", "TRACE.md")).split("\n"), 1):
+        cells = [c.strip() for c in re.split(r"(?<!\\)\|", line.strip().strip("|"))]
+        if line.startswith("|") and not cells[0].startswith("---") and cells[-1] != "where":
+            yield number, cells
 
 
 def main():
     passed, wrong, cited = 0, [], {}
-    with open(os.path.join(ROOT, "docs", "TRACE.md"), encoding="utf-8") as page:
-        for number, line in enumerate(page, 1):
-            cells = [c.strip() for c in re.split(r"(?<!\\)\|", line.strip().strip("|"))]
-            if not line.startswith("|") or len(cells) != 3 or cells[0].startswith("---") or cells[2] == "where":
-                continue
-            path = os.path.join(ROOT, cells[2])
-            names = re.findall(r"`([^`]+)`", cells[1])
-            if not os.path.exists(path) or not names:
-                wrong.append("line %d: no file %s, or no name in %s" % (number, cells[2], cells[1]))
-                continue
-            known = declared(path)
-            cited.setdefault(path, set()).update(names)
-            for name in names:
-                if name in known:
-                    passed += 1
-                else:
-                    wrong.append("line %d: `%s` is not declared in %s" % (number, name, cells[2]))
-    for line in wrong:
+    for kind, (text, wanted) in SAMPLES.items():
+        got = DECLARED[kind](text)
+        passed += got == wanted
+        wrong += ["sample %s declares %s, not %s" % (kind, sorted(wanted), sorted(got))] if got != wanted else []
+    for number, cells in rows():
+        path = os.path.join(ROOT, cells[-1])
+        names = re.findall(r"`([^`]+)`", cells[1])
+        if len(cells) != 3 or not names or not os.path.exists(path):
+            wrong.append("line %d: not three cells, no name in the second, or no file in the third" % number)
+            continue
+        known = DECLARED.get(os.path.splitext(path)[1], lambda text: ())(read(path))
+        cited.setdefault(path, set()).update(names)
+        passed += sum(name in known for name in names)
+        wrong += ["line %d: `%s` is not declared in %s" % (number, name, cells[2]) for name in names if name not in known]
+    for line in wrong + ([] if cited else ["docs/TRACE.md has no row"]):
         print(line)
-    for name in sorted(os.listdir(os.path.join(ROOT, "crates", "rules", "specs"))):
+    for name in sorted(os.listdir(os.path.join(ROOT, "crates", "rules", "specs"))) if "--helpers" in sys.argv[1:] else ():
         path = os.path.join(ROOT, "crates", "rules", "specs", name)
-        helpers = [n for n in re.findall(r"^unfoldable pub (\S+) :", open(path, encoding="utf-8").read(), re.M) if n not in cited.get(path, ())]
-        if helpers and "--helpers" in sys.argv[1:]:
+        helpers = [n for n in re.findall(r"^unfoldable pub (\S+) :", read(path), re.M) if n not in cited.get(path, ())]
+        if helpers:
             print("helpers in %s: %s" % (name, " ".join(helpers)))
-    print("%d passed, %d failed" % (passed, len(wrong)))
-    sys.exit(1 if wrong else 0)
+    failed = len(wrong) + (not cited)
+    print("%d passed, %d failed" % (passed, failed))
+    sys.exit(1 if failed else 0)
 
 
 main()
