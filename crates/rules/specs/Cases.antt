@@ -1,4 +1,4 @@
--- The worked texts that 01 marks P, every one and no other, and the four traps of the old box, as cases that are computed.
+-- The worked texts that 01 marks P, every one and no other text, and the four traps of the old box, as cases that are computed.
 use Prim.Native.Nat.{ℕ, suc}
 use Prim.Native.String.{String}
 use mathlib.Core.Bool.{Bool, true, false, _&&_}
@@ -74,6 +74,8 @@ case text setting expected = record { text = text; setting = setting; expected =
 unfoldable pub thirdText : String
 thirdText = "define(`n',`5')n"
 
+-- 01's cases in its order. Two lines go beyond it: of the third text 01 says that it needs 2 and 1 bytes in buffers 3 and 7, and not what
+-- is answered with one byte less there. Their steps and places (room 3 after 4 steps, room 7 after 6) were worked out by its rules
 unfoldable pub workedCases : List Case
 workedCases =
     case "" (budgeted 0) (answers 3 0 0 0 "")
