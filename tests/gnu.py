@@ -138,6 +138,7 @@ def store():
 
 # the examples of docs/GNU.md
 
+# a row of the page; `given` is what it says of 01, GNU and -G, or nothing where it can't be read
 Example = collections.namedtuple("Example", "line text given")
 
 
@@ -150,46 +151,45 @@ def plain(words):
 
 
 def examples():
-    """Each block of the page: its text and what it says of 01, GNU and -G."""
-    found = None
+    """Each indented line of the page. What it says of GNU holds of -G too, unless it says so."""
     with open(PAGE, encoding="utf-8") as f:
         for number, line in enumerate(f, 1):
-            row = re.fullmatch(r"    (text|01|GNU|-G) +(.*)\n", line)
-            if not row:
-                if found:
-                    yield found
-                found = None
-            elif row.group(1) == "text":
-                found = Example(number, plain(row.group(2)), {})
-            else:
-                found.given[row.group(1)] = row.group(2)
-    if found:
-        yield found
+            row = re.fullmatch(r"    (.*?) {2,}01 (.*?) {2,}GNU (.*?)(?: {2,}-G (.*))?\n", line)
+            if row:
+                yield Example(number, plain(row.group(1)), [says(words) for words in (row.group(2), row.group(3), row.group(4) or row.group(3))])
+            elif line.startswith("    "):
+                yield Example(number, b"", None)
 
 
 def says(words):
-    """What the page says of a run, as bytes of the output, whether there is a message, and the status; or the number of a refusal."""
+    """What the page says of a run: the bytes of its output and of its error text, whether there is a message, and the status; or the number of a refusal."""
     refusal = re.fullmatch(r"refused (\d+)", words)
     if refusal:
         return int(refusal.group(1))
-    result = re.fullmatch(r'"(.*)"(, message)?(, status (\d+))?', words)
+    result = re.fullmatch(r'"(.*?)"(?:, errors "(.*)")?(, message)?(?:, status (\d+))?', words)
     if result:
-        return plain(result.group(1)), bool(result.group(2)), int(result.group(4) or 0)
-    return plain(words), False, 0
+        return plain(result.group(1)), plain(result.group(2) or ""), bool(result.group(3)), int(result.group(4) or 0)
+    return plain(words), b"", False, 0
+
+
+def did(given):
+    """The same of what a program gave. A refusal that wrote something is none."""
+    if given.answer in (None, 0, 1) or given.output or given.errors:
+        return given.output, given.errors, given.told, given.code
+    return given.answer
 
 
 def check_example(example, live):
     name = "docs/GNU.md, line %d" % example.line
-    if "01" not in example.given or "GNU" not in example.given:
-        return check(name, False, "the example is not whole")
-    given = expand(example.text)
-    did = given.answer if given.answer not in (0, 1) else (given.output, False, given.code)
-    check(name, did == says(example.given["01"]), "expand gives %r" % (did,))
-    for judge, key in zip(JUDGES, ("GNU", "-G")) if live else ():
-        result = gnu(judge, example.text)
-        did = result.output, result.told, result.code
-        wanted = says(example.given.get(key, example.given["GNU"]))
-        check(name, did == wanted, "%s gives %r" % (" ".join(judge), did))
+    if not example.given:
+        return check(name, False, "no text with what 01 and GNU make of it")
+    ours, *theirs = example.given
+    check(name, any(ours != other for other in theirs), "the example shows no difference")
+    given = did(expand(example.text))
+    check(name, given == ours, "expand gives %r" % (given,))
+    for judge, wanted in zip(JUDGES, theirs) if live else ():
+        given = did(gnu(judge, example.text))
+        check(name, given == wanted, "%s gives %r" % (" ".join(judge), given))
 
 
 def main():
