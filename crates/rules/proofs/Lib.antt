@@ -4,6 +4,7 @@ pub mod Cases
 pub mod Reach
 pub mod Fuel
 pub mod Run
+pub mod Changes
 pub mod Room
 pub mod Contract
 pub mod Empty

@@ -20,6 +20,7 @@ pub mod Results
 pub mod Macros
 -- Steps, runs, room, and what a call promises
 pub mod Step
+pub mod Changes
 pub mod Run
 pub mod Room
 pub mod Contract

@@ -1,7 +1,7 @@
 -- The predefined macros: what a call of each with its arguments makes of the state, from which the call is already taken.
 use Prim.Native.Nat.{ℕ, suc, _-_}
 use mathlib.Core.Bool.{Bool, true, false, _&&_}
-use mathlib.Core.List.{List, [], _∷_, _++_}
+use mathlib.Core.List.{List, [], _∷_, _++_, map}
 use mathlib.Core.Option.{Option, none, some}
 use lib.Dec.{eqb}
 use lib.IntN.{pos}
@@ -12,8 +12,8 @@ use Rattle.rules.specs.Marks.{MarkTexts, newlineMark, defaultMarks, isMa
 use Rattle.rules.specs.Source.{ahead}
 use Rattle.rules.specs.Numerals.{number}
 use Rattle.rules.specs.Table.{Meaning, text, predefined, Table, pushed, defined, popped, undefined, inTurn}
-use Rattle.rules.specs.Streams.{movedInTurn, droppedStreams, diverted}
-use Rattle.rules.specs.State.{State, Outcome, next, stop, refused, withMarks, withTable, withStreams, withWrap, withErrors, taking, resulting}
+use Rattle.rules.specs.Streams.{moves, drops, diverts}
+use Rattle.rules.specs.State.{State, Outcome, next, stop, refused, withMarks, withTable, withWrap, withErrors, taking, resulting, changing}
 use Rattle.rules.specs.Arguments.{arg, numberOr, bounded, separated, substituted}
 use Rattle.rules.specs.Results.{Result, yields, fails, decrResult, incrResult, defnResult, divnumResult, evalResult, ifdefResult, ifelseResult, indexResult, lenResult, shiftResult, substrResult, translitResult}
 
@@ -53,7 +53,7 @@ unfoldable pub callDefn : List Bytes → State → Outcome
 callDefn args s = giving (defnResult (s .marks) (s .table) args) s
 
 unfoldable pub callDivert : List Bytes → State → Outcome
-callDivert args s = elim (numberOr (pos 0) 1 args) [ none ↦ refused noNumber | some n ↦ next (withStreams (diverted n (s .streams)) s) ]
+callDivert args s = elim (numberOr (pos 0) 1 args) [ none ↦ refused noNumber | some n ↦ next (changing (diverts n ∷ []) s) ]
 
 unfoldable pub callDivnum : List Bytes → State → Outcome
 callDivnum args s = giving (divnumResult (s .streams .current)) s
@@ -93,7 +93,7 @@ unfoldable pub callM4exit : List Bytes → State → Outcome
 callM4exit args s =
     elim (bounded 0 255 (numberOr (pos 0) 1 args)) [
       | none ↦ refused noNumber
-      | some code ↦ stop (exit code) (withWrap [] (withStreams (droppedStreams (s .streams)) s))
+      | some code ↦ stop (exit code) (withWrap [] (changing (drops ∷ []) s))
     ]
 
 -- 004: the first argument waits for the end
@@ -135,7 +135,7 @@ undivertNumbers (a ∷ more) = streamNumbers (a ∷ more)
 
 unfoldable pub callUndivert : List Bytes → State → Outcome
 callUndivert args s =
-    elim (undivertNumbers args) [ none ↦ refused noNumber | some ns ↦ next (withStreams (movedInTurn ns (s .streams)) s) ]
+    elim (undivertNumbers args) [ none ↦ refused noNumber | some ns ↦ next (changing (map moves ns) s) ]
 
 -- no macro has another number than 1 to 24
 unfoldable pub callNothing : List Bytes → State → Outcome

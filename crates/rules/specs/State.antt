@@ -8,7 +8,7 @@ use Rattle.rules.specs.Answers.{Ending, Fault}
 use Rattle.rules.specs.Marks.{MarkTexts, defaultMarks}
 use Rattle.rules.specs.Source.{Source, ahead, advance, pushBack, sourceOf}
 use Rattle.rules.specs.Table.{Table, freshTable}
-use Rattle.rules.specs.Streams.{Streams, placed, emptyStreams}
+use Rattle.rules.specs.Streams.{Streams, emptyStreams, Change, places, changedInTurn}
 
 -- an open call: its name, the arguments that are finished, the one being collected, how many parentheses are open in that, and
 -- whether a token of it was collected
@@ -93,6 +93,10 @@ taking n s = withSource (advance n (s .source)) s
 unfoldable pub resulting : Bytes → State → State
 resulting w s = withSource (pushBack w (s .source)) s
 
+-- the streams change; no step changes them otherwise
+unfoldable pub changing : List Change → State → State
+changing cs s = withStreams (changedInTurn cs (s .streams)) s
+
 -- bytes go to the current stream
 unfoldable pub emitting : Bytes → State → State
-emitting w s = withStreams (placed (s .streams .current) w (s .streams)) s
+emitting w s = changing (places w ∷ []) s

@@ -14,8 +14,8 @@ use Rattle.rules.specs.Answers.{Ending, done, Fault, unclosedQuote, uncl
 use Rattle.rules.specs.Source.{ahead}
 use Rattle.rules.specs.Tokens.{readToken}
 use Rattle.rules.specs.Table.{Meaning, meaningOf}
-use Rattle.rules.specs.Streams.{finishedStreams}
-use Rattle.rules.specs.State.{Call, State, Outcome, next, stop, refused, withCalls, withStreams, withWrap, taking, resulting, emitting}
+use Rattle.rules.specs.Streams.{finishes}
+use Rattle.rules.specs.State.{Call, State, Outcome, next, stop, refused, withCalls, withWrap, taking, resulting, changing, emitting}
 use Rattle.rules.specs.Macros.{called}
 
 -- 01 "At end: an open call is refused; else waiting wrap text of one byte or more .. becomes pending; else streams 1 to 9 are appended
@@ -23,7 +23,7 @@ use Rattle.rules.specs.Macros.{called}
 unfoldable pub atEnd : List Call → Bytes → State → Outcome
 atEnd (c ∷ cs) wrap s = refused unclosedCall
 atEnd [] (x ∷ xs) s = next (resulting (x ∷ xs) (withWrap [] s))
-atEnd [] [] s = stop done (withStreams (finishedStreams (s .streams)) s)
+atEnd [] [] s = stop done (changing (finishes ∷ []) s)
 
 -- bytes that the innermost call collects, and its depth of parentheses then
 unfoldable pub collecting : Bytes → ℕ → Call → Call

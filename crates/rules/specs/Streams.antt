@@ -1,5 +1,4 @@
--- The streams: 0 is the output, 1 to 9 wait for the end, any other discards. A step changes them in four ways only: it places bytes
--- in one, moves one to the current one, finishes (all to the output) or drops all that wait.
+-- The streams: 0 is the output, 1 to 9 wait for the end, any other discards. `Change` has the ways in which they change.
 use Prim.Native.Nat.{ℕ, zero, suc, _+_}
 use mathlib.Core.Bool.{Bool, true, false}
 use mathlib.Core.List.{List, [], _∷_, _++_}
@@ -65,6 +64,26 @@ droppedStreams s = record { output = s .output; waiting = nineEmpty; current = s
 
 unfoldable pub diverted : ℤ → Streams → Streams
 diverted n s = record { output = s .output; waiting = s .waiting; current = n }
+
+-- a change: bytes go behind those of the current stream; one of the streams 1 to 9 moves to the current one; these nine are appended
+-- to the output, or dropped; another stream becomes the current one
+pub data Change : Type 0 where
+  places : Bytes → Change
+  moves : ℕ → Change
+  finishes : Change
+  drops : Change
+  diverts : ℤ → Change
+
+unfoldable pub changed : Change → Streams → Streams
+changed (places w) s = placed (s .current) w s
+changed (moves n) s = moved n s
+changed finishes s = finishedStreams s
+changed drops s = droppedStreams s
+changed (diverts n) s = diverted n s
+
+unfoldable pub changedInTurn : List Change → Streams → Streams
+changedInTurn [] s = s
+changedInTurn (c ∷ cs) s = changedInTurn cs (changed c s)
 
 -- how many bytes texts have in all
 unfoldable pub totalLength : List Bytes → ℕ
