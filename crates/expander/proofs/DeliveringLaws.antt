@@ -16,8 +16,8 @@ use Rattle.rules.specs.Bytes.{Bytes}
 use Rattle.rules.specs.Answers.{deep, faultAnswer}
 use Rattle.rules.specs.Words.{signedValue}
 use Rattle.rules.specs.Source.{Source, ahead, advance}
-use Rattle.rules.specs.Streams.{Streams, placed, totalLength}
-use Rattle.rules.specs.State.{Call, State, Outcome, next, refused, withSource, withCalls, withStreams, taking, emitting}
+use Rattle.rules.specs.Streams.{Streams, placed, changed, changedInTurn, totalLength}
+use Rattle.rules.specs.State.{Call, State, Outcome, next, refused, withSource, withCalls, withStreams, taking, changing, emitting}
 use Rattle.rules.specs.Run.{Setting, lengths, callsCost, held, overfull}
 use Rattle.rules.specs.Step.{delivered, collecting, argumentCount, openCall, opened, nextArgument, commaMet}
 use Rattle.expander.specs.declared.calls.Calls.{Calls}
@@ -119,7 +119,7 @@ module _ {a : Setting} {b : Memory} {m : Machine} {s : State} (r : Means a b m s
   emit-over :
       (w : Bytes) (n full : ℕ) → length w ≡ n → full ≡ fullBuffer (m .sinks .current) n (length (b .streams) - m .sinks .waiting) (length (b .output) - m .sinks .output)
       → (full ≡ 0 → ⊥) → Overfull a (emitting w (withSource x s)) full
-  unfolding emitting withSource
+  unfolding emitting changing changedInTurn changed withSource
   emit-over w n full en ef nz = go (ℕ-discrete c 0)
     where
       c : ℕ
@@ -238,7 +238,7 @@ module _ {a : Setting} {b : Memory} {m : Machine} {s : State} (r : Means a b m s
           → SinksIn streams′ owners′ output′ k (placed (s .streams .current) (take n (drop start (lentAhead (b .text) (b .pending) (m .source)))) (s .streams))
           → SourceIn (b .text) (b .pending) p (advance width (s .source))
           → Gives a (next (emitting (take n (drop start (ahead (s .source)))) (taking width s))) (sinksAt streams′ owners′ output′ b) (turned went.On (sinksSet k (sourceSet p m)))
-      unfolding emitting taking withSource
+      unfolding emitting changing changedInTurn changed taking withSource
       token-emitted {p} start n width h q =
           let g : SinksIn streams′ owners′ output′ k (placed (s .streams .current) (take n (drop start (ahead (s .source)))) (s .streams)) =
           subst (λ (l : Bytes). SinksIn streams′ owners′ output′ k (placed (s .streams .current) (take n (drop start l)) (s .streams))) (ahead-lent (r .source)) h in
@@ -247,7 +247,7 @@ module _ {a : Setting} {b : Memory} {m : Machine} {s : State} (r : Means a b m s
       pub byte-emitted :
           (z : ℕ) → SinksIn streams′ owners′ output′ k (placed (s .streams .current) (z ∷ []) (s .streams))
           → Gives a (next (emitting (z ∷ []) s)) (sinksAt streams′ owners′ output′ b) (turned went.On (sinksSet k m))
-      unfolding emitting
+      unfolding emitting changing changedInTurn changed
       byte-emitted z h = gives-next (with-sinks r h e-streams e-owners e-output)
 
   -- ---- bytes that a call collects

@@ -20,10 +20,11 @@ use Rattle.rules.specs.Bytes.{Bytes}
 use Rattle.rules.specs.Words.{signedValue}
 use Rattle.rules.specs.Answers.{done, endingAnswer, noNumber, faultAnswer}
 use Rattle.rules.specs.Arguments.{numberOr}
-use Rattle.rules.specs.Streams.{Streams, totalLength, moved, movedInTurn, joined, finishedStreams, diverted}
+use Rattle.rules.specs.Streams.{Streams, totalLength, moved, movedInTurn, joined, finishedStreams, diverted, changed, changedInTurn}
 use Rattle.rules.specs.Macros.{callDivert, callUndivert}
-use Rattle.rules.specs.State.{State, next, stop, refused, withSource, withStreams}
+use Rattle.rules.specs.State.{State, next, stop, refused, withSource, withStreams, changing}
 use Rattle.rules.specs.Run.{Setting}
+use Rattle.rules.proofs.Changes.{moves-in-turn}
 use Rattle.expander.specs.declared.sinks.Sinks.{Sinks}
 use Rattle.expander.specs.declared.diverting.Moved.{Moved}
 use Rattle.expander.specs.declared.machine.Machine.{Machine}
@@ -327,7 +328,7 @@ module _ (args : List Bytes) (s : State) where
   divert-none e = rw (e, callDivert)
 
   divert-some : (z : ℤ) → numberOr (pos 0) 1 args ≡ some z → callDivert args s ≡ next (withStreams (diverted z (s .streams)) s)
-  unfolding callDivert
+  unfolding callDivert changing changedInTurn changed
   divert-some z e = rw (e, callDivert)
 
 module _ {a : Setting} {b : Memory} {m : Machine} {s : State} (r : Means a b m s) (args : List Bytes) where
@@ -359,8 +360,8 @@ module _ (args : List Bytes) (s : State) where
   undivert-none e = rw (undivert-unnamed args e, callUndivert)
 
   undivert-some : allNamed args ≡ true → callUndivert args s ≡ next (withStreams (movedInTurn (turns args) (s .streams)) s)
-  unfolding callUndivert
-  undivert-some e = rw (undivert-named args e, callUndivert)
+  unfolding callUndivert changing
+  undivert-some e = rw (undivert-named args e, callUndivert) (ap (λ (u : Streams). next (withStreams u s)) (moves-in-turn (turns args) (s .streams)))
 
 module _ {a : Setting} {b : Memory} {m : Machine} {s : State} (r : Means a b m s) (args : List Bytes) where
   pub undivert-bad : {b′ : Memory} → allNamed args ≡ false → Gives a (callUndivert args s) b′ (turned (went.Refused answer.Number) m)

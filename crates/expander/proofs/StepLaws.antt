@@ -18,9 +18,9 @@ use Rattle.rules.specs.Bytes.{Bytes, isBlank}
 use Rattle.rules.specs.Answers.{done, unclosedQuote, unclosedComment, unclosedCall, faultAnswer}
 use Rattle.rules.specs.Marks.{MarkTexts, markTexts}
 use Rattle.rules.specs.Source.{Source, ahead, pushBack}
-use Rattle.rules.specs.Streams.{finishedStreams}
+use Rattle.rules.specs.Streams.{finishedStreams, changed, changedInTurn}
 use Rattle.rules.specs.Table.{Meaning, Definition}
-use Rattle.rules.specs.State.{Call, State, Outcome, next, stop, refused, withCalls, withSource, withStreams, withWrap, taking, resulting, emitting}
+use Rattle.rules.specs.State.{Call, State, Outcome, next, stop, refused, withCalls, withSource, withStreams, withWrap, taking, resulting, changing, emitting}
 use Rattle.rules.specs.Macros.{called}
 use Rattle.rules.specs.Tokens.{readToken}
 use Rattle.rules.specs.Run.{Setting, callsCost}
@@ -260,7 +260,7 @@ end-wrapped [] s h = absurd (omega arith)
 end-wrapped (x ∷ xs) s h = refl
 
 end-done : (w : Bytes) (s : State) → length w ≡ 0 → atEnd [] w s ≡ stop done (withStreams (finishedStreams (s .streams)) s)
-unfolding atEnd
+unfolding atEnd changing changedInTurn changed
 end-done [] s e = refl
 end-done (x ∷ xs) s e = absurd (omega arith)
 

@@ -16,8 +16,8 @@ use Rattle.rules.specs.Bytes.{Bytes}
 use Rattle.rules.specs.Macros.{callDnl, callErrprint, callM4exit, callM4wrap}
 use Rattle.rules.specs.Run.{Setting}
 use Rattle.rules.specs.Source.{Source, ahead, advance}
-use Rattle.rules.specs.State.{State, next, withWrap, withErrors, taking}
-use Rattle.rules.specs.Streams.{droppedStreams}
+use Rattle.rules.specs.State.{State, next, withWrap, withErrors, taking, changing}
+use Rattle.rules.specs.Streams.{droppedStreams, changed, changedInTurn}
 use Rattle.expander.specs.declared.machine.Machine.{Machine}
 use Rattle.expander.specs.declared.machine.Turn.{Turn}
 use Rattle.expander.specs.declared.machine.Went.the-variants as went
@@ -110,7 +110,7 @@ module _
           {m′ m″ : Machine} (code : ℕ) → c ≡ natural.Number code → m′ ≡ sinksSet (record { current = m .sinks .current; waiting = 0; output = m .sinks .output }) m
           → m″ ≡ wrapSet 0 m′ → t ≡ turned (went.Ended (answer.Exit code)) m″
           → Gives a (callM4exit args s) (memory text pending calls callEnds stack definitions tableEnds streams owners wrap errors output) t
-      unfolding callM4exit endingAnswer droppedStreams
+      unfolding callM4exit changing changedInTurn changed endingAnswer droppedStreams
       exited code h j k f =
           let q : bounded 0 255 (numberOr (pos 0) 1 args) ≡ some code = reads-some e code h in
           let z : SinksIn streams owners output (record { current = m .sinks .current; waiting = 0; output = m .sinks .output }) (droppedStreams (s .streams)) =

@@ -8,7 +8,7 @@ use native.Mathlib.Numerals.{unary-clauses}
 use borrow.Author.Tests.{eqb-true}
 use lib.Dec.{eqb, leb}
 use lib.IntN.{ℤ, pos}
-use lib.ListN.{length, take, drop, getD}
+use lib.ListN.{length, take, getD}
 use Rattle.rules.specs.declared.Token.{Token}
 use Rattle.rules.specs.declared.Token.the-variants as token
 use Rattle.rules.specs.declared.Reading.{Reading}
@@ -18,14 +18,21 @@ use Rattle.rules.specs.Answers.{Ending, exit, Fault, noNumber, gone}
 use Rattle.rules.specs.Marks.{MarkTexts, isMark, isEndMark}
 use Rattle.rules.specs.Source.{ahead}
 use Rattle.rules.specs.Tokens.{readToken}
-use Rattle.rules.specs.Table.{Meaning, text, predefined, Table, meaningOf, defined, pushed}
-use Rattle.rules.specs.Streams.{Streams, Change, moves, drops, diverts, changedInTurn}
+use Rattle.rules.specs.Table.{Meaning, text, predefined, Table, meaningOf}
+use Rattle.rules.specs.Streams.{Streams, moved, movedInTurn, Change, moves, drops, diverts, changed, changedInTurn}
 use Rattle.rules.specs.State.{Call, State, Outcome, next, stop, refused, withSource, withMarks, withCalls, withTable, withStreams, withWrap, withErrors, taking, resulting, changing, emitting}
 use Rattle.rules.specs.Arguments.{arg, numberOr, bounded}
 use Rattle.rules.specs.Results.{Result, yields, fails}
 use Rattle.rules.specs.Macros.{giving, marking, callChangecom, callChangequote, callDecr, naming, callDefine, callDefn, callDivert, callDivnum, callDnl, callErrprint, callEval, callIfdef, callIfelse, callIncr, callIndex, callLen, callM4exit, callM4wrap, callPopdef, callPushdef, callShift, callSubstr, callTranslit, callUndefine, undivertNumbers, callUndivert, callNothing, macros, perform, performed, called}
-use Rattle.rules.specs.Step.{atEnd, collecting, delivered, argumentCount, opened, named, closed, commaMet, rightMet, commaAt, otherMet, inCall, singleByte, act, reacted, step}
+use Rattle.rules.specs.Step.{atEnd, delivered, argumentCount, opened, named, closed, commaMet, rightMet, commaAt, otherMet, inCall, singleByte, act, reacted, step}
 use Rattle.rules.specs.Changes.{Calling, bareCall, closedCall, rightCall, byteCall, tokenCall, readCall, callOf, divertChanges, exitChanges, undivertChanges, noChanges, macroChanges, callChanges, ownChanges, nameChanges, endChanges, tokenChanges, readChanges, callOr, changesOf, Makes}
+
+-- ---- streams that are moved
+
+pub moves-in-turn : (ns : List ℕ) (u : Streams) → changedInTurn (map moves ns) u ≡ movedInTurn ns u
+unfolding changed changedInTurn movedInTurn
+moves-in-turn [] u = refl
+moves-in-turn (n ∷ ns) u = moves-in-turn ns (moved n u)
 
 -- ---- outcomes
 

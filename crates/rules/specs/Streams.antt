@@ -46,6 +46,7 @@ emptied (suc i) s = record { output = s .output; waiting = set (s .waiting) i []
 unfoldable pub moved : ℕ → Streams → Streams
 moved n s = elim (isCurrent n (s .current)) [ true ↦ s | false ↦ placed (s .current) (waitingIn n s) (emptied n s) ]
 
+-- several in turn, which is what their `moves` come to
 unfoldable pub movedInTurn : List ℕ → Streams → Streams
 movedInTurn [] s = s
 movedInTurn (n ∷ ns) s = movedInTurn ns (moved n s)
