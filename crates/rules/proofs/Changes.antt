@@ -51,6 +51,13 @@ module _ {cs : List Change} {u : Streams} where
 refuses : {u : Streams} (f : Fault) → Makes [] u (refused f)
 refuses f = record { on = λ v e. cc; ended = λ x v e. cc; nothing = λ g e. refl }
 
+-- a number that a macro needs
+needed :
+    {A : Type 0} {u : Streams} {cs : A → List Change} {f : A → Outcome} (o : Option A) → ((x : A) → Makes (cs x) u (f x))
+    → Makes (elim o [ none ↦ [] | some x ↦ cs x ]) u (elim o [ none ↦ refused noNumber | some x ↦ f x ])
+needed none h = refuses noNumber
+needed (some x) h = h x
+
 -- ---- the macros
 
 -- a macro makes these changes
@@ -84,32 +91,15 @@ changequote-makes (b ∷ e ∷ more) s = marking-makes _ b e s
 
 divert-makes : Changing callDivert divertChanges
 unfolding callDivert divertChanges changing withStreams
-divert-makes args s = go (numberOr (pos 0) 1 args)
-  where
-    go : (o : Option ℤ)
-        → Makes (elim o [ none ↦ [] | some n ↦ diverts n ∷ [] ]) (s .streams)
-        (elim o [ none ↦ refused noNumber | some n ↦ next (changing (diverts n ∷ []) s) ])
-    go none = refuses noNumber
-    go (some n) = goes-on _ refl
+divert-makes args s = needed (numberOr (pos 0) 1 args) (λ n. goes-on _ refl)
 
 exit-makes : Changing callM4exit exitChanges
 unfolding callM4exit exitChanges changing withStreams withWrap
-exit-makes args s = go (bounded 0 255 (numberOr (pos 0) 1 args))
-  where
-    go : (o : Option ℕ)
-        → Makes (elim o [ none ↦ [] | some code ↦ drops ∷ [] ]) (s .streams)
-        (elim o [ none ↦ refused noNumber | some code ↦ stop (exit code) (withWrap [] (changing (drops ∷ []) s)) ])
-    go none = refuses noNumber
-    go (some code) = ends _ _ refl
+exit-makes args s = needed (bounded 0 255 (numberOr (pos 0) 1 args)) (λ code. ends _ _ refl)
 
 undivert-makes : Changing callUndivert undivertChanges
 unfolding callUndivert undivertChanges changing withStreams
-undivert-makes args s = go (undivertNumbers args)
-  where
-    go : (o : Option (List ℕ))
-        → Makes (elim o [ none ↦ [] | some ns ↦ map moves ns ]) (s .streams) (elim o [ none ↦ refused noNumber | some ns ↦ next (changing (map moves ns) s) ])
-    go none = refuses noNumber
-    go (some ns) = goes-on _ refl
+undivert-makes args s = needed (undivertNumbers args) (λ ns. goes-on _ refl)
 
 -- macros beside their changes
 abbrev AllChanging : List (List Bytes → State → Outcome) → List (List Bytes → List Change) → Type 0
