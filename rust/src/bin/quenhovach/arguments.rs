@@ -2,9 +2,7 @@
 
 use quenhovach::{Buffer, BUDGET, LONGEST};
 use std::ffi::{OsStr, OsString};
-use std::fs;
 use std::os::unix::ffi::OsStrExt;
-use std::os::unix::fs::MetadataExt;
 use std::path::{Path, PathBuf};
 
 /// What the command is asked to do.
@@ -60,7 +58,7 @@ pub fn parse(arguments: impl Iterator<Item = OsString>) -> Result<Request, Strin
     let mut options_end = false;
     while let Some(argument) = arguments.next() {
         if options_end || argument == "-" || !argument.as_bytes().starts_with(b"-") {
-            set_once("FILE", &mut given.input, argument)?;
+            given.take_file(argument)?;
         } else if argument == "--" {
             options_end = true;
         } else if argument == "-h" || argument == "--help" {
@@ -68,7 +66,7 @@ pub fn parse(arguments: impl Iterator<Item = OsString>) -> Result<Request, Strin
         } else if argument == "-V" || argument == "--version" {
             return Ok(Request::Version);
         } else {
-            let (name, attached) = parted(&argument);
+            let (name, attached) = parted(&argument)?;
             given.take(name, || {
                 attached.map(OsStr::to_owned).or_else(|| arguments.next())
             })?;
@@ -78,20 +76,43 @@ pub fn parse(arguments: impl Iterator<Item = OsString>) -> Result<Request, Strin
 }
 
 /// The option's name, and the value that is attached to it: `--name=value` or `-ovalue`.
-fn parted(argument: &OsStr) -> (&OsStr, Option<&OsStr>) {
+fn parted(argument: &OsStr) -> Result<(&OsStr, Option<&OsStr>), String> {
     let bytes = argument.as_bytes();
-    let (name, value) = if !bytes.starts_with(b"--") {
+    let equals = bytes.iter().position(|&b| b == b'=');
+    let (word, value) = match equals {
+        Some(n) => (&bytes[..n], Some(&bytes[n + 1..])),
+        None => (bytes, None),
+    };
+    let (name, value) = if bytes.starts_with(b"--") {
+        (word, value)
+    } else if is_long(&[b"-", word].concat()) {
+        // Not -h with `elp` behind it, and no sheet called `utput`.
+        let word = String::from_utf8_lossy(word);
+        return Err(format!("unknown option {word}; did you mean -{word}?"));
+    } else {
         let (name, value) = bytes.split_at(2.min(bytes.len()));
         (name, (!value.is_empty()).then_some(value))
-    } else if let Some(equals) = bytes.iter().position(|&b| b == b'=') {
-        (&bytes[..equals], Some(&bytes[equals + 1..]))
-    } else {
-        (bytes, None)
     };
-    (OsStr::from_bytes(name), value.map(OsStr::from_bytes))
+    Ok((OsStr::from_bytes(name), value.map(OsStr::from_bytes)))
+}
+
+/// Whether a word is an option that begins with two dashes.
+fn is_long(word: &[u8]) -> bool {
+    let others = ["--help", "--version", "--report", "--budget"];
+    let all = Buffer::ALL.map(option_of).into_iter().chain(others);
+    all.into_iter().any(|option| option.as_bytes() == word)
 }
 
 impl Given {
+    fn take_file(&mut self, name: OsString) -> Result<(), String> {
+        if self.input.is_some() {
+            let second = name.to_string_lossy();
+            return Err(format!("one template only; '{second}' is a second one"));
+        }
+        self.input = Some(name);
+        Ok(())
+    }
+
     /// Takes one option, whose value is asked for if the option exists.
     fn take(
         &mut self,
@@ -99,20 +120,26 @@ impl Given {
         value: impl FnOnce() -> Option<OsString>,
     ) -> Result<(), String> {
         let name = name.to_string_lossy();
-        let missing = || format!("{name}: its value is missing");
+        let value = || match value() {
+            Some(value) if !value.is_empty() => Ok(value),
+            _ => Err(format!("{name}: its value is missing")),
+        };
         let length = Buffer::ALL.into_iter().find(|&b| name == option_of(b));
         match (&*name, length) {
-            ("-o", _) => set_once(&name, &mut self.sheet, value().ok_or_else(missing)?),
-            ("--report", _) => set_once(&name, &mut self.report, value().ok_or_else(missing)?),
+            ("-o", _) => set_once(&name, &mut self.sheet, value()?),
+            ("--report", _) => set_once(&name, &mut self.report, value()?),
             ("--budget", _) => {
-                let steps = number(&name, &value().ok_or_else(missing)?, u32::MAX)?;
+                let steps = number(&name, &value()?, u32::MAX)?;
                 set_once(&name, &mut self.budget, steps)
             }
             (_, Some(buffer)) => {
-                let bytes = number(&name, &value().ok_or_else(missing)?, LONGEST as u32)?;
+                let bytes = number(&name, &value()?, LONGEST as u32)?;
                 set_once(&name, &mut self.lengths[buffer as usize - 1], bytes)
             }
-            _ => Err(format!("{name}: there is no such option")),
+            ("-h" | "-V" | "--help" | "--version", _) => {
+                Err(format!("{name} takes nothing behind it"))
+            }
+            _ => Err(format!("unknown option {name}")),
         }
     }
 
@@ -128,7 +155,6 @@ impl Given {
         if options.report.as_deref() == Some(Path::new("-")) {
             return Err("--report: it takes a file's name, not -".to_string());
         }
-        refuse_one_file_twice(&options)?;
         Ok(options)
     }
 }
@@ -156,32 +182,6 @@ fn number(name: &str, value: &OsStr, most: u32) -> Result<u32, String> {
             "--output: it takes the sheet's length, 0 to {most}; the sheet's file is given with -o"
         )),
         _ => Err(format!("{name}: it takes a number, 0 to {most}")),
-    }
-}
-
-/// The template, the sheet and the report are three files; one of them must not be written over another.
-fn refuse_one_file_twice(options: &Options) -> Result<(), String> {
-    let pairs = [
-        ("FILE and -o", &options.input, &options.sheet),
-        ("FILE and --report", &options.input, &options.report),
-        ("-o and --report", &options.sheet, &options.report),
-    ];
-    for (names, one, other) in pairs {
-        if let (Some(one), Some(other)) = (one, other) {
-            if same_file(one, other) {
-                return Err(format!("{names}: they name the same file"));
-            }
-        }
-    }
-    Ok(())
-}
-
-/// Whether two names stand for one regular file, or for one that isn't there yet.
-fn same_file(one: &Path, other: &Path) -> bool {
-    match (fs::metadata(one), fs::metadata(other)) {
-        (Ok(a), Ok(b)) => a.is_file() && (a.dev(), a.ino()) == (b.dev(), b.ino()),
-        (Err(_), Err(_)) => one == other,
-        _ => false,
     }
 }
 
@@ -260,10 +260,36 @@ mod tests {
             &["--output", "sheet"],
             &["--wrap", "1", "--wrap", "1"],
             &["--report", "-"],
-            &["-o", "no such file", "--report", "no such file"],
-            &["Cargo.toml", "-o", "./Cargo.toml"],
+            &["-o", ""],
+            &["--report="],
         ] {
             assert!(parsed(arguments).is_err(), "{arguments:?}");
+        }
+    }
+
+    #[test]
+    fn bad_usage_is_named() {
+        for (arguments, complaint) in [
+            (
+                ["-help"].as_slice(),
+                "unknown option -help; did you mean --help?",
+            ),
+            (
+                &["-budget=3"],
+                "unknown option -budget; did you mean --budget?",
+            ),
+            (
+                &["-output", "s"],
+                "unknown option -output; did you mean --output?",
+            ),
+            (&["-Vx"], "-V takes nothing behind it"),
+            (&["--help=x"], "--help takes nothing behind it"),
+            (&["-xy"], "unknown option -x"),
+            (&["--helper"], "unknown option --helper"),
+            (&["a", "--", "b"], "one template only; 'b' is a second one"),
+            (&["-o"], "-o: its value is missing"),
+        ] {
+            assert_eq!(parsed(arguments), Err(complaint.to_string()));
         }
     }
 

@@ -1,17 +1,21 @@
 //! The command `quenhovach`: a template in, a settings sheet out, whole or not at all. See docs/quenhovach.1.
 
 mod arguments;
+mod identity;
 mod place;
 mod reading;
 mod refusal;
+mod signals;
 mod standard;
 mod writing;
 
 use arguments::{Options, Request};
-use quenhovach::{expand, Answer, Buffers, Report};
+use identity::{Endpoint, Files};
+use quenhovach::{expand, Answer, Buffers};
 use std::fmt::Display;
 use std::io::Write;
 use std::process::ExitCode;
+use writing::Staged;
 
 /// Exit status of bad usage.
 const USAGE: u8 = 2;
@@ -24,21 +28,30 @@ const HELP: &str = include_str!("help.txt");
 const VERSION: &str = concat!("quenhovach ", env!("CARGO_PKG_VERSION"), "\n");
 
 fn main() -> ExitCode {
+    signals::prepare();
     let status = match arguments::parse(std::env::args_os().skip(1)) {
         Ok(Request::Help) => ended(show(HELP)),
         Ok(Request::Version) => ended(show(VERSION)),
-        Ok(Request::Run(options)) => ended(run(&options)),
-        Err(complaint) => {
-            complain(format_args!("{complaint}\nTry 'quenhovach --help'."));
-            USAGE
-        }
+        Ok(Request::Run(options)) => match identity::tell_apart(&options) {
+            Ok(files) => ended(run(&options, files)),
+            Err(complaint) => misused(complaint),
+        },
+        Err(complaint) => misused(Some(complaint)),
     };
     ExitCode::from(status)
 }
 
+/// The exit status of bad usage; what may be said of it is told first.
+fn misused(complaint: Option<String>) -> u8 {
+    if let Some(complaint) = complaint {
+        complain(format_args!("{complaint}\nTry 'quenhovach --help'."));
+    }
+    USAGE
+}
+
 /// A message on standard error. If that fails there is nowhere to say so; the exit status tells.
 fn complain(message: impl Display) {
-    if let Ok(mut errors) = standard::errors() {
+    if let Ok(mut errors) = standard::file(standard::ERRORS) {
         let _ = errors.write_all(format!("quenhovach: {message}\n").as_bytes());
     }
 }
@@ -53,27 +66,25 @@ fn ended(outcome: Result<u8, String>) -> u8 {
 
 /// A text of the command's own on standard output.
 fn show(text: &str) -> Result<u8, String> {
-    writing::stage_sheet(None, text.as_bytes())?.commit()?;
+    let output = Endpoint::of(None, standard::OUTPUT);
+    writing::stage(output, text.as_bytes())?.commit()?;
     Ok(0)
 }
 
-/// Expands what the options name; the exit status, or which input or output failed.
-fn run(options: &Options) -> Result<u8, String> {
-    writing::empty_report(options.report.as_deref())?;
-    let text = reading::read(options.input.as_deref())?;
+/// Expands the template; the exit status, or which input or output failed.
+fn run(options: &Options, files: Files) -> Result<u8, String> {
+    writing::empty_report(files.report.as_ref())?;
+    let text = reading::read(files.template)?;
     let mut lent = options.lengths.map(|length| vec![0; length]);
     let report = expand(&text, buffers(&mut lent), options.budget);
     if report.answer.is_refusal() {
         complain(refusal::explain(options, &report, &text));
-        writing::stage_report(options.report.as_deref(), &report)?.commit()?;
+        writing::stage_report(files.report, &report)?.commit()?;
     } else {
         let [.., errors, output] = &lent;
-        deliver(
-            options,
-            &report,
-            &output[..report.output],
-            &errors[..report.errors],
-        )?;
+        let sheet = writing::stage(files.sheet, &output[..report.output])?;
+        let numbers = writing::stage_report(files.report, &report)?;
+        deliver(sheet, &errors[..report.errors], numbers)?;
     }
     Ok(status(report.answer))
 }
@@ -101,11 +112,9 @@ fn buffers(lent: &mut [Vec<u8>; 7]) -> Buffers<'_> {
     }
 }
 
-/// Sheet, error text and report. All that can be written beforehand is, so that what fails fails before the sheet is in its
-/// place; the report comes last and never stands without its sheet.
-fn deliver(options: &Options, report: &Report, output: &[u8], errors: &[u8]) -> Result<(), String> {
-    let sheet = writing::stage_sheet(options.sheet.as_deref(), output)?;
-    let report = writing::stage_report(options.report.as_deref(), report)?;
+/// Error text, sheet and report. The two files are whole by now, so that what fails fails before the sheet is in its place; the
+/// report comes last and never stands without its sheet.
+fn deliver(sheet: Staged, errors: &[u8], report: Staged) -> Result<(), String> {
     writing::write_errors(errors)?;
     sheet.commit()?;
     report.commit()

@@ -1,8 +1,9 @@
 //! What the command says about a refusal: what happened, where, and what to do about it.
 
 use crate::arguments::{option_of, Options};
+use crate::identity;
 use crate::place::spot;
-use crate::reading;
+use crate::standard::INPUT;
 use quenhovach::{Answer, Buffer, Opened, Report, LONGEST};
 
 /// Columns of a line of the message at most.
@@ -14,7 +15,7 @@ pub fn explain(options: &Options, report: &Report, text: &[u8]) -> String {
     let place = match answer {
         Answer::Lend => format!(
             "{}: refused: {answer}",
-            reading::name(options.input.as_deref())
+            identity::name(options.input.as_deref(), INPUT)
         ),
         _ => where_it_is(options, report, text),
     };
@@ -44,7 +45,7 @@ fn where_it_is(options: &Options, report: &Report, text: &[u8]) -> String {
     let margin = " ".repeat(number.len());
     format!(
         "{}:{}:{}: refused: {}\n {number} | {}{}\n {margin} | {}^\n{}",
-        reading::name(options.input.as_deref()),
+        identity::name(options.input.as_deref(), INPUT),
         spot.line,
         spot.column,
         report.answer,

@@ -1,8 +1,11 @@
 //! Sheet, error text and report, written whole or not at all.
 //!
 //! A regular file is written beside its place first (`stage`) and then renamed (`commit`). A link is followed: the file that
-//! it points to is replaced. A device or a pipe can't be renamed over; it is opened and written at the commit.
+//! it points to is replaced. What is written through a descriptor, and a device or a pipe, can't be renamed over; it is written
+//! at the commit.
 
+use crate::identity::{self, Endpoint, Way};
+use crate::signals::{self, Watch};
 use crate::standard;
 use quenhovach::Report;
 use std::fs::{self, File, Metadata, OpenOptions, Permissions};
@@ -14,15 +17,16 @@ use std::path::{Path, PathBuf};
 pub struct Staged {
     /// What messages call it.
     name: String,
-    way: Way,
+    step: Step,
 }
 
-enum Way {
-    /// Nothing was asked for.
-    Nowhere,
-    /// The text goes to standard output.
-    Standard(Vec<u8>),
-    /// The text goes to a device or a pipe.
+/// What is left to do.
+enum Step {
+    /// Nothing; no text was asked for.
+    Nothing,
+    /// The text is written through a descriptor.
+    Open(io::Result<File>, Vec<u8>),
+    /// The text is written to a device or a pipe.
     Direct(PathBuf, Vec<u8>),
     /// The text is in a file that becomes this one.
     Rename(Temporary, PathBuf),
@@ -31,58 +35,59 @@ enum Way {
 impl Staged {
     /// Puts the text in its place.
     pub fn commit(self) -> Result<(), String> {
-        let done = match self.way {
-            Way::Nowhere => Ok(()),
-            Way::Standard(text) => write_standard(&text),
-            Way::Direct(path, text) => write_direct(&path, &text),
-            Way::Rename(temporary, path) => temporary.rename(&path),
+        let done = match self.step {
+            Step::Nothing => Ok(()),
+            Step::Open(file, text) => write_through(file, &text),
+            Step::Direct(path, text) => write_direct(&path, &text),
+            Step::Rename(temporary, path) => temporary.rename(&path),
         };
         done.map_err(|error| unwritten(&self.name, &error))
     }
 }
 
-/// The sheet, for a file or for standard output.
-pub fn stage_sheet(path: Option<&Path>, text: &[u8]) -> Result<Staged, String> {
-    match path {
-        Some(path) => stage(path, text),
-        None => Ok(Staged {
-            name: "standard output".to_string(),
-            way: Way::Standard(text.to_vec()),
-        }),
+/// A text, made ready for where it goes.
+pub fn stage(to: Endpoint, text: &[u8]) -> Result<Staged, String> {
+    let name = to.name;
+    let step = match to.way {
+        Way::Open(_, file) => Ok(Step::Open(file, text.to_vec())),
+        Way::Path(path) => step_to(&path, text),
+    };
+    match step {
+        Ok(step) => Ok(Staged { name, step }),
+        Err(error) => Err(unwritten(&name, &error)),
     }
 }
 
 /// The six numbers on one line, if a report was asked for.
-pub fn stage_report(path: Option<&Path>, report: &Report) -> Result<Staged, String> {
+pub fn stage_report(to: Option<Endpoint>, report: &Report) -> Result<Staged, String> {
     let line = report.numbers().map(|n| n.to_string()).join(" ") + "\n";
-    match path {
-        Some(path) => stage(path, line.as_bytes()),
+    match to {
+        Some(to) => stage(to, line.as_bytes()),
         None => Ok(Staged {
             name: String::new(),
-            way: Way::Nowhere,
+            step: Step::Nothing,
         }),
     }
 }
 
-/// Empties an old report, so that it can't be taken for this run's if this run fails.
-pub fn empty_report(path: Option<&Path>) -> Result<(), String> {
-    let Some(path) = path else { return Ok(()) };
-    if !fs::metadata(path).is_ok_and(|found| found.is_file()) {
+/// Empties an old report, so that it can't be taken for this run's if this run fails. What others wrote through the descriptor
+/// of a report is not ours to empty.
+pub fn empty_report(report: Option<&Endpoint>) -> Result<(), String> {
+    let Some(Endpoint { name, way }) = report else {
         return Ok(());
+    };
+    match way {
+        Way::Path(path) if fs::metadata(path).is_ok_and(|found| found.is_file()) => {
+            let emptied = OpenOptions::new().write(true).truncate(true).open(path);
+            emptied.map(drop).map_err(|error| unwritten(name, &error))
+        }
+        _ => Ok(()),
     }
-    let emptied = OpenOptions::new().write(true).truncate(true).open(path);
-    emptied
-        .map(drop)
-        .map_err(|error| unwritten(&path.display().to_string(), &error))
 }
 
 /// The error text, on standard error.
 pub fn write_errors(text: &[u8]) -> Result<(), String> {
-    if text.is_empty() {
-        return Ok(());
-    }
-    standard::errors()
-        .and_then(|mut file| file.write_all(text))
+    write_through(standard::file(standard::ERRORS), text)
         .map_err(|error| unwritten("standard error", &error))
 }
 
@@ -90,46 +95,37 @@ fn unwritten(name: &str, error: &io::Error) -> String {
     format!("{name}: could not be written: {error}")
 }
 
-fn stage(path: &Path, text: &[u8]) -> Result<Staged, String> {
-    let name = path.display().to_string();
-    match way_to(path, text) {
-        Ok(way) => Ok(Staged { name, way }),
-        Err(error) => Err(unwritten(&name, &error)),
-    }
-}
-
-fn way_to(path: &Path, text: &[u8]) -> io::Result<Way> {
+fn step_to(path: &Path, text: &[u8]) -> io::Result<Step> {
     match fs::metadata(path) {
         Ok(found) if found.is_file() => {
             // A write-protected file is not replaced; opening it shows that, and changes nothing.
             OpenOptions::new().write(true).open(path)?;
             let path = fs::canonicalize(path)?;
-            Ok(Way::Rename(
+            Ok(Step::Rename(
                 Temporary::beside(&path, text, Some(&found))?,
                 path,
             ))
         }
         Ok(found) if found.is_dir() => Err(ErrorKind::IsADirectory.into()),
-        Ok(_) => Ok(Way::Direct(path.to_owned(), text.to_vec())),
+        Ok(_) => Ok(Step::Direct(path.to_owned(), text.to_vec())),
         Err(error) if error.kind() == ErrorKind::NotFound => {
             if fs::symlink_metadata(path).is_ok() {
                 return Err(io::Error::other("it is a link to a file that isn't there"));
             }
-            Ok(Way::Rename(
-                Temporary::beside(path, text, None)?,
-                path.to_owned(),
-            ))
+            let (folder, name) = identity::end(path)?;
+            let path = folder.join(name);
+            Ok(Step::Rename(Temporary::beside(&path, text, None)?, path))
         }
         Err(error) => Err(error),
     }
 }
 
-/// Standard output; a regular file there is flushed too.
-fn write_standard(text: &[u8]) -> io::Result<()> {
+/// Through a descriptor, if there is anything to write; a regular file behind it is flushed too.
+fn write_through(file: io::Result<File>, text: &[u8]) -> io::Result<()> {
     if text.is_empty() {
         return Ok(());
     }
-    let mut file = standard::output()?;
+    let mut file = file?;
     file.write_all(text)?;
     if file.metadata()?.is_file() {
         file.sync_all()?;
@@ -144,17 +140,15 @@ fn write_direct(path: &Path, text: &[u8]) -> io::Result<()> {
 /// A whole, flushed file under a name of its own; removed unless it was renamed.
 struct Temporary {
     path: PathBuf,
-    renamed: bool,
+    /// Until it is removed or renamed.
+    watch: Option<Watch>,
 }
 
 impl Temporary {
     /// The text in a new file in the folder of `path`. It gets the permissions of the file that it will replace, and that
     /// one's owner where the system lets us.
     fn beside(path: &Path, text: &[u8], replaced: Option<&Metadata>) -> io::Result<Temporary> {
-        let folder = match path.parent() {
-            Some(folder) if folder != Path::new("") => folder,
-            _ => Path::new("."),
-        };
+        let folder = path.parent().ok_or(ErrorKind::IsADirectory)?;
         let mode = if replaced.is_some() { 0o600 } else { 0o666 };
         let (mut file, temporary) = Temporary::create(folder, mode)?;
         file.write_all(text)?;
@@ -170,30 +164,42 @@ impl Temporary {
     fn create(folder: &Path, mode: u32) -> io::Result<(File, Temporary)> {
         for number in 0..100 {
             let path = folder.join(format!(".quenhovach-{}-{number}", std::process::id()));
-            let mut new = OpenOptions::new();
-            match new.write(true).create_new(true).mode(mode).open(&path) {
-                Ok(file) => {
-                    let renamed = false;
-                    return Ok((file, Temporary { path, renamed }));
-                }
+            match signals::held(|| Temporary::create_at(path, mode)) {
                 Err(error) if error.kind() == ErrorKind::AlreadyExists => {}
-                Err(error) => return Err(error),
+                Err(error) => {
+                    return Err(io::Error::other(format!(
+                        "no file can be made in its folder: {error}"
+                    )))
+                }
+                made => return made,
             }
         }
         Err(ErrorKind::AlreadyExists.into())
     }
 
+    fn create_at(path: PathBuf, mode: u32) -> io::Result<(File, Temporary)> {
+        let mut new = OpenOptions::new();
+        let file = new.write(true).create_new(true).mode(mode).open(&path)?;
+        let watch = Some(Watch::on(&path)?);
+        Ok((file, Temporary { path, watch }))
+    }
+
     fn rename(mut self, path: &Path) -> io::Result<()> {
-        fs::rename(&self.path, path)?;
-        self.renamed = true;
-        Ok(())
+        signals::held(|| {
+            fs::rename(&self.path, path)?;
+            self.watch = None;
+            Ok(())
+        })
     }
 }
 
 impl Drop for Temporary {
     fn drop(&mut self) {
-        if !self.renamed {
-            let _ = fs::remove_file(&self.path);
+        if let Some(watch) = self.watch.take() {
+            signals::held(|| {
+                let _ = fs::remove_file(&self.path);
+                drop(watch);
+            });
         }
     }
 }

@@ -1,0 +1,255 @@
+//! Which files a run is about, told apart before any of them is written.
+//!
+//! A file is known by its device and inode, one that isn't there yet by those of its folder and its name. A path that leads to
+//! an open descriptor (/dev/stdout, /dev/fd/3) stands for that descriptor: opened anew, its file would be written from the
+//! first byte, or replaced.
+
+use crate::arguments::Options;
+use crate::standard::{self, ERRORS, INPUT, OUTPUT};
+use std::ffi::{c_int, OsStr, OsString};
+use std::fs::{self, File};
+use std::io::{self, ErrorKind};
+use std::iter;
+use std::os::unix::ffi::OsStrExt;
+use std::os::unix::fs::{FileTypeExt, MetadataExt};
+use std::path::{Path, PathBuf};
+
+/// Where a text comes from or goes to.
+pub struct Endpoint {
+    /// What messages call it.
+    pub name: String,
+    pub way: Way,
+}
+
+pub enum Way {
+    /// Through a descriptor, over a copy of it.
+    Open(c_int, io::Result<File>),
+    /// To what this path leads to.
+    Path(PathBuf),
+}
+
+/// The files of a run.
+pub struct Files {
+    pub template: Endpoint,
+    pub sheet: Endpoint,
+    pub report: Option<Endpoint>,
+}
+
+/// The files of a run, if none that is written is also another one; else a complaint. There is none where it would go to one of
+/// the two and spoil what stands there.
+pub fn tell_apart(options: &Options) -> Result<Files, Option<String>> {
+    let report = options.report.as_deref();
+    let parties = Parties {
+        template: Party::named("template", "", options.input.as_deref(), INPUT),
+        sheet: Party::named("sheet", "-o ", options.sheet.as_deref(), OUTPUT),
+        report: report.map(|path| Party::named("report", "--report ", Some(path), ERRORS)),
+        streams: [INPUT, OUTPUT, ERRORS].map(Party::stream),
+    };
+    if let Some([one, errors]) = parties.clash_with_errors() {
+        return Err(errors.is_empty().then(|| one.complaint(errors)));
+    }
+    if let Some([one, other]) = parties.clash() {
+        return Err(Some(one.complaint(other)));
+    }
+    Ok(Files {
+        template: parties.template.endpoint,
+        sheet: parties.sheet.endpoint,
+        report: parties.report.map(|party| party.endpoint),
+    })
+}
+
+/// What messages call a path, or the standard stream that is taken without one.
+pub fn name(path: Option<&Path>, stream: c_int) -> String {
+    match (path, stream) {
+        (Some(path), _) => path.display().to_string(),
+        (None, INPUT) => "standard input".to_string(),
+        (None, OUTPUT) => "standard output".to_string(),
+        (None, _) => "standard error".to_string(),
+    }
+}
+
+impl Endpoint {
+    /// What a path leads to, or the standard stream that is taken without one.
+    pub fn of(path: Option<&Path>, stream: c_int) -> Endpoint {
+        let open = |number| Way::Open(number, standard::file(number));
+        let way = match path {
+            Some(path) => descriptor(path).map_or_else(|| Way::Path(path.to_owned()), open),
+            None => open(stream),
+        };
+        let name = name(path, stream);
+        Endpoint { name, way }
+    }
+}
+
+struct Parties {
+    template: Party,
+    sheet: Party,
+    report: Option<Party>,
+    streams: [Party; 3],
+}
+
+impl Parties {
+    /// What must not be the file behind standard error, where every complaint goes, and is.
+    fn clash_with_errors(&self) -> Option<[&Party; 2]> {
+        let [_, _, errors] = &self.streams;
+        iter::once(&self.template)
+            .chain(self.replaced())
+            .find(|one| one.is(errors))
+            .map(|one| [one, errors])
+    }
+
+    /// Two others that must not be the same file, and are.
+    fn clash(&self) -> Option<[&Party; 2]> {
+        let [input, output, _] = &self.streams;
+        let mut pairs = Vec::new();
+        pairs.extend(self.written().map(|one| [&self.template, one]));
+        pairs.extend(self.report.iter().map(|report| [&self.sheet, report]));
+        // Others too may hold the streams' files, and would lose what they write there.
+        pairs.extend(
+            self.replaced()
+                .flat_map(|one| [[one, input], [one, output]]),
+        );
+        pairs.into_iter().find(|[one, other]| one.is(other))
+    }
+
+    fn written(&self) -> impl Iterator<Item = &Party> {
+        iter::once(&self.sheet).chain(&self.report)
+    }
+
+    /// Those of the written that are not written through a descriptor.
+    fn replaced(&self) -> impl Iterator<Item = &Party> {
+        let by_path = |one: &&Party| matches!(one.endpoint.way, Way::Path(_));
+        self.written().filter(by_path)
+    }
+}
+
+/// An endpoint and its part in the run.
+struct Party {
+    role: String,
+    endpoint: Endpoint,
+    identity: Identity,
+}
+
+impl Party {
+    fn stream(number: c_int) -> Party {
+        Party::new(name(None, number), Endpoint::of(None, number))
+    }
+
+    fn named(what: &str, option: &str, path: Option<&Path>, stream: c_int) -> Party {
+        let option = if path.is_some() { option } else { "" };
+        let role = format!("the {what} ({option}{})", name(path, stream));
+        Party::new(role, Endpoint::of(path, stream))
+    }
+
+    fn new(role: String, endpoint: Endpoint) -> Party {
+        let identity = Identity::of(&endpoint.way);
+        Party {
+            role,
+            endpoint,
+            identity,
+        }
+    }
+
+    fn is(&self, other: &Party) -> bool {
+        match (&self.endpoint.way, &other.endpoint.way) {
+            (Way::Open(one, _), Way::Open(other, _)) if one == other => true,
+            _ => self.identity == other.identity && self.identity != Identity::Any,
+        }
+    }
+
+    fn is_empty(&self) -> bool {
+        match &self.endpoint.way {
+            Way::Open(_, Ok(file)) => file.metadata().is_ok_and(|found| found.len() == 0),
+            _ => false,
+        }
+    }
+
+    fn complaint(&self, other: &Party) -> String {
+        format!("{} and {} are the same file", self.role, other.role)
+    }
+}
+
+/// What tells files apart.
+#[derive(Debug, PartialEq)]
+enum Identity {
+    /// A file or a pipe that is there: its device and inode.
+    There(u64, u64),
+    /// A file that isn't there yet: device and inode of its folder, and its name.
+    New(u64, u64, OsString),
+    /// A character device (a terminal, /dev/null) or a socket, which may be used twice; or what can't be used, which shows when
+    /// that is tried.
+    Any,
+}
+
+impl Identity {
+    fn of(way: &Way) -> Identity {
+        let (found, path) = match way {
+            Way::Open(_, Ok(file)) => (file.metadata(), None),
+            Way::Open(_, Err(_)) => return Identity::Any,
+            Way::Path(path) => (fs::metadata(path), Some(path)),
+        };
+        match (found, path) {
+            (Ok(found), _) => {
+                let kind = found.file_type();
+                if kind.is_file() || kind.is_fifo() || kind.is_block_device() {
+                    Identity::There(found.dev(), found.ino())
+                } else {
+                    Identity::Any
+                }
+            }
+            (Err(error), Some(path)) if error.kind() == ErrorKind::NotFound => {
+                Identity::of_new(path).unwrap_or(Identity::Any)
+            }
+            _ => Identity::Any,
+        }
+    }
+
+    fn of_new(path: &Path) -> io::Result<Identity> {
+        let (folder, name) = end(path)?;
+        let folder = fs::metadata(folder)?;
+        Ok(Identity::New(folder.dev(), folder.ino(), name))
+    }
+}
+
+/// The descriptor of this process that a path leads to.
+fn descriptor(path: &Path) -> Option<c_int> {
+    let (folder, name) = end(path).ok()?;
+    let number: c_int = name.to_str()?.parse().ok()?;
+    let written_so = name == OsStr::new(&number.to_string());
+    (written_so && has_descriptors(&folder)).then_some(number)
+}
+
+/// Whether a folder without links is the system's list of this process's descriptors.
+fn has_descriptors(folder: &Path) -> bool {
+    ["/proc/self/fd", "/proc/thread-self/fd"]
+        .into_iter()
+        .any(|list| fs::canonicalize(list).is_ok_and(|list| list == folder))
+}
+
+/// Where the links of a path end, at one of our descriptors or at a file that need not be there: its folder, without links, and
+/// its name.
+pub fn end(path: &Path) -> io::Result<(PathBuf, OsString)> {
+    const MOST_LINKS: usize = 40;
+    let mut path = path.to_owned();
+    for _ in 0..=MOST_LINKS {
+        let (folder, name) = parted(&path);
+        let folder = fs::canonicalize(folder)?;
+        match fs::read_link(folder.join(name)) {
+            Ok(next) if !has_descriptors(&folder) => path = folder.join(next),
+            _ => return Ok((folder, name.to_owned())),
+        }
+    }
+    Err(io::Error::other("it has too many links"))
+}
+
+/// A path's folder, and the name in it; that is empty behind a slash.
+fn parted(path: &Path) -> (&Path, &OsStr) {
+    let bytes = path.as_os_str().as_bytes();
+    match bytes.iter().rposition(|&b| b == b'/') {
+        Some(slash) => (
+            Path::new(OsStr::from_bytes(&bytes[..=slash])),
+            OsStr::from_bytes(&bytes[slash + 1..]),
+        ),
+        None => (Path::new("."), path.as_os_str()),
+    }
+}
