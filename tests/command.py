@@ -3,10 +3,14 @@
 
 Every expected text and number is written by hand from the rules. The last line is 'N passed, M failed'.
 """
+import fcntl
 import os
+import pty
 import re
 import resource
 import shutil
+import signal
+import socket
 import stat
 import subprocess
 import sys
@@ -103,6 +107,12 @@ def run(options, text=b"", **how):
 def run_shell(redirection, text=b"", options=()):
     """The command with streams redirected by the shell."""
     done = subprocess.run(["sh", "-c", '"$0" "$@" ' + redirection, COMMAND] + list(options), input=text, stdout=subprocess.PIPE, stderr=subprocess.PIPE)
+    return done.returncode, done.stdout, done.stderr
+
+
+def shell(folder, line, text=b""):
+    """A line for the shell, in a folder, where $q is the command; exit status 124 if it stands still."""
+    done = subprocess.run(["timeout", "60", "sh", "-c", line], cwd=folder, env=dict(os.environ, q=COMMAND), input=text, stdout=subprocess.PIPE, stderr=subprocess.PIPE)
     return done.returncode, done.stdout, done.stderr
 
 
@@ -307,9 +317,9 @@ def sheets(folder):
     def little_disk():
         resource.setrlimit(resource.RLIMIT_FSIZE, (1000, 1000))
 
-    check("a file that can't grow", complained(run(["-o", sheet], b"x" * 2000, preexec_fn=little_disk, restore_signals=False), name), True)
+    check("a file that can't grow", complained(run(["-o", sheet], b"x" * 2000, preexec_fn=little_disk), name), True)
     check("then the old sheet stands, and nothing beside it", (get(sheet), os.listdir(folder)), (b"old", ["sheet"]))
-    fits = run(["-o", sheet], b"x" * 1000, preexec_fn=little_disk, restore_signals=False)
+    fits = run(["-o", sheet], b"x" * 1000, preexec_fn=little_disk)
     check("where it can grow it is written", (fits[0], get(sheet)), (0, b"x" * 1000))
     put(sheet, b"old")
     check("error text that can't be written", (run_shell("2>/dev/full", b"errprint(`e')a", ["-o", sheet])[0], get(sheet), os.listdir(folder)), (63, b"old", ["sheet"]))
@@ -319,6 +329,8 @@ def sheets(folder):
     os.chmod(sheet, 0o644)
     check("a folder that isn't there", complained(run(["-o", os.path.join(folder, "none", "sheet")], FIVE), name), True)
     check("a folder as sheet", complained(run(["-o", folder], FIVE), b"could not be written"), True)
+    check("a new name with a slash behind it", (complained(run(["-o", os.path.join(folder, "none/")], FIVE), b"none/: could not be written"), os.listdir(folder)), (True, ["sheet"]))
+    closed_folder(folder)
     links(folder, sheet)
     check("a full device", complained(run(["-o", "/dev/full"], FIVE), b"/dev/full: could not be written"), True)
     check("a device", run(["-o", "/dev/null"], FIVE), (0, b"", b""))
@@ -329,6 +341,20 @@ def sheets(folder):
     check("a named pipe", (run(["-o", pipe], FIVE), reader.communicate()[0], stat.S_ISFIFO(os.stat(pipe).st_mode)), ((0, b"", b""), b"5", True))
     os.remove(pipe)
     os.remove(sheet)
+
+
+def closed_folder(folder):
+    """A sheet that may be written, in a folder where no file may be made."""
+    closed = os.path.join(folder, "closed")
+    sheet = os.path.join(closed, "sheet")
+    os.mkdir(closed)
+    put(sheet, b"old")
+    os.chmod(sheet, 0o666)
+    os.chmod(closed, 0o555)
+    check("a folder that takes no new file", complained(run_as_nobody(folder, ["-o", sheet]), b"no file can be made in its folder"), True)
+    check("its sheet stays", (get(sheet), os.listdir(closed)), (b"old", ["sheet"]))
+    os.chmod(closed, 0o755)
+    shutil.rmtree(closed)
 
 
 def links(folder, sheet):
@@ -359,13 +385,257 @@ def reports(folder):
     os.remove(sheet)
 
 
+def furnished(folder):
+    """A new folder in a folder: the template under three names, an old file and a folder under two, links to a new file and to a stream, a pipe."""
+    place = os.path.join(folder, "place")
+    shutil.rmtree(place, ignore_errors=True)
+    os.mkdir(place)
+    here = lambda name: os.path.join(place, name)
+    put(here("t.m4"), FIVE)
+    put(here("old"), b"old.")
+    os.mkdir(here("dir"))
+    os.mkfifo(here("pipe"))
+    os.link(here("t.m4"), here("hard"))
+    for name, target in [("soft", "t.m4"), ("oldlink", "old"), ("dirlink", "dir"), ("newlink", "dir/new"), ("out", "/dev/stdout")]:
+        os.symlink(target, here(name))
+    return place
+
+
+def contents(folder):
+    """What stands in a folder: the inode of each name, and of each name its link or text."""
+    inodes, texts = {}, {}
+    for place, folders, files in os.walk(folder):
+        for path in (os.path.join(place, name) for name in folders + files):
+            name, status = os.path.relpath(path, folder), os.lstat(path)
+            inodes[name] = status.st_ino
+            texts[name] = os.readlink(path) if stat.S_ISLNK(status.st_mode) else get(path) if stat.S_ISREG(status.st_mode) else None
+    return inodes, texts
+
+
+# Two of the run's files are one: a line for the shell, and what the complaint calls the two.
+CLASHES = [
+    ("-o new --report ./new t.m4", "the sheet (-o new)", "the report (--report ./new)"),
+    ("-o dir/../new --report new t.m4", "the sheet (-o dir/../new)", "the report (--report new)"),
+    ("-o dir/new --report dirlink/new t.m4", "the sheet (-o dir/new)", "the report (--report dirlink/new)"),
+    ("-o newlink --report dirlink/new t.m4", "the sheet (-o newlink)", "the report (--report dirlink/new)"),
+    ("-o dir/new --report newlink t.m4", "the sheet (-o dir/new)", "the report (--report newlink)"),
+    ("-o old --report oldlink t.m4", "the sheet (-o old)", "the report (--report oldlink)"),
+    ("-o pipe --report ./pipe t.m4", "the sheet (-o pipe)", "the report (--report ./pipe)"),
+    ("-o t.m4 t.m4", "the template (t.m4)", "the sheet (-o t.m4)"),
+    ("-o hard t.m4", "the template (t.m4)", "the sheet (-o hard)"),
+    ("-o soft hard", "the template (hard)", "the sheet (-o soft)"),
+    ("--report soft t.m4", "the template (t.m4)", "the report (--report soft)"),
+    ("-o t.m4 < t.m4", "the template (standard input)", "the sheet (-o t.m4)"),
+    ("--report t.m4 < t.m4", "the template (standard input)", "the report (--report t.m4)"),
+    ("--report hard < soft", "the template (standard input)", "the report (--report hard)"),
+    ("t.m4 >> t.m4", "the template (t.m4)", "the sheet (standard output)"),
+    ("< t.m4 >> hard", "the template (standard input)", "the sheet (standard output)"),
+    ("< t.m4 1<> t.m4", "the template (standard input)", "the sheet (standard output)"),
+    ("-o /dev/stdout t.m4 >> t.m4", "the template (t.m4)", "the sheet (-o /dev/stdout)"),
+    ("-o /dev/fd/3 t.m4 3>> t.m4", "the template (t.m4)", "the sheet (-o /dev/fd/3)"),
+    ("--report /dev/stdout -o new t.m4 >> t.m4", "the template (t.m4)", "the report (--report /dev/stdout)"),
+    ("--report old t.m4 >> old", "the sheet (standard output)", "the report (--report old)"),
+    ("--report oldlink t.m4 >> old", "the sheet (standard output)", "the report (--report oldlink)"),
+    ("-o /dev/fd/3 --report old t.m4 3>> old", "the sheet (-o /dev/fd/3)", "the report (--report old)"),
+    ("-o /dev/fd/3 --report /dev/fd/4 t.m4 3>> old 4>> old", "the sheet (-o /dev/fd/3)", "the report (--report /dev/fd/4)"),
+    ("--report /dev/stdout t.m4", "the sheet (standard output)", "the report (--report /dev/stdout)"),
+    ("--report /dev/stdout t.m4 >> old", "the sheet (standard output)", "the report (--report /dev/stdout)"),
+    ("--report /dev/stdout t.m4 > /dev/null", "the sheet (standard output)", "the report (--report /dev/stdout)"),
+    ("--report /dev/fd/1 t.m4", "the sheet (standard output)", "the report (--report /dev/fd/1)"),
+    ("--report /proc/self/fd/1 t.m4", "the sheet (standard output)", "the report (--report /proc/self/fd/1)"),
+    ("--report out t.m4", "the sheet (standard output)", "the report (--report out)"),
+    ("-o out --report /dev/stdout t.m4", "the sheet (-o out)", "the report (--report /dev/stdout)"),
+    ("-o /dev/stderr --report /dev/fd/2 t.m4", "the sheet (-o /dev/stderr)", "the report (--report /dev/fd/2)"),
+    ("-o old t.m4 >> old", "the sheet (-o old)", "standard output"),
+    ("-o old t.m4 < old", "the sheet (-o old)", "standard input"),
+    ("-o new --report old t.m4 >> old", "the report (--report old)", "standard output"),
+]
+
+# The complaint would go to one of the two.
+SPOILT = ["t.m4 2>> t.m4", "< t.m4 2>> hard", "-o old t.m4 2>> old", "-o oldlink t.m4 2>> old", "--report old t.m4 2>> old", "-o t.m4 < t.m4 2>> t.m4"]
+
+# The same file twice, and nothing is lost by it: a line, and what it changes in the folder and gives on standard output and standard error.
+HARMLESS = [
+    ("t.m4 < t.m4", {}, b"5", b""),
+    ("soft < hard", {}, b"5", b""),
+    ("-o /dev/null --report /dev/null t.m4", {}, b"", b""),
+    ("t.m4 < /dev/null > /dev/null 2> /dev/null", {}, b"", b""),
+    ("-o /dev/null t.m4 > /dev/null", {}, b"", b""),
+    ("-o dir/new t.m4 0<> old >&0 2>&0", {"dir/new": b"5"}, b"", b""),
+    ("-o dir/new t.m4 >> t.m4", {"dir/new": b"5"}, b"", b""),
+    ("t.m4 >> old 2>> old", {"old": b"old.5"}, b"", b""),
+]
+
+
+def told_apart(folder):
+    untouched = []
+    for line, one, other in CLASHES:
+        said = "quenhovach: %s and %s are the same file\nTry 'quenhovach --help'.\n" % (one, other)
+        untouched.append((line, (2, b"", said.encode())))
+    untouched += [(line, (2, b"", b"")) for line in SPOILT]
+    for line, expected in untouched:
+        place = furnished(folder)
+        before = contents(place)
+        check("one file: " + line, shell(place, "$q " + line), expected)
+        check("then nothing is touched: " + line, contents(place), before)
+    place = furnished(folder)
+    said = shell(place, "$q -o old t.m4 2> old")
+    check("a standard error that the shell has emptied", (said, b"(-o old) and standard error are the same" in get(os.path.join(place, "old"))), ((2, b"", b""), True))
+    status, out, _ = shell(place, "$q --report /dev/stderr t.m4 2>&1")
+    check("sheet and report in one pipe", (status, b"are the same file" in out), (2, True))
+
+
+def harmless(folder):
+    for line, changed, out, err in HARMLESS:
+        place = furnished(folder)
+        before = contents(place)[1]
+        check("no loss: " + line, shell(place, "$q " + line), (0, out, err))
+        check("what it leaves: " + line, contents(place)[1], dict(before, **changed))
+    ours, theirs = socket.socketpair()
+    with ours, theirs:
+        ours.sendall(b"errprint(`e')a")
+        ours.shutdown(socket.SHUT_WR)
+        status = subprocess.run([COMMAND], stdin=theirs, stdout=theirs, stderr=theirs).returncode
+        check("one socket for all streams", (status, ours.recv(100)), (0, b"ea"))
+    ours, theirs = pty.openpty()
+    status = subprocess.run([COMMAND, "--report", "/dev/stderr", "t.m4"], cwd=place, stdin=theirs, stdout=theirs, stderr=theirs).returncode
+    check("one terminal for all streams", (status, os.read(ours, 100)), (0, b"50 0 8 16 1 0\r\n"))
+    os.close(ours)
+    os.close(theirs)
+
+
+# A line for the shell, the template in t.m4, what stands in the file old behind its text then, and standard output and standard error.
+NOTED = b"errprint(`e')x"
+THROUGH = [
+    ("$q -o /dev/stdout t.m4 >> old", FIVE, b"5", b"", b""),
+    ("$q -o /dev/fd/1 t.m4 >> old", FIVE, b"5", b"", b""),
+    ("$q -o /proc/self/fd/1 t.m4 >> old", FIVE, b"5", b"", b""),
+    ("$q -o /proc/thread-self/fd/1 t.m4 >> old", FIVE, b"5", b"", b""),
+    ("$q -o out t.m4 >> old", FIVE, b"5", b"", b""),
+    ("$q -o /dev/stderr t.m4 2>> old", NOTED, b"ex", b"", b""),
+    ("$q -o /dev/fd/3 t.m4 3>> old", FIVE, b"5", b"", b""),
+    ("$q -o /dev/stdout t.m4 >> old", NOTED, b"x", b"", b"e"),
+    ("(printf old.; $q -o /dev/stdout t.m4; echo b) > old", FIVE, b"5b\n", b"", b""),
+    ("$q -o dir/new --report /dev/stdout t.m4 >> old", FIVE, b"0 0 8 16 1 0\n", b"", b""),
+    ("$q -o dir/new --report /dev/stdout t.m4", FIVE, b"", b"0 0 8 16 1 0\n", b""),
+    ("$q --report /dev/stderr t.m4 2>> old", NOTED, b"e0 0 5 14 1 1\n", b"x", b""),
+    ("$q --report /dev/stderr t.m4", NOTED, b"", b"x", b"e0 0 5 14 1 1\n"),
+    ("$q -o /dev/stderr --report /dev/stdout t.m4 >> old", NOTED, b"0 0 5 14 1 1\n", b"", b"ex"),
+    ("$q t.m4 >> old 2>&1", NOTED, b"ex", b"", b""),
+    ("$q /dev/stdin < t.m4", FIVE, b"", b"5", b""),
+    ("(read line; $q /dev/stdin) < t.m4", b"one\ntwo", b"", b"two", b""),
+    ("cat t.m4 | $q /dev/fd/0", FIVE, b"", b"5", b""),
+]
+
+
+def written_through(folder):
+    here = lambda name: os.path.join(folder, "place", name)
+    for line, text, added, out, err in THROUGH:
+        place = furnished(folder)
+        put(here("t.m4"), text)
+        inode = os.stat(here("old")).st_ino
+        got = shell(place, line)
+        check("through a stream: " + line, (got, get(here("old")), os.stat(here("old")).st_ino), ((0, out, err), b"old." + added, inode))
+    place = furnished(folder)
+    put(here("t.m4"), b"`")
+    status, out, err = shell(place, "$q -o /dev/stdout --report /dev/stderr t.m4 >> old")
+    check("a refusal through streams", (status, out, err.endswith(b"\n5 1 0 0 0 0\n"), get(here("old"))), (69, b"", True, b"old."))
+    put(here("t.m4"), FIVE)
+    for line, words in [
+        ("-o /dev/stdout t.m4 >&-", b"/dev/stdout: could not be written: it is closed"),
+        ("-o /dev/stdout t.m4 > /dev/full", b"/dev/stdout: could not be written"),
+        ("-o /dev/fd/77 t.m4", b"/dev/fd/77: could not be written"),
+        ("-o /dev/fd/3 t.m4 3< old", b"/dev/fd/3: could not be written"),
+        ("-o /dev/stdin t.m4 < old", b"/dev/stdin: could not be written"),
+        ("/dev/stdin <&-", b"/dev/stdin: could not be read: it is closed"),
+    ]:
+        check("a stream that fails: " + line, (complained(shell(place, "$q " + line), words), get(here("old"))), (True, b"old."))
+
+
+def limits(folder):
+    put(os.path.join(folder, "sheet"), b"old")
+    check("a limit of the shell", complained(shell(folder, "ulimit -f 1; $q -o sheet", b"x" * 2000), b"sheet: could not be written"), True)
+    check("a limit, and the report", complained(shell(folder, "ulimit -f 0; $q --report numbers", FIVE), b"numbers: could not be written"), True)
+    check("leave the old sheet, and nothing else", (get(os.path.join(folder, "sheet")), os.listdir(folder)), (b"old", ["sheet"]))
+    check("a limit, and standard output", complained(shell(folder, "ulimit -f 1; $q > sheet", b"x" * 2000), b"standard output: could not be written"), True)
+    os.remove(os.path.join(folder, "sheet"))
+
+
+class Held:
+    """A run that stands still, with a temporary file for the sheet and one for the report: its error text is in a pipe, more than the pipe takes."""
+
+    def __init__(self, folder, **how):
+        self.folder = folder
+        for name in ("sheet", "numbers"):
+            put(os.path.join(folder, name), b"old")
+        self.reader, writer = os.pipe()
+        fcntl.fcntl(writer, fcntl.F_SETPIPE_SZ, 4096)
+        self.process = subprocess.Popen([COMMAND, "-o", "sheet", "--report", "numbers"], cwd=folder, stdin=subprocess.PIPE, stdout=subprocess.DEVNULL, stderr=writer, **how)
+        os.close(writer)
+        self.process.stdin.write(b"errprint(`" + b"e" * 20000 + b"')x")
+        self.process.stdin.close()
+        os.read(self.reader, 1)
+
+    def others(self):
+        return sorted(re.sub(r"\d+-", "", name) for name in os.listdir(self.folder) if name not in ("sheet", "numbers"))
+
+    def ended(self):
+        with os.fdopen(self.reader, "rb") as rest:
+            self.process.wait(60)
+            rest.read()
+        return self.process.returncode, get(os.path.join(self.folder, "sheet")), get(os.path.join(self.folder, "numbers")), self.others()
+
+
+def signals(folder):
+    no_core = lambda: resource.setrlimit(resource.RLIMIT_CORE, (0, 0))
+    for number in (signal.SIGHUP, signal.SIGINT, signal.SIGQUIT, signal.SIGTERM, signal.SIGXCPU):
+        held = Held(folder, preexec_fn=no_core)
+        check("before %s there are two temporary files" % number.name, held.others(), [".quenhovach-0", ".quenhovach-1"])
+        held.process.send_signal(number)
+        check("%s ends the process, and leaves no temporary file" % number.name, held.ended(), (-number, b"old", b"", []))
+    held = Held(folder, preexec_fn=lambda: signal.signal(signal.SIGHUP, signal.SIG_IGN))
+    held.process.send_signal(signal.SIGHUP)
+    with os.fdopen(os.dup(held.reader), "rb") as rest:
+        rest.read()
+    check("an ignored SIGHUP stays ignored", held.ended(), (0, b"x", b"0 0 5 20013 1 20000\n", []))
+    for name in ("sheet", "numbers"):
+        os.remove(os.path.join(folder, name))
+    sleeper = subprocess.Popen([COMMAND], stdin=subprocess.PIPE)
+    sleeper.send_signal(signal.SIGTERM)
+    check("SIGTERM without a temporary file", sleeper.wait(60), -signal.SIGTERM)
+    sleeper.stdin.close()
+
+
+# What is wrong with the options, word for word.
+COMPLAINTS = [
+    (["-help"], "unknown option -help; did you mean --help?"),
+    (["-version"], "unknown option -version; did you mean --version?"),
+    (["-report=a"], "unknown option -report; did you mean --report?"),
+    (["-output", "a"], "unknown option -output; did you mean --output?"),
+    (["-Vx"], "-V takes nothing behind it"),
+    (["-hV"], "-h takes nothing behind it"),
+    (["--help=a"], "--help takes nothing behind it"),
+    (["-x"], "unknown option -x"),
+    (["--helper"], "unknown option --helper"),
+    (["a", "b"], "one template only; 'b' is a second one"),
+    (["-", "b"], "one template only; 'b' is a second one"),
+    (["-o"], "-o: its value is missing"),
+    (["-o", ""], "-o: its value is missing"),
+    (["--report="], "--report: its value is missing"),
+    (["-o", "a", "-o", "b"], "-o: it is given twice"),
+    (["--output", "a"], "--output: it takes the sheet's length, 0 to 65536; the sheet's file is given with -o"),
+]
+
+
 def usage(folder):
     for options in (
-        ["-x"], ["--sheet", "a"], ["-o"], ["--report"], ["--budget"], ["a", "b"], ["--pending", "65537"], ["--output", "sheet"], ["--wrap=-1"], ["--calls", ""],
-        ["--errors", "1x"], ["--budget", "4294967296"], ["--streams", "1", "--streams", "1"], ["--report", "-"], ["-o", "a", "--report", "a"], ["--helper"], ["---"],
+        ["--sheet", "a"], ["--report"], ["--budget"], ["--pending", "65537"], ["--wrap=-1"], ["--calls", ""], ["--errors", "1x"], ["--budget", "4294967296"],
+        ["--streams", "1", "--streams", "1"], ["--report", "-"], ["-o", "a", "--report", "a"], ["---"],
     ):
         status, out, err = run(options, FIVE, cwd=folder)
         check("bad usage: " + " ".join(options), (status, out, err.startswith(b"quenhovach: "), err.endswith(b"Try 'quenhovach --help'.\n")), (2, b"", True, True))
+    for options, said in COMPLAINTS:
+        check("bad usage: " + " ".join(options), run(options, FIVE, cwd=folder), (2, b"", b"quenhovach: %s\nTry 'quenhovach --help'.\n" % said.encode()))
     template = os.path.join(folder, "template")
     put(template, FIVE)
     for option in ("-o", "--report"):
@@ -393,7 +663,7 @@ def main():
     build()
     crate_tests()
     crate_habits()
-    for part in (endings, places, inputs, sheets, reports, usage):
+    for part in (endings, places, inputs, sheets, reports, told_apart, harmless, written_through, limits, signals, usage):
         with tempfile.TemporaryDirectory() as folder:
             part(folder)
     standard_output()
