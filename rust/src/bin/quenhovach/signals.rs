@@ -11,8 +11,8 @@ use std::path::Path;
 use std::ptr::null_mut;
 use std::sync::atomic::{AtomicBool, AtomicI32, AtomicPtr, Ordering::SeqCst};
 
-/// SIGHUP, SIGINT, SIGQUIT, SIGTERM and SIGXCPU: what people, systems and limits end a process with.
-const ENDING: [c_int; 5] = [1, 2, 3, 15, 24];
+/// What people, timers and limits end a process with: SIGHUP, SIGINT, SIGQUIT, SIGUSR1, SIGUSR2, SIGALRM, SIGTERM, SIGXCPU.
+const ENDING: [c_int; 8] = [1, 2, 3, 10, 12, 14, 15, 24];
 const SIGXFSZ: c_int = 25;
 const SIG_DFL: usize = 0;
 const SIG_IGN: usize = 1;

@@ -22,10 +22,10 @@ pub struct Staged {
 
 /// What is left to do.
 enum Step {
-    /// Nothing; no text was asked for.
+    /// Nothing: no text was asked for, or it is empty.
     Nothing,
     /// The text is written through a descriptor.
-    Open(io::Result<File>, Vec<u8>),
+    Open(File, Vec<u8>),
     /// The text is written to a device or a pipe.
     Direct(PathBuf, Vec<u8>),
     /// The text is in a file that becomes this one.
@@ -49,7 +49,8 @@ impl Staged {
 pub fn stage(to: Endpoint, text: &[u8]) -> Result<Staged, String> {
     let name = to.name;
     let step = match to.way {
-        Way::Open(_, file) => Ok(Step::Open(file, text.to_vec())),
+        Way::Open(..) if text.is_empty() => Ok(Step::Nothing),
+        Way::Open(_, file) => file.map(|file| Step::Open(file, text.to_vec())),
         Way::Path(path) => step_to(&path, text),
     };
     match step {
@@ -87,8 +88,7 @@ pub fn empty_report(report: Option<&Endpoint>) -> Result<(), String> {
 
 /// The error text, on standard error.
 pub fn write_errors(text: &[u8]) -> Result<(), String> {
-    write_through(standard::file(standard::ERRORS), text)
-        .map_err(|error| unwritten("standard error", &error))
+    stage(Endpoint::of(None, standard::ERRORS), text)?.commit()
 }
 
 fn unwritten(name: &str, error: &io::Error) -> String {
@@ -120,12 +120,8 @@ fn step_to(path: &Path, text: &[u8]) -> io::Result<Step> {
     }
 }
 
-/// Through a descriptor, if there is anything to write; a regular file behind it is flushed too.
-fn write_through(file: io::Result<File>, text: &[u8]) -> io::Result<()> {
-    if text.is_empty() {
-        return Ok(());
-    }
-    let mut file = file?;
+/// Through a descriptor; a regular file behind it is flushed too.
+fn write_through(mut file: File, text: &[u8]) -> io::Result<()> {
     file.write_all(text)?;
     if file.metadata()?.is_file() {
         file.sync_all()?;
@@ -140,6 +136,8 @@ fn write_direct(path: &Path, text: &[u8]) -> io::Result<()> {
 /// A whole, flushed file under a name of its own; removed unless it was renamed.
 struct Temporary {
     path: PathBuf,
+    /// Whether it replaces a file.
+    replaces: bool,
     /// Until it is removed or renamed.
     watch: Option<Watch>,
 }
@@ -150,7 +148,8 @@ impl Temporary {
     fn beside(path: &Path, text: &[u8], replaced: Option<&Metadata>) -> io::Result<Temporary> {
         let folder = path.parent().ok_or(ErrorKind::IsADirectory)?;
         let mode = if replaced.is_some() { 0o600 } else { 0o666 };
-        let (mut file, temporary) = Temporary::create(folder, mode)?;
+        let (mut file, mut temporary) = Temporary::create(folder, mode)?;
+        temporary.replaces = replaced.is_some();
         file.write_all(text)?;
         if let Some(old) = replaced {
             keep_owner(&file, old)?;
@@ -178,13 +177,22 @@ impl Temporary {
     }
 
     fn create_at(path: PathBuf, mode: u32) -> io::Result<(File, Temporary)> {
+        let watch = Watch::on(&path)?;
         let mut new = OpenOptions::new();
         let file = new.write(true).create_new(true).mode(mode).open(&path)?;
-        let watch = Some(Watch::on(&path)?);
-        Ok((file, Temporary { path, watch }))
+        let temporary = Temporary {
+            path,
+            replaces: false,
+            watch: Some(watch),
+        };
+        Ok((file, temporary))
     }
 
+    /// What was made at a free place meanwhile is not ours to replace. Where names are the same in capitals, it may be the sheet.
     fn rename(mut self, path: &Path) -> io::Result<()> {
+        if !self.replaces && fs::symlink_metadata(path).is_ok() {
+            return Err(io::Error::other("a file was made there meanwhile"));
+        }
         signals::held(|| {
             fs::rename(&self.path, path)?;
             self.watch = None;
