@@ -112,7 +112,7 @@ def run_shell(redirection, text=b"", options=()):
 
 def shell(folder, line, text=b""):
     """A line for the shell, in a folder, where $q is the command; exit status 124 if it stands still."""
-    done = subprocess.run(["timeout", "60", "sh", "-c", line], cwd=folder, env=dict(os.environ, q=COMMAND), input=text, stdout=subprocess.PIPE, stderr=subprocess.PIPE)
+    done = subprocess.run(["timeout", "60", "sh", "-c", line.replace("$q", '"$q"')], cwd=folder, env=dict(os.environ, q=COMMAND), input=text, stdout=subprocess.PIPE, stderr=subprocess.PIPE)
     return done.returncode, done.stdout, done.stderr
 
 
@@ -265,15 +265,15 @@ def inputs(folder):
     os.remove(template)
 
 
-def run_as_nobody(folder, options):
+def run_as_nobody(folder, options, **how):
     """The command without the privileges of root, from a place where all may run it."""
     if os.geteuid() != 0:
-        return run(options)
+        return run(options, **how)
     with tempfile.TemporaryDirectory() as place:
         os.chmod(place, 0o755)
         os.chmod(folder, 0o777)
         copy = shutil.copy(COMMAND, place)
-        done = subprocess.run([copy] + options, stdin=subprocess.DEVNULL, stdout=subprocess.PIPE, stderr=subprocess.PIPE, user=65534, group=65534, extra_groups=[])
+        done = subprocess.run([copy] + options, stdin=subprocess.DEVNULL, stdout=subprocess.PIPE, stderr=subprocess.PIPE, user=65534, group=65534, extra_groups=[], **how)
     return done.returncode, done.stdout, done.stderr
 
 
@@ -353,6 +353,14 @@ def closed_folder(folder):
     os.chmod(closed, 0o555)
     check("a folder that takes no new file", complained(run_as_nobody(folder, ["-o", sheet]), b"no file can be made in its folder"), True)
     check("its sheet stays", (get(sheet), os.listdir(closed)), (b"old", ["sheet"]))
+    os.chmod(closed, 0o755)
+    os.mkdir(os.path.join(closed, "within"))
+    os.chmod(os.path.join(closed, "within"), 0o777)
+    within = os.open(os.path.join(closed, "within"), os.O_RDONLY)
+    os.chmod(closed, 0)
+    for options, status in [(["-o", "new", "--report", "./new"], 2), (["-o", "new"], 0)]:
+        check("a folder that only its paths don't lead to: " + " ".join(options), run_as_nobody(folder, options, preexec_fn=lambda: os.fchdir(within))[0], status)
+    os.close(within)
     os.chmod(closed, 0o755)
     shutil.rmtree(closed)
 
@@ -496,10 +504,14 @@ def harmless(folder):
         ours.sendall(b"errprint(`e')a")
         ours.shutdown(socket.SHUT_WR)
         status = subprocess.run([COMMAND], stdin=theirs, stdout=theirs, stderr=theirs).returncode
-        check("one socket for all streams", (status, ours.recv(100)), (0, b"ea"))
+        theirs.close()
+        check("one socket for all streams", (status, b"".join(iter(lambda: ours.recv(100), b""))), (0, b"ea"))
     ours, theirs = pty.openpty()
     status = subprocess.run([COMMAND, "--report", "/dev/stderr", "t.m4"], cwd=place, stdin=theirs, stdout=theirs, stderr=theirs).returncode
-    check("one terminal for all streams", (status, os.read(ours, 100)), (0, b"50 0 8 16 1 0\r\n"))
+    shown = b""
+    while not shown.endswith(b"\n"):
+        shown += os.read(ours, 100)
+    check("one terminal for all streams", (status, shown), (0, b"50 0 8 16 1 0\r\n"))
     os.close(ours)
     os.close(theirs)
 
@@ -545,6 +557,8 @@ def written_through(folder):
         ("-o /dev/stdout t.m4 >&-", b"/dev/stdout: could not be written: it is closed"),
         ("-o /dev/stdout t.m4 > /dev/full", b"/dev/stdout: could not be written"),
         ("-o /dev/fd/77 t.m4", b"/dev/fd/77: could not be written"),
+        ("-o /dev/fd/-1 t.m4", b"/dev/fd/-1: could not be written"),
+        ("-o /dev/fd/3 < t.m4", b"/dev/fd/3: could not be written: it is closed"),
         ("-o /dev/fd/3 t.m4 3< old", b"/dev/fd/3: could not be written"),
         ("-o /dev/stdin t.m4 < old", b"/dev/stdin: could not be written"),
         ("/dev/stdin <&-", b"/dev/stdin: could not be read: it is closed"),

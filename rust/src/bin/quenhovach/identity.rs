@@ -204,52 +204,54 @@ impl Identity {
         }
     }
 
-    fn of_new(path: &Path) -> io::Result<Identity> {
+    fn of_new(path: &Path) -> Option<Identity> {
         let (folder, name) = end(path)?;
-        let folder = fs::metadata(folder)?;
-        Ok(Identity::New(folder.dev(), folder.ino(), name))
+        let folder = fs::metadata(folder).ok()?;
+        Some(Identity::New(folder.dev(), folder.ino(), name))
     }
 }
 
 /// The descriptor of this process that a path leads to.
 fn descriptor(path: &Path) -> Option<c_int> {
-    let (folder, name) = end(path).ok()?;
-    let number: c_int = name.to_str()?.parse().ok()?;
-    let written_so = name == OsStr::new(&number.to_string());
-    (written_so && has_descriptors(&folder)).then_some(number)
+    let (folder, name) = end(path)?;
+    let number: u32 = name.to_str()?.parse().ok()?;
+    let listed = name == OsStr::new(&number.to_string()) && has_descriptors(&folder);
+    c_int::try_from(number).ok().filter(|_| listed)
 }
 
-/// Whether a folder without links is the system's list of this process's descriptors.
+/// Whether a folder is the system's list of this process's descriptors.
 fn has_descriptors(folder: &Path) -> bool {
-    ["/proc/self/fd", "/proc/thread-self/fd"]
-        .into_iter()
-        .any(|list| fs::canonicalize(list).is_ok_and(|list| list == folder))
+    let lists = ["/proc/self/fd", "/proc/thread-self/fd"];
+    fs::canonicalize(folder).is_ok_and(|folder| {
+        lists
+            .iter()
+            .any(|list| fs::canonicalize(list).is_ok_and(|list| list == folder))
+    })
 }
 
-/// Where the links of a path end, at one of our descriptors or at a file that need not be there: its folder, without links, and
-/// its name.
-pub fn end(path: &Path) -> io::Result<(PathBuf, OsString)> {
+/// Folder and name where the links of a path end: at one of our descriptors, or at a file that need not be there.
+fn end(path: &Path) -> Option<(PathBuf, OsString)> {
     const MOST_LINKS: usize = 40;
     let mut path = path.to_owned();
     for _ in 0..=MOST_LINKS {
         let (folder, name) = parted(&path);
-        let folder = fs::canonicalize(folder)?;
         match fs::read_link(folder.join(name)) {
-            Ok(next) if !has_descriptors(&folder) => path = folder.join(next),
-            _ => return Ok((folder, name.to_owned())),
+            Ok(next) if !has_descriptors(folder) => path = folder.join(next),
+            _ => return Some((folder.to_owned(), name.to_owned())),
         }
     }
-    Err(io::Error::other("it has too many links"))
+    None
 }
 
 /// A path's folder, and the name in it; that is empty behind a slash.
-fn parted(path: &Path) -> (&Path, &OsStr) {
+pub fn parted(path: &Path) -> (&Path, &OsStr) {
     let bytes = path.as_os_str().as_bytes();
-    match bytes.iter().rposition(|&b| b == b'/') {
-        Some(slash) => (
-            Path::new(OsStr::from_bytes(&bytes[..=slash])),
-            OsStr::from_bytes(&bytes[slash + 1..]),
+    let name = bytes.iter().rposition(|&b| b == b'/').map_or(0, |n| n + 1);
+    match bytes.split_at(name) {
+        (b"", name) => (Path::new("."), OsStr::from_bytes(name)),
+        (folder, name) => (
+            Path::new(OsStr::from_bytes(folder)),
+            OsStr::from_bytes(name),
         ),
-        None => (Path::new("."), path.as_os_str()),
     }
 }

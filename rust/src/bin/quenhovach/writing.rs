@@ -112,9 +112,10 @@ fn step_to(path: &Path, text: &[u8]) -> io::Result<Step> {
             if fs::symlink_metadata(path).is_ok() {
                 return Err(io::Error::other("it is a link to a file that isn't there"));
             }
-            let (folder, name) = identity::end(path)?;
-            let path = folder.join(name);
-            Ok(Step::Rename(Temporary::beside(&path, text, None)?, path))
+            Ok(Step::Rename(
+                Temporary::beside(path, text, None)?,
+                path.to_owned(),
+            ))
         }
         Err(error) => Err(error),
     }
@@ -146,7 +147,7 @@ impl Temporary {
     /// The text in a new file in the folder of `path`. It gets the permissions of the file that it will replace, and that
     /// one's owner where the system lets us.
     fn beside(path: &Path, text: &[u8], replaced: Option<&Metadata>) -> io::Result<Temporary> {
-        let folder = path.parent().ok_or(ErrorKind::IsADirectory)?;
+        let (folder, _) = identity::parted(path);
         let mode = if replaced.is_some() { 0o600 } else { 0o666 };
         let (mut file, mut temporary) = Temporary::create(folder, mode)?;
         temporary.replaces = replaced.is_some();
