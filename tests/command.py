@@ -508,12 +508,19 @@ def harmless(folder):
         check("one socket for all streams", (status, b"".join(iter(lambda: ours.recv(100), b""))), (0, b"ea"))
     ours, theirs = pty.openpty()
     status = subprocess.run([COMMAND, "--report", "/dev/stderr", "t.m4"], cwd=place, stdin=theirs, stdout=theirs, stderr=theirs).returncode
-    shown = b""
-    while not shown.endswith(b"\n"):
-        shown += os.read(ours, 100)
-    check("one terminal for all streams", (status, shown), (0, b"50 0 8 16 1 0\r\n"))
-    os.close(ours)
     os.close(theirs)
+    check("one terminal for all streams", (status, rest_of(ours)), (0, b"50 0 8 16 1 0\r\n"))
+    os.close(ours)
+
+
+def rest_of(terminal):
+    """What was written to a terminal that no one has open any more."""
+    shown = b""
+    try:
+        while True:
+            shown += os.read(terminal, 100)
+    except OSError:
+        return shown
 
 
 # A line for the shell, the template in t.m4, what stands in the file old behind its text then, and standard output and standard error.
