@@ -489,6 +489,7 @@ def told_apart(folder):
     place = furnished(folder)
     said = shell(place, "$q -o old t.m4 2> old")
     check("a standard error that the shell has emptied", (said, b"(-o old) and standard error are the same" in get(os.path.join(place, "old"))), ((2, b"", b""), True))
+    check("a standard output that the shell has made", (shell(place, "$q --report new t.m4 > new")[0], get(os.path.join(place, "new"))), (2, b""))
     status, out, _ = shell(place, "$q --report /dev/stderr t.m4 2>&1")
     check("sheet and report in one pipe", (status, b"are the same file" in out), (2, True))
 
