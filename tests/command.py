@@ -83,10 +83,7 @@ def crate_tests():
 def crate_habits():
     cargo_passes("the library without std", "build", "--release", "--offline", "--locked", "--lib", "--no-default-features")
     for name, arguments in [("fmt", ["fmt", "--check"]), ("clippy", ["clippy", "--release", "--offline", "--all-targets", "--", "-D", "warnings"])]:
-        if cargo(name, "--version")[0] == 0:
-            cargo_passes("cargo " + name, *arguments)
-        else:
-            print("cargo %s is not installed: not tried" % name)
+        cargo_passes("cargo " + name, *arguments)
 
 
 def missing_archive(folder):
@@ -309,6 +306,8 @@ def sheets(folder):
         os.chown(sheet, 65534, 65534)
         check("an old sheet's owner", (run(["-o", sheet], FIVE)[0], os.stat(sheet).st_uid, os.stat(sheet).st_gid), (0, 65534, 65534))
         os.chown(sheet, 0, 0)
+    else:
+        print("only root can give a sheet to another owner: that it keeps its owner was not tried")
     put(sheet, b"old")
     with open(sheet, "rb") as held:
         check("who has the old sheet open reads on in it", (run(["-o", sheet], FIVE)[0], held.read(), get(sheet)), (0, b"old", b"5"))
@@ -680,11 +679,10 @@ def usage(folder):
     manual = get(MANUAL).decode().replace("\\-", "-")
     check("the manual page has every option of the help", [o for o in re.findall(r"--?[a-zA-Z]+", out.decode()) if o not in manual], [])
     check("and the version", '"quenhovach %s"' % version in manual, True)
-    if shutil.which("groff"):
-        done = subprocess.run(["groff", "-t", "-man", "-Tascii", "-ww", MANUAL], stdout=subprocess.PIPE, stderr=subprocess.PIPE)
-        check("the manual page is set without a warning", (done.returncode, done.stderr, b"EXIT STATUS" in re.sub(b".\b", b"", done.stdout)), (0, b"", True))
-    else:
-        print("groff is not installed: the manual page was not set")
+    if not shutil.which("groff"):
+        return check("groff is installed and sets the manual page", False, True)
+    done = subprocess.run(["groff", "-t", "-man", "-Tascii", "-ww", MANUAL], stdout=subprocess.PIPE, stderr=subprocess.PIPE)
+    check("the manual page is set without a warning", (done.returncode, done.stderr, b"EXIT STATUS" in re.sub(b".\b", b"", done.stdout)), (0, b"", True))
 
 
 def main():

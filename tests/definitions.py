@@ -48,6 +48,10 @@ def unhex(word):
     return b"" if word == "-" else bytes.fromhex(word)
 
 
+def left_out(fields):
+    return any(left(unhex(fields[1])) for left in LEFT_OUT)
+
+
 def statement(number, fields):
     _, text, lengths, budget, answer, detail, steps, place, output, errors = fields
     return """
@@ -62,6 +66,8 @@ def read(path):
     for line in open(path, encoding="utf-8"):
         if line.strip() and not line.startswith("#"):
             rows.append(line.rstrip("\n").split("\t"))
+    if all(left_out(fields) for fields in rows):
+        sys.exit("%s has no line that is computed" % path)
     return rows
 
 
@@ -93,7 +99,7 @@ def check(rows):
 
 def main():
     rows = [fields for path in sys.argv[1:] or [os.path.join(ROOT, "tests", "vectors.tsv")] for fields in read(path)]
-    kept = [(i, fields) for i, fields in enumerate(rows) if not any(left(unhex(fields[1])) for left in LEFT_OUT)]
+    kept = [(i, fields) for i, fields in enumerate(rows) if not left_out(fields)]
     wrong = check(kept)
     for i in sorted(wrong):
         print("wrong: %s, text %s, expected %s: %s" % (rows[i][0], unhex(rows[i][1])[:200], rows[i][2:], wrong[i]))

@@ -2,8 +2,8 @@
 """evaluate_cost.py: an expression of eight times the length costs eval at most nine times the instructions.
 
 Counts the instructions of the program target/bin/evaluate (it reads an expression and writes what it comes to) under valgrind's callgrind,
-less those for the expression `1`, at 8 KB and at 64 KB, for each kind of long expression. Ends with 'N passed, M failed'; exit status 0
-only if M is 0.
+less those for the expression `1`, at 8 KB and at 64 KB, for each kind of long expression. Each must come to what it says here. Ends with
+'N passed, M failed'; exit status 0 only if M is 0.
 """
 import os
 import re
@@ -21,33 +21,34 @@ def chain(front, operand, operator, back, size):
     return front + (operand + operator) * count + operand + back
 
 
+# for each kind the expression of a size, and what it comes to
 KINDS = {
-    "1+1+..": lambda size: chain("", "1", "+", "", size),
-    "blanks before a literal": lambda size: " " * (size - 1) + "1",
-    "blanks behind a literal": lambda size: "1" + " " * (size - 1),
-    "32 parentheses around a chain": lambda size: chain("(" * 32, "1", "-", ")" * 32, size),
-    "a chain of comparisons": lambda size: chain("", "1", "<", "", size),
-    "all ten levels, then blanks": lambda size: "1||1&&1|1^1&1==1<1<<1+1*1" + " " * (size - 26),
-    "a chain of nested operands": lambda size: chain("", "(-(~1))", "|", "", size),
-    "one long literal": lambda size: "0" * (size - 1) + "7",
+    "1+1+..": (lambda size: chain("", "1", "+", "", size), lambda text: text.count("1")),
+    "blanks before a literal": (lambda size: " " * (size - 1) + "1", lambda text: 1),
+    "blanks behind a literal": (lambda size: "1" + " " * (size - 1), lambda text: 1),
+    "32 parentheses around a chain": (lambda size: chain("(" * 32, "1", "-", ")" * 32, size), lambda text: 1 - text.count("-")),
+    "a chain of comparisons": (lambda size: chain("", "1", "<", "", size), lambda text: 1 - text.count("<") % 2),
+    "all ten levels, then blanks": (lambda size: "0||1&&0|0^1&1==1<1<<0+1*1" + " " * (size - 26), lambda text: 1),
+    "a chain of nested operands": (lambda size: chain("", "(-(~1))", "|", "", size), lambda text: 2),
+    "one long literal": (lambda size: "0" * (size - 1) + "7", lambda text: 7),
 }
 
 
-def instructions(text):
+def instructions(text, value):
     with tempfile.TemporaryDirectory() as folder:
         run = subprocess.run(["valgrind", "--tool=callgrind", "--callgrind-out-file=" + os.path.join(folder, "out"), PROGRAM],
                              input=text.encode(), capture_output=True)
     found = re.search(rb"Collected : (\d+)", run.stderr)
-    if run.returncode != 0 or not found or b"refused" in run.stdout:
-        sys.exit("no count for an expression of %d bytes: %s %s" % (len(text), run.stdout, run.stderr[-500:]))
+    if run.returncode != 0 or not found or run.stdout != b"%d\n" % value:
+        sys.exit("an expression of %d bytes came to %r instead of %d, or was not counted: %s" % (len(text), run.stdout, value, run.stderr[-500:]))
     return int(found.group(1))
 
 
 def main():
     passed = failed = 0
-    base = instructions("1")
-    for name, build in KINDS.items():
-        small, large = instructions(build(8192)) - base, instructions(build(65536)) - base
+    base = instructions("1", 1)
+    for name, (build, value) in KINDS.items():
+        small, large = (instructions(text, value(text)) - base for text in (build(8192), build(65536)))
         ratio = large / small
         print("%-32s %9d at 8 KB %10d at 64 KB, ratio %.2f, %.1f a byte" % (name, small, large, ratio, large / 65536))
         if ratio <= MOST:

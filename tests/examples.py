@@ -1,7 +1,7 @@
 #!/usr/bin/env python3
 """Every template of examples/ through the command `quenhovach`, its sheet compared byte for byte with the stored one.
 
-Builds the command if need be. Where GNU m4 is installed, it has to give the stored sheets too. The last line is 'N passed, M failed'.
+Builds the command if need be. GNU m4 has to give the stored sheets too. The last line is 'N passed, M failed'.
 """
 import os
 import shutil
@@ -123,11 +123,9 @@ def main():
             whole(folder, name)
             room_never_shapes(folder, name)
         frozen_line(folder)
-    if shutil.which("m4"):
-        for name in ENDS:
-            judge(name)
-    else:
-        print("m4 is not installed: the stored sheets were not held to it again")
+    check("GNU m4 is installed", shutil.which("m4") is not None, True)
+    for name in ENDS if shutil.which("m4") else ():
+        judge(name)
     print("%d passed, %d failed" % (count - len(failures), len(failures)))
     sys.exit(1 if failures else 0)
 

@@ -1,5 +1,5 @@
 #!/usr/bin/env python3
-"""The program `expand` from the outside: both of its streams, byte for byte. A failed read or write is told, and no answer line follows."""
+"""The program `expand` from the outside: both of its streams, byte for byte, and exit status 0. A failed read or write is told, and no answer line follows."""
 import os
 import subprocess
 import sys
@@ -12,22 +12,23 @@ count = 0
 
 
 def check(name, got, expected):
+    """Standard output, standard error and the exit status, against the first two and 0."""
     global count
     count += 1
-    if got != expected:
+    if got != (*expected, 0):
         failures.append(name)
-        print("%s: expected %r, got %r" % (name, tuple(x[:80] for x in expected), tuple(x[:80] for x in got)))
+        print("%s: expected %r, got %r and exit status %d" % (name, tuple(x[:80] for x in expected), tuple(x[:80] for x in got[:2]), got[2]))
 
 
 def run(text):
     done = subprocess.run([PROGRAM], input=text, capture_output=True)
-    return done.stdout, done.stderr
+    return done.stdout, done.stderr, done.returncode
 
 
 def run_shell(redirection, text=b""):
     """The program with one stream redirected by the shell."""
     done = subprocess.run(["sh", "-c", '"$0" ' + redirection, PROGRAM], input=text, capture_output=True)
-    return done.stdout, done.stderr
+    return done.stdout, done.stderr, done.returncode
 
 
 check("01's third case", run(b"define(`n',`5')n"), (b"5", b"0 8 16 0\n"))
@@ -47,7 +48,7 @@ for piece in (b"define(`n',", b"`5", b"')n"):
         slow.wait(0.1)
     except subprocess.TimeoutExpired:
         pass
-check("a text that comes in pieces", slow.communicate(), (b"5", b"0 8 16 0\n"))
+check("a text that comes in pieces", (*slow.communicate(), slow.returncode), (b"5", b"0 8 16 0\n"))
 check("a closed standard output", run_shell(">&-", b"text"), (b"", UNWRITTEN))
 check("a closed standard output, and nothing to write", run_shell(">&-", b""), (b"", b"0 1 0 0\n"))
 check("a full disk", run_shell(">/dev/full", b"text"), (b"", UNWRITTEN))

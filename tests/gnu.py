@@ -2,7 +2,7 @@
 """gnu.py [SEED COUNT] | --store: an independent m4, GNU m4, as the judge of the program `expand` where both have one rule.
 
 Compared are output, error text and exit number: the templates of tests/gnu/templates and the random texts of tests/gnu/random.jsonl with what GNU m4
-gave for them when they were stored, and, where `m4` is installed, with what it gives now, as `m4` and as `m4 -G`; then COUNT more random texts (tests/gnu/texts.py,
+gave for them when they were stored, and with what it gives now, as `m4` and as `m4 -G`; then COUNT more random texts (tests/gnu/texts.py,
 default 300 from seed 1000). The answer must be done or exit. Every example of docs/GNU.md, where the rules differ, must come out as that page says.
 --store writes the stored results anew, by GNU m4 alone. Ends with 'N passed, M failed'; exit status 0 only if M is 0.
 """
@@ -179,7 +179,7 @@ def did(given):
     return given.answer
 
 
-def check_example(example, live):
+def check_example(example):
     name = "docs/GNU.md, line %d" % example.line
     if not example.given:
         return check(name, False, "no text with what 01 and GNU make of it")
@@ -187,24 +187,37 @@ def check_example(example, live):
     check(name, any(ours != other for other in theirs), "the example shows no difference")
     given = did(expand(example.text))
     check(name, given == ours, "expand gives %r" % (given,))
-    for judge, wanted in zip(JUDGES, theirs) if live else ():
+    for judge, wanted in zip(JUDGES, theirs):
         given = did(gnu(judge, example.text))
         check(name, given == wanted, "%s gives %r" % (" ".join(judge), given))
 
 
+def check_nothing_left_out():
+    """Each table that is gone through has what it should."""
+    check("tests/gnu/templates", len(templates()) > 0, "there is none")
+    with open(RANDOM, encoding="ascii") as f:
+        seeds = [json.loads(line)["seed"] for line in f]
+    check("tests/gnu/random.jsonl", seeds == list(STORED_SEEDS), "it has the seeds %r" % seeds)
+    check("docs/GNU.md", len(list(examples())) > 0, "it has no example")
+
+
 def main():
-    live = shutil.which("m4") is not None
+    if not shutil.which("m4"):
+        print("m4 is not installed")
+        print("0 passed, 1 failed")
+        sys.exit(1)
     if sys.argv[1:] == ["--store"]:
-        return store() if live else sys.exit("m4 is not installed")
+        return store()
     first, count = (int(n) for n in sys.argv[1:]) if len(sys.argv) == 3 else (1000, 300)
-    print("compared with stored results" + (" and live with " + run(["m4", "--version"], b"").stdout.decode().split("\n")[0] if live else " only: m4 is not installed"))
+    print("compared with stored results and live with " + run(["m4", "--version"], b"").stdout.decode().split("\n")[0])
+    check_nothing_left_out()
     for name, text, wanted in stored():
         judged(name, text, wanted)
-        for judge in JUDGES if live else ():
+        for judge in JUDGES:
             alike("%s, %s now" % (name, " ".join(judge)), gnu(judge, text), wanted)
     for example in examples():
-        check_example(example, live)
-    for seed in range(first, first + count) if live else ():
+        check_example(example)
+    for seed in range(first, first + count):
         text = texts.text(seed)
         wanted = gnu(JUDGES[0], text)
         judged("random text %d" % seed, text, wanted)

@@ -38,6 +38,10 @@ fn run_table(table: &str) -> (usize, usize) {
             }
         }
     }
+    if passed + failed == 0 {
+        println!("the table has no line");
+        failed = 1;
+    }
     (passed, failed)
 }
 
