@@ -1,17 +1,18 @@
 #!/usr/bin/env python3
 """evaluate_cost.py: an expression of eight times the length costs eval at most nine times the instructions.
 
-Counts the instructions of the program target/bin/evaluate (it reads an expression and writes what it comes to) under valgrind's callgrind,
+Counts the instructions of the program target/bin/evaluate (it reads an expression and writes what it comes to; see bench/counted.py),
 less those for the expression `1`, at 8 KB and at 64 KB, for each kind of long expression. Each must come to what it says here. Ends with
 'N passed, M failed'; exit status 0 only if M is 0.
 """
 import os
-import re
-import subprocess
 import sys
-import tempfile
 
+sys.dont_write_bytecode = True
 ROOT = os.path.dirname(os.path.dirname(os.path.abspath(__file__)))
+sys.path.insert(0, os.path.join(ROOT, "bench"))
+from counted import Counter  # noqa: E402
+
 PROGRAM = os.path.join(ROOT, "target", "bin", "evaluate")
 MOST = 9.0
 
@@ -34,21 +35,19 @@ KINDS = {
 }
 
 
-def instructions(text, value):
-    with tempfile.TemporaryDirectory() as folder:
-        run = subprocess.run(["valgrind", "--tool=callgrind", "--callgrind-out-file=" + os.path.join(folder, "out"), PROGRAM],
-                             input=text.encode(), capture_output=True)
-    found = re.search(rb"Collected : (\d+)", run.stderr)
-    if run.returncode != 0 or not found or run.stdout != b"%d\n" % value:
-        sys.exit("an expression of %d bytes came to %r instead of %d, or was not counted: %s" % (len(text), run.stdout, value, run.stderr[-500:]))
-    return int(found.group(1))
+def instructions(counter, text, value):
+    counted = counter.run(PROGRAM, text.encode())
+    if counted.output != b"%d\n" % value:
+        sys.exit("an expression of %d bytes came to %.60r instead of %d" % (len(text), counted.output, value))
+    return counted.instructions
 
 
 def main():
     passed = failed = 0
-    base = instructions("1", 1)
+    counter = Counter()
+    base = instructions(counter, "1", 1)
     for name, (build, value) in KINDS.items():
-        small, large = (instructions(text, value(text)) - base for text in (build(8192), build(65536)))
+        small, large = (instructions(counter, text, value(text)) - base for text in (build(8192), build(65536)))
         ratio = large / small
         print("%-32s %9d at 8 KB %10d at 64 KB, ratio %.2f, %.1f a byte" % (name, small, large, ratio, large / 65536))
         if ratio <= MOST:

@@ -1,0 +1,290 @@
+"""For each macro, for a defined text and for the end of a run: texts of a given size on which one step of it costs most, with what they come to.
+
+A text that lacks its last parenthesis is refused at its end; with it, the call is closed, which is the step in question. Steps, place, output and
+error text of both runs are counted by hand from the way in which the text is made; document 01 is the only source.
+"""
+import collections
+
+# a text and the steps that it takes
+Piece = collections.namedtuple("Piece", "text steps")
+# a text, and what `expand` writes on standard output and standard error
+Run = collections.namedtuple("Run", "text output errors")
+# two texts that differ by the step in question; whether its cost grows with the size
+Worst = collections.namedtuple("Worst", "without whole grows")
+
+END = 1  # the step that ends a run
+MOST_ARGUMENTS = 256
+MANY = 64  # arguments, where each is long beside what it costs for itself
+SIGNS = b"`'" + bytes(b for b in range(256) if b not in b"`'")  # every byte, in an order that is balanced in quotes
+
+
+def joined(*pieces):
+    return Piece(b"".join(p.text for p in pieces), sum(p.steps for p in pieces))
+
+
+def opened(name, *arguments):
+    """A call up to its last parenthesis: the name with the first one is a step, and so is each quoted argument and each comma."""
+    return Piece(name + b"(" + b",".join(b"`%s'" % a for a in arguments), 2 * len(arguments))
+
+
+def made(name, *arguments):
+    return joined(opened(name, *arguments), Piece(b")", 1))
+
+
+def run(text, steps, output=b"", errors=b"", number=0, detail=0):
+    """A run that takes the whole text."""
+    return Run(text, output, errors + b"%d %d %d %d\n" % (number, steps, len(text), detail))
+
+
+def closed(before, after=Piece(b"", 0), given=0, grows=True, steps=END, **told):
+    """The call that `before` leaves open is closed; `given` is how many steps are in what it gives, `after` what stands behind it."""
+    without = run(before.text, before.steps, number=5, detail=3)
+    whole = run(before.text + b")" + after.text, before.steps + 1 + given + after.steps + steps, **told)
+    return Worst(without, whole, grows)
+
+
+def words(n):
+    """Definitions in n bytes of text: names that differ in their last bytes only, each with a text of two bytes."""
+    return joined(*(made(b"define", b"name%05d" % k, b"ab") for k in range(n // 24)))
+
+
+def nine_streams(n):
+    """n bytes in streams 1 to 9, each byte in another one than the last; stream 9 is the current one. A turn is a call, nine times divert(k) and a digit, and
+    an empty quote."""
+    turns = n // 9
+    text = b"".join(b"divert(%d)%d" % (k, k) for k in range(1, 10))
+    return joined(made(b"define", b"u", text), Piece(b"u`'" * turns, (1 + 9 * 4 + 1) * turns))
+
+
+def in_order(n, streams):
+    """What comes out of nine_streams(n) when they are written out in this order."""
+    return b"".join(b"%d" % k * (n // 9) for k in streams)
+
+
+# the macros in the order of their numbers
+
+
+def changecom(n):
+    return closed(opened(b"changecom", b"!", b"?", b"a" * n), Piece(b"!`a'?", 1), output=b"!`a'?", grows=False)
+
+
+def changequote(n):
+    return closed(opened(b"changequote", b"[", b"]", b"a" * n), Piece(b"[a`]", 1), output=b"a`", grows=False)
+
+
+def decr(n):
+    return closed(opened(b"decr", b"0" * n + b"1"), given=1, output=b"0")
+
+
+def define_shifts(n):
+    """The oldest definition becomes longer, and all others move."""
+    return closed(joined(made(b"define", b"a", b"b"), words(n), opened(b"define", b"a", b"bb")), Piece(b"a", 2), output=b"bb")
+
+
+def define_copies(n):
+    return closed(opened(b"define", b"a", b"b" * n), Piece(b"a", 2), output=b"b" * n)
+
+
+def defn_copies(n):
+    return closed(joined(made(b"define", b"a", b"b" * n), opened(b"defn", b"a")), given=1, output=b"b" * n)
+
+
+def defn_searches(n):
+    """Each argument is the oldest definition."""
+    many = MOST_ARGUMENTS - 1
+    return closed(joined(made(b"define", b"a", b"b"), words(n), opened(b"defn", *[b"a"] * many)), given=many, output=b"b" * many)
+
+
+def divert(n):
+    return closed(opened(b"divert", b"0" * n + b"1"), Piece(b"x", 1), output=b"x")
+
+
+def divnum(n):
+    return closed(opened(b"divnum", b"a" * n), given=1, output=b"0", grows=False)
+
+
+def dnl(n):
+    """The two runs differ by the length of the line that is dropped."""
+    return Worst(run(b"dnl\n", 1 + END), run(b"dnl%s\n" % (b"#" * n), 1 + END), True)
+
+
+def errprint(n):
+    arguments = [b"a" * (n // MANY)] * MANY
+    return closed(opened(b"errprint", *arguments), errors=b" ".join(arguments))
+
+
+def evaluate(n):
+    """1<1 is 0 and 0<1 is 1, so an even number of comparisons gives 1."""
+    return closed(opened(b"eval", b"1" + b"<1<1" * (n // 4)), given=1, output=b"1")
+
+
+def ifdef(n):
+    return closed(joined(words(n), opened(b"ifdef", b"name99999", b"a", b"b")), given=1, output=b"b")
+
+
+def ifelse_compares(n):
+    """85 pairs that differ in their last byte, and what is given if none is equal."""
+    long = b"a" * (n // 170)
+    return closed(opened(b"ifelse", *[long + b"b", long + b"c", b"y"] * 85, b"x"), given=1, output=b"x")
+
+
+def ifelse_copies(n):
+    return closed(opened(b"ifelse", b"a", b"a", b"b" * n), given=1, output=b"b" * n)
+
+
+def incr(n):
+    return closed(opened(b"incr", b"0" * n + b"1"), given=1, output=b"2")
+
+
+def index(n):
+    """Wherever it is looked for, all but the last byte is there."""
+    return closed(opened(b"index", b"a" * (n * 2 // 3), b"a" * (n // 3) + b"b"), given=2, output=b"-1")
+
+
+def length(n):
+    """A digit is a step."""
+    return closed(opened(b"len", b"a" * n), given=len(str(n)), output=b"%d" % n, grows=False)
+
+
+def m4exit(n):
+    return closed(opened(b"m4exit", b"0" * n + b"1"), steps=0, number=1, detail=1)
+
+
+def m4wrap(n):
+    """At the end the wrap text becomes pending, which is a step, and then it is a name."""
+    return closed(opened(b"m4wrap", b"a" * n), given=2, output=b"a" * n)
+
+
+def popdef(n):
+    """Each argument uncovers one of 200 definitions below all others, which move each time."""
+    hidden = joined(*[made(b"pushdef", b"a", b"b")] * 200)
+    return closed(joined(hidden, words(n), opened(b"popdef", *[b"a"] * 200)), Piece(b"a", 1), output=b"a")
+
+
+def pushdef(n):
+    return closed(opened(b"pushdef", b"a", b"b" * n), Piece(b"a", 2), output=b"b" * n)
+
+
+def shift(n):
+    """A quoted argument is a step, and so is a comma."""
+    rest = [b"a" * (n // MANY)] * (MANY - 1)
+    return closed(opened(b"shift", b"b", *rest), given=2 * len(rest) - 1, output=b",".join(rest))
+
+
+def substr(n):
+    return closed(opened(b"substr", b"b" + b"a" * n, b"1", b"%d" % n), given=1, output=b"a" * n)
+
+
+def translit(n):
+    """Every byte has a letter as partner, but for the last 56, which go."""
+    partners = bytes(b"abcdefghijklmnopqrstuvwxyz"[k % 26] for k in range(200))
+    return closed(opened(b"translit", SIGNS * (n // 256), SIGNS, partners), given=1, output=partners * (n // 256))
+
+
+def undefine_moves(n):
+    """Every other definition goes."""
+    pairs = joined(*[made(b"pushdef", b"a", b"b"), made(b"pushdef", b"c", b"d")] * (n // 32))
+    return closed(joined(pairs, opened(b"undefine", b"a")), Piece(b"a`'c", 4), output=b"ad")
+
+
+def undefine_searches(n):
+    unknown = [b"name99999"] * (MOST_ARGUMENTS - 1)
+    return closed(joined(words(n), opened(b"undefine", *unknown)), Piece(b"name00000", 2), output=b"ab")
+
+
+def undivert_to_output(n):
+    numbers = range(9, 0, -1)
+    before = joined(nine_streams(n), made(b"divert", b"0"), opened(b"undivert", *(b"%d" % k for k in numbers)))
+    return closed(before, output=in_order(n, numbers))
+
+
+def undivert_to_stream(n):
+    """Streams 8 to 1 behind what is in stream 9; that is skipped, as it is the current one."""
+    numbers = range(9, 0, -1)
+    before = joined(nine_streams(n), opened(b"undivert", *(b"%d" % k for k in numbers)))
+    return closed(before, output=in_order(n, numbers))
+
+
+def undivert_to_nowhere(n):
+    before = joined(nine_streams(n), made(b"divert", b"-1"), opened(b"undivert", *(b"%d" % k for k in range(1, 10))))
+    return closed(before)
+
+
+def undivert_all(n):
+    """Without arguments, beside a run that drops the streams."""
+    before = joined(nine_streams(n), made(b"divert", b"0"))
+    return Worst(run(before.text + b"m4exit", before.steps + 1, number=1),
+                 run(before.text + b"undivert", before.steps + 1 + END, output=in_order(n, range(1, 10))), True)
+
+
+# not of one macro
+
+
+def the_end(n):
+    """All streams are written out, beside a run that drops them."""
+    before = nine_streams(n)
+    return Worst(run(before.text + b"m4exit", before.steps + 1, number=1), run(before.text, before.steps + END, output=in_order(n, range(1, 10))), True)
+
+
+def text_of_references(n):
+    """Each $9 is the ninth argument, of one byte."""
+    text = b"$9" * (n // 2)
+    return closed(joined(made(b"define", b"f", text), opened(b"f", *[b""] * 8, b"x")), given=1, output=b"x" * (n // 2))
+
+
+def text_of_lists(n):
+    """$@ is each argument in quotes, with commas between."""
+    many = [b"a" * (n // MANY)] * MANY
+    return closed(joined(made(b"define", b"f", b"$@"), opened(b"f", *many)), given=2 * len(many) - 1, output=b",".join(many))
+
+
+def text_at_once(n):
+    """Called without arguments, beside a run that does not call it."""
+    before = made(b"define", b"f", b"a" * n)
+    return Worst(run(before.text, before.steps + END), run(before.text + b"f", before.steps + 2 + END, output=b"a" * n), True)
+
+
+def name_across_the_border(n):
+    """A name that begins in what a call gave, and ends in the input."""
+    before = joined(made(b"define", b"f", b"a" * (n // 2)), opened(b"f", b""))
+    return closed(before, Piece(b"b" * (n // 2), 0), given=1, output=b"a" * (n // 2) + b"b" * (n // 2))
+
+
+WORST = {
+    "changecom": changecom,
+    "changequote": changequote,
+    "decr": decr,
+    "define, all others move": define_shifts,
+    "define, a long text": define_copies,
+    "defn, a long text": defn_copies,
+    "defn, 255 arguments": defn_searches,
+    "divert": divert,
+    "divnum": divnum,
+    "dnl": dnl,
+    "errprint, 64 arguments": errprint,
+    "eval": evaluate,
+    "ifdef": ifdef,
+    "ifelse, 85 comparisons": ifelse_compares,
+    "ifelse, a long text": ifelse_copies,
+    "incr": incr,
+    "index": index,
+    "len": length,
+    "m4exit": m4exit,
+    "m4wrap": m4wrap,
+    "popdef, 200 arguments": popdef,
+    "pushdef": pushdef,
+    "shift, 64 arguments": shift,
+    "substr": substr,
+    "translit, every byte": translit,
+    "undefine, pushed often": undefine_moves,
+    "undefine, 255 arguments": undefine_searches,
+    "undivert to the output": undivert_to_output,
+    "undivert to a stream": undivert_to_stream,
+    "undivert to nowhere": undivert_to_nowhere,
+    "undivert, all nine": undivert_all,
+    "the end, nine streams": the_end,
+    "a text of references": text_of_references,
+    "a text of 64 arguments": text_of_lists,
+    "a text called at once": text_at_once,
+    "a name across the border": name_across_the_border,
+}
