@@ -2,15 +2,17 @@
 """edits.py [ROOT]: each must-fail edit was refused for a fact, and not because a proof file no longer fits the edited code.
 
 Reads the logs that `rt ci` left under target/must-fail (of ROOT, by default this repository). An edit counts as failed where its log is
-missing, or has a line that says that the code has no need of a name which the proof file answers: such a refusal shows nothing.
+missing or has no refusal of a proof, or has a line that says that the code has no need of a name which the proof file answers: such a refusal shows nothing.
 Ends with 'N passed, M failed'; exit status 0 only if M is 0.
 """
 import glob
 import os
+import re
 import sys
 
 HERE = os.path.dirname(os.path.dirname(os.path.abspath(__file__)))
 ROOT = sys.argv[1] if len(sys.argv) > 1 else HERE
+REFUSAL = re.compile(r"^\S+/proofs/\S+\.antt:\d+:\d+: error: |^fn \S+: no proof: ", re.M)
 
 
 def main():
@@ -22,6 +24,9 @@ def main():
         text = open(log, encoding="utf-8", errors="replace").read() if os.path.exists(log) else None
         if text is None:
             print("%s/%s: it left no log" % (crate, label))
+            failed += 1
+        elif "logic=not-proved" not in text or not REFUSAL.search(text):
+            print("%s/%s: its log has no refusal of a proof" % (crate, label))
             failed += 1
         elif "has no `Need-" in text:
             print("%s/%s: refused because the proof file does not fit the edited code" % (crate, label))
