@@ -157,12 +157,12 @@ def test_header(folder):
 
 def test_archive():
     """It exports one function, asks the host for none but C's memory functions, and has no state: no writable data."""
-    symbols = subprocess.run(["nm", ARCHIVE], capture_output=True, text=True).stdout
+    symbols = subprocess.run(["nm", ARCHIVE], capture_output=True, text=True, check=True).stdout
     kinds = re.findall(r"^[0-9a-f ]{16} (\S) (.+)$", symbols, re.M)
     check("what the archive exports", [name for kind, name in kinds if kind in "TDBRVWCu"], ["quenhovach_expand"])
     asked = {name for kind, name in kinds if kind == "U"}
     check("what the archive asks for", asked - {"memcpy", "memset", "memmove", "memcmp"}, set())
-    sizes = subprocess.run(["size", ARCHIVE], capture_output=True, text=True).stdout.split("\n")[1].split()
+    sizes = subprocess.run(["size", ARCHIVE], capture_output=True, text=True, check=True).stdout.split("\n")[1].split()
     check("writable data of the archive", sizes[1:3], ["0", "0"])
 
 

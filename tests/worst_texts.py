@@ -13,6 +13,8 @@ Run = collections.namedtuple("Run", "text output errors")
 Worst = collections.namedtuple("Worst", "without whole grows")
 
 END = 1  # the step that ends a run
+MACROS = ("changecom changequote decr define defn divert divnum dnl errprint eval ifdef ifelse incr index len m4exit m4wrap popdef pushdef shift substr translit "
+          "undefine undivert").split()
 MOST_ARGUMENTS = 256
 MANY = 64  # arguments, where each is long beside what it costs for itself
 SIGNS = b"`'" + bytes(b for b in range(256) if b not in b"`'")  # every byte, in an order that is balanced in quotes
@@ -116,6 +118,11 @@ def errprint(n):
 def evaluate(n):
     """1<1 is 0 and 0<1 is 1, so an even number of comparisons gives 1."""
     return closed(opened(b"eval", b"1" + b"<1<1" * (n // 4)), given=1, output=b"1")
+
+
+def evaluate_wide(n):
+    """The number gets n digits, and each is a step."""
+    return closed(opened(b"eval", b"1", b"10", b"%d" % n), given=n, output=b"0" * (n - 1) + b"1")
 
 
 def ifdef(n):
@@ -262,7 +269,8 @@ WORST = {
     "divnum": divnum,
     "dnl": dnl,
     "errprint, 64 arguments": errprint,
-    "eval": evaluate,
+    "eval, a long chain": evaluate,
+    "eval, many digits": evaluate_wide,
     "ifdef": ifdef,
     "ifelse, 85 comparisons": ifelse_compares,
     "ifelse, a long text": ifelse_copies,
@@ -288,3 +296,8 @@ WORST = {
     "a text called at once": text_at_once,
     "a name across the border": name_across_the_border,
 }
+
+
+def without_text():
+    """The macros that none of these is about."""
+    return [name for name in MACROS if not any(key.replace(",", " ").split()[0] == name for key in WORST)]

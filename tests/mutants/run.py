@@ -29,7 +29,7 @@ TABLE = os.path.join(ROOT, "docs", "MUTANTS.md")
 SEED, CASES = "1", "20000"
 PATIENCE = 900
 
-# name, file and words of each test, in the order in which they are run; one whose file is not there is left out
+# name, file and words of each test, in the order in which they are run
 TESTS = [
     ("expand_program", "tests/expand_program.py", []),
     ("c_example", "tests/c_example.py", []),
@@ -166,10 +166,6 @@ def install(tree):
                 shutil.copy(os.path.join(out, name), os.path.join(tree, "target", folder, name))
 
 
-def tests_of(tree):
-    return [test for test in TESTS if os.path.exists(os.path.join(tree, test[1]))]
-
-
 def clean_passes(tree):
     """The source as it stands is built and passes every test."""
     try:
@@ -177,7 +173,7 @@ def clean_passes(tree):
     except BuildError as fault:
         print("the source as it stands: %s" % fault)
         return False
-    caught = [catch(tree, *test) for test in tests_of(tree)]
+    caught = [catch(tree, *test) for test in TESTS]
     for name, said in filter(None, caught):
         print("the source as it stands fails %s:\n%s" % (name, said[-3000:]))
     return not any(caught)
@@ -191,7 +187,7 @@ def catchers(tree, edit):
     finally:
         for path, text in before.items():
             write(path, text)
-    *most, last = tests_of(tree)
+    *most, last = TESTS
     caught = [found[0] for found in (catch(tree, *test) for test in most) if found]
     if not caught:
         caught = [found[0] for found in [catch(tree, *last)] if found]
@@ -230,7 +226,7 @@ def main():
     with tempfile.TemporaryDirectory() as folder:
         tree = os.path.join(folder, "tree")
         shutil.copytree(ROOT, tree, ignore=shutil.ignore_patterns(".git", "target", "__pycache__"))
-        tried = [test[0] for test in tests_of(tree)]
+        tried = [test[0] for test in TESTS]
         if clean_passes(tree):
             print("the source as it stands passes %s (%d s)" % (", ".join(tried), time.time() - began), flush=True)
             rows = try_edits(tree, [edit for edit in edits if not names or edit.name in names])
