@@ -220,22 +220,22 @@ module _ {a : Setting} {b : Memory} {m : Machine} {x : Arguments} {w : Option Me
   -- what it gives, by what was found
   module _ (name : Bytes) {b′ : Memory} {t : Turn} where
     pub calls-text :
-        {v : Bytes} {i : ℕ} → r ≡ looked.Text i → v ≡ name
-        → Gives a (giving (yields (substituted v args (s .marks) (getD (rows (s .table .definitions)) (2 * i + 1) []))) s) b′ t → Gives a (called w name args s) b′ t
+        {before : Memory} {v : Bytes} {i : ℕ} → r ≡ looked.Text i → v ≡ name
+        → Gives a before (giving (yields (substituted v args (s .marks) (getD (rows (s .table .definitions)) (2 * i + 1) []))) s) b′ t → Gives a before (called w name args s) b′ t
     unfolding called performed
-    calls-text {v} {i} e n g =
+    calls-text {v = v} {i} e n g =
         let y = getD (rows (s .table .definitions)) (2 * i + 1) [] in
         gives-as
         (ap (λ (o : Option Meaning). called o name args s) (finds-text (found-as e)) ∙ ap (λ (u : Bytes). giving (yields (substituted u args (s .marks) y)) s) (sym n)) g
 
-    pub calls-number : {k : ℕ} → r ≡ looked.Predefined k → Gives a (perform k args s) b′ t → Gives a (called w name args s) b′ t
+    pub calls-number : {before : Memory} {k : ℕ} → r ≡ looked.Predefined k → Gives a before (perform k args s) b′ t → Gives a before (called w name args s) b′ t
     unfolding called performed meaningFor
     calls-number e g = gives-as (ap (λ (o : Option Meaning). called o name args s) (found-as e .is)) g
 
-    pub calls-search : {k : ℕ} → r ≡ looked.Predefined k → k ≡ 14 → Gives a (perform 14 args s) b′ t → Gives a (called w name args s) b′ t
+    pub calls-search : {before : Memory} {k : ℕ} → r ≡ looked.Predefined k → k ≡ 14 → Gives a before (perform 14 args s) b′ t → Gives a before (called w name args s) b′ t
     calls-search e i g = calls-number (e ∙ ap looked.Predefined i) g
 
-    pub calls-nothing : {m′ : Machine} → r ≡ looked.Undefined → t ≡ turned (went.Refused answer.Gone) m′ → Gives a (called w name args s) b′ t
+    pub calls-nothing : {m′ : Machine} → r ≡ looked.Undefined → t ≡ turned (went.Refused answer.Gone) m′ → Gives a b′ (called w name args s) b′ t
     unfolding called meaningFor
     calls-nothing e g = gives-as (ap (λ (o : Option Meaning). called o name args s) (found-as e .is)) (gives-gone g)
 
@@ -249,8 +249,8 @@ sorted-search {k} e h = sorted k e h
 
 -- the turn that a machine makes of what is given, once it was made the same
 pub gives-after :
-    {a : Setting} {o : Outcome} {b : Memory} {m after : Machine} (g : Given) {t : Turn} → after ≡ m → t ≡ givenTurn after g
-    → Gives a o b (givenTurn m g) → Gives a o b t
+    {a : Setting} {o : Outcome} {before b : Memory} {m after : Machine} (g : Given) {t : Turn} → after ≡ m → t ≡ givenTurn after g
+    → Gives a before o b (givenTurn m g) → Gives a before o b t
 gives-after g e f h = gives-by refl (f ∙ ap (λ (k : Machine). givenTurn k g) e) h
 
 -- the innermost call, when it is closed
@@ -275,8 +275,8 @@ module _ {a : Setting} {b : Memory} {m : Machine} {s : State} {c : Call} {cs : L
       }
 
 pub closes :
-    {a : Setting} {b : Memory} {t : Turn} (c : Call) (cs : List Call) (s : State)
-    → Gives a (called (meaningOf (c .name) (withCalls cs s .table)) (c .name) (c .finished ++ (c .current ∷ [])) (withCalls cs s)) b t → Gives a (closed c cs s) b t
+    {a : Setting} {before b : Memory} {t : Turn} (c : Call) (cs : List Call) (s : State)
+    → Gives a before (called (meaningOf (c .name) (withCalls cs s .table)) (c .name) (c .finished ++ (c .current ∷ [])) (withCalls cs s)) b t → Gives a before (closed c cs s) b t
 unfolding closed withCalls
 closes c cs s g = g
 

@@ -21,7 +21,7 @@ use Rattle.expander.specs.declared.machine.Turn.{Turn}
 use Rattle.expander.specs.declared.machine.Went.the-variants as went
 use Rattle.expander.specs.declared.packed.Packed.{Packed}
 use Rattle.expander.specs.declared.table.Definitions.{Definitions}
-use Rattle.expander.specs.Machine.{memory, Means, Gives, tableSet, turned}
+use Rattle.expander.specs.Machine.{Memory, memory, Means, Gives, tableSet, turned}
 use Rattle.expander.specs.Table.{DefinitionsIn, TableIn}
 use Rattle.expander.proofs.Changing.{cost-used}
 use Rattle.expander.proofs.MachineLaws.{pending-fits, calls-fit, over-table}
@@ -75,7 +75,8 @@ module _
     module _ (f : Bytes → Meaning → Table → Table) {o : Outcome} (is : o ≡ naming f args s) {w : Bytes} (e : w ≡ arg 1 args) {q : Bool} (i : q ≡ isName w) where
       pub unnamed :
           not q ≡ true → t ≡ turned (went.Refused answer.Name) m
-          → Gives a o (memory text′ pending calls callEnds stack definitions tableEnds streams owners wrap errors output) t
+          → Gives a (memory text′ pending calls callEnds stack definitions tableEnds streams owners wrap errors output) o
+          (memory text′ pending calls callEnds stack definitions tableEnds streams owners wrap errors output) t
       unfolding naming faultAnswer
       unnamed n g =
           let h : isName (arg 1 args) ≡ false = ap isName (sym e) ∙ sym i ∙ not-true q n in
@@ -84,24 +85,25 @@ module _
       module _ {x : Bytes} (l : x ≡ arg 2 args) (n : not q ≡ false) where
         pub overfilled :
             length definitions < tableCost ((f w (text x) (s .table)) .definitions) → t ≡ turned (went.Refused (answer.Room 3)) m
-            → Gives a o (memory text′ pending calls callEnds stack definitions tableEnds streams owners wrap errors output) t
+            → Gives a (memory text′ pending calls callEnds stack definitions tableEnds streams owners wrap errors output) o
+            (memory text′ pending calls callEnds stack definitions tableEnds streams owners wrap errors output) t
         unfolding withTable
         overfilled h g =
             let u = withTable (f w (text x) (s .table)) s in
             turned-full u 2 (over-table a u (pending-fits r) (calls-fit r) (omega (arith, h, r .limits .definitions))) (naming-is f args s is e i l n) g
 
         pub named :
-            {definitions′ : Bytes} {tableEnds′ : List ℕ} {d : Definitions} {m′ : Machine} → TableIn definitions′ tableEnds′ (d .packed) (d .own) (f w (text x) (s .table))
+            {before : Memory} {definitions′ : Bytes} {tableEnds′ : List ℕ} {d : Definitions} {m′ : Machine} → TableIn definitions′ tableEnds′ (d .packed) (d .own) (f w (text x) (s .table))
             → length definitions′ ≡ length definitions → length tableEnds′ ≡ length tableEnds → m′ ≡ tableSet d m → t ≡ turned went.On m′
-            → Gives a o (memory text′ pending calls callEnds stack definitions′ tableEnds′ streams owners wrap errors output) t
+            → Gives a before o (memory text′ pending calls callEnds stack definitions′ tableEnds′ streams owners wrap errors output) t
         named h j k y g = turned-on (with-table r h j k) (naming-is f args s is e i l n) (g ∙ ap (turned went.On) y)
 
     -- each argument's definition has gone in turn
     pub removed :
         (f : Bytes → Table → Table) {o : Outcome} → o ≡ next (withTable (inTurn f args (s .table)) s)
-        → {definitions′ : Bytes} {tableEnds′ : List ℕ} {d : Definitions} {m′ : Machine} → TableIn definitions′ tableEnds′ (d .packed) (d .own) (inTurn f args (s .table))
+        → {before : Memory} {definitions′ : Bytes} {tableEnds′ : List ℕ} {d : Definitions} {m′ : Machine} → TableIn definitions′ tableEnds′ (d .packed) (d .own) (inTurn f args (s .table))
         → length definitions′ ≡ length definitions → length tableEnds′ ≡ length tableEnds → m′ ≡ tableSet d m → t ≡ turned went.On m′
-        → Gives a o (memory text′ pending calls callEnds stack definitions′ tableEnds′ streams owners wrap errors output) t
+        → Gives a before o (memory text′ pending calls callEnds stack definitions′ tableEnds′ streams owners wrap errors output) t
     removed f is h j k y g = turned-on (with-table r h j k) is (g ∙ ap (turned went.On) y)
 
 pub popdef-is : (args : List Bytes) (s : State) → callPopdef args s ≡ next (withTable (inTurn popped args (s .table)) s)

@@ -98,7 +98,7 @@ pub record Overfull (a : Setting) (t : State) (full : ℕ) : Type 0 where
   pub is : full ≡ buffer + 1
   pub over : overfull (held t) (lengths a) ≡ some buffer
 
-gives-overfull : {a : Setting} {b : Memory} {m : Machine} {t : State} {full : ℕ} → Overfull a t full → Gives a (next t) b (turned (went.Refused (answer.Room full)) m)
+gives-overfull : {a : Setting} {b : Memory} {m : Machine} {t : State} {full : ℕ} → Overfull a t full → Gives a b (next t) b (turned (went.Refused (answer.Room full)) m)
 gives-overfull {t = t} f = rw (f .is) (gives-room t (f .buffer) (f .over))
 
 module _ {a : Setting} {b : Memory} {m : Machine} {s : State} (r : Means a b m s) (x : Source) (px : length (x .pending) ≤ a .pending) where
@@ -203,13 +203,13 @@ module _ {a : Setting} {b : Memory} {m : Machine} {s : State} (r : Means a b m s
 
   -- a token goes to the current stream, or is collected
   module _ {b′ : Memory} {t : Turn} (w : Bytes) (u : State) where
-    pub delivers-out : m .calls .opens ≡ 0 → Gives a (next (emitting w u)) b′ t → Gives a (next (delivered w (s .calls) u)) b′ t
+    pub delivers-out : m .calls .opens ≡ 0 → Gives a b (next (emitting w u)) b′ t → Gives a b (next (delivered w (s .calls) u)) b′ t
     unfolding delivered
     delivers-out e g = rw (no-calls r e) g
 
     pub delivers-in :
-        (m .calls .opens ≡ 0 → ⊥) → ((c : Call) (cs : List Call) → s .calls ≡ c ∷ cs → Gives a (next (withCalls (collecting w (c .depth) c ∷ cs) u)) b′ t)
-        → Gives a (next (delivered w (s .calls) u)) b′ t
+        (m .calls .opens ≡ 0 → ⊥) → ((c : Call) (cs : List Call) → s .calls ≡ c ∷ cs → Gives a b (next (withCalls (collecting w (c .depth) c ∷ cs) u)) b′ t)
+        → Gives a b (next (delivered w (s .calls) u)) b′ t
     unfolding delivered
     delivers-in f g = let i = some-call r f in rw (i .is) (g (i .call) (i .others) (i .is))
 
@@ -217,14 +217,14 @@ module _ {a : Setting} {b : Memory} {m : Machine} {s : State} (r : Means a b m s
   after width = omega (arith, shorter width (s .source), pending-fits r)
 
   pub token-full :
-      {b′ : Memory} (w : Bytes) (n width full : ℕ) → length w ≡ n → full ≡ fullBuffer (m .sinks .current) n (length (b .streams) - m .sinks .waiting) (length (b .output) - m .sinks .output)
-      → (full ≡ 0 → ⊥) → Gives a (next (emitting w (taking width s))) b′ (turned (went.Refused (answer.Room full)) m)
+      (w : Bytes) (n width full : ℕ) → length w ≡ n → full ≡ fullBuffer (m .sinks .current) n (length (b .streams) - m .sinks .waiting) (length (b .output) - m .sinks .output)
+      → (full ≡ 0 → ⊥) → Gives a b (next (emitting w (taking width s))) b (turned (went.Refused (answer.Room full)) m)
   unfolding taking
   token-full w n width full en ef nz = gives-overfull (emit-over r (advance width (s .source)) (after width) w n full en ef nz)
 
   pub byte-full :
-      {b′ : Memory} (z full : ℕ) → full ≡ fullBuffer (m .sinks .current) 1 (length (b .streams) - m .sinks .waiting) (length (b .output) - m .sinks .output)
-      → (full ≡ 0 → ⊥) → Gives a (next (emitting (z ∷ []) s)) b′ (turned (went.Refused (answer.Room full)) m)
+      (z full : ℕ) → full ≡ fullBuffer (m .sinks .current) 1 (length (b .streams) - m .sinks .waiting) (length (b .output) - m .sinks .output)
+      → (full ≡ 0 → ⊥) → Gives a b (next (emitting (z ∷ []) s)) b (turned (went.Refused (answer.Room full)) m)
   unfolding withSource
   byte-full z full ef nz = gives-overfull (emit-over r (s .source) (pending-fits r) (z ∷ []) 1 full refl ef nz)
 
@@ -237,7 +237,7 @@ module _ {a : Setting} {b : Memory} {m : Machine} {s : State} (r : Means a b m s
           {p : Position} (start n width : ℕ)
           → SinksIn streams′ owners′ output′ k (placed (s .streams .current) (take n (drop start (lentAhead (b .text) (b .pending) (m .source)))) (s .streams))
           → SourceIn (b .text) (b .pending) p (advance width (s .source))
-          → Gives a (next (emitting (take n (drop start (ahead (s .source)))) (taking width s))) (sinksAt streams′ owners′ output′ b) (turned went.On (sinksSet k (sourceSet p m)))
+          → Gives a b (next (emitting (take n (drop start (ahead (s .source)))) (taking width s))) (sinksAt streams′ owners′ output′ b) (turned went.On (sinksSet k (sourceSet p m)))
       unfolding emitting changing changedInTurn changed taking withSource
       token-emitted {p} start n width h q =
           let g : SinksIn streams′ owners′ output′ k (placed (s .streams .current) (take n (drop start (ahead (s .source)))) (s .streams)) =
@@ -246,30 +246,30 @@ module _ {a : Setting} {b : Memory} {m : Machine} {s : State} (r : Means a b m s
 
       pub byte-emitted :
           (z : ℕ) → SinksIn streams′ owners′ output′ k (placed (s .streams .current) (z ∷ []) (s .streams))
-          → Gives a (next (emitting (z ∷ []) s)) (sinksAt streams′ owners′ output′ b) (turned went.On (sinksSet k m))
+          → Gives a b (next (emitting (z ∷ []) s)) (sinksAt streams′ owners′ output′ b) (turned went.On (sinksSet k m))
       unfolding emitting changing changedInTurn changed
       byte-emitted z h = gives-next (with-sinks r h e-streams e-owners e-output)
 
   -- ---- bytes that a call collects
 
   collect-over :
-      (x : Source) → length (x .pending) ≤ a .pending → {b′ : Memory} (w : Bytes) (n d : ℕ) (c : Call) (cs : List Call) → s .calls ≡ c ∷ cs → length w ≡ n
+      (x : Source) → length (x .pending) ≤ a .pending → (w : Bytes) (n d : ℕ) (c : Call) (cs : List Call) → s .calls ≡ c ∷ cs → length w ≡ n
       → length (b .calls) - m .calls .strings .used < n
-      → Gives a (next (withCalls (collecting w d c ∷ cs) (withSource x s))) b′ (turned (went.Refused (answer.Room 2)) m)
+      → Gives a b (next (withCalls (collecting w d c ∷ cs) (withSource x s))) b (turned (went.Refused (answer.Room 2)) m)
   collect-over x px w n d c cs e en h =
       gives-room (withCalls (collecting w d c ∷ cs) (withSource x s)) 1
       (calls-over r x px (collecting w d c ∷ cs)
       (omega (arith, cost-collected w d c cs, ap callsCost e, calls-held (r .calls), r .calls .strings .used-in, r .limits .calls)))
 
   pub collect-full :
-      {b′ : Memory} (w : Bytes) (n d width : ℕ) (c : Call) (cs : List Call) → s .calls ≡ c ∷ cs → length w ≡ n → length (b .calls) - m .calls .strings .used < n
-      → Gives a (next (withCalls (collecting w d c ∷ cs) (taking width s))) b′ (turned (went.Refused (answer.Room 2)) m)
+      (w : Bytes) (n d width : ℕ) (c : Call) (cs : List Call) → s .calls ≡ c ∷ cs → length w ≡ n → length (b .calls) - m .calls .strings .used < n
+      → Gives a b (next (withCalls (collecting w d c ∷ cs) (taking width s))) b (turned (went.Refused (answer.Room 2)) m)
   unfolding taking
   collect-full w n d width c cs e en h = collect-over (advance width (s .source)) (after width) w n d c cs e en h
 
   pub collect-one-full :
-      {b′ : Memory} (z d : ℕ) (c : Call) (cs : List Call) → s .calls ≡ c ∷ cs → length (b .calls) ≤ m .calls .strings .used
-      → Gives a (next (withCalls (collecting (z ∷ []) d c ∷ cs) s)) b′ (turned (went.Refused (answer.Room 2)) m)
+      (z d : ℕ) (c : Call) (cs : List Call) → s .calls ≡ c ∷ cs → length (b .calls) ≤ m .calls .strings .used
+      → Gives a b (next (withCalls (collecting (z ∷ []) d c ∷ cs) s)) b (turned (went.Refused (answer.Room 2)) m)
   unfolding withSource
   collect-one-full z d c cs e h = collect-over (s .source) (pending-fits r) (z ∷ []) 1 d c cs e refl (omega arith)
 
@@ -277,12 +277,12 @@ module _ {a : Setting} {b : Memory} {m : Machine} {s : State} (r : Means a b m s
       {calls′ : Bytes} {ends′ stack′ : List ℕ} {k : Calls} (e-calls : length calls′ ≡ length (b .calls)) (e-ends : length ends′ ≡ length (b .callEnds))
       (e-stack : length stack′ ≡ length (b .stack))
     where
-      pub calls-changed : (cs : List Call) → CallsIn calls′ ends′ stack′ k cs → Gives a (next (withCalls cs s)) (callsAt calls′ ends′ stack′ b) (turned went.On (callsSet k m))
+      pub calls-changed : (cs : List Call) → CallsIn calls′ ends′ stack′ k cs → Gives a b (next (withCalls cs s)) (callsAt calls′ ends′ stack′ b) (turned went.On (callsSet k m))
       calls-changed cs h = gives-next (with-calls r h e-calls e-ends e-stack)
 
       both-changed :
           {p : Position} (cs : List Call) (width : ℕ) → CallsIn calls′ ends′ stack′ k cs → SourceIn (b .text) (b .pending) p (advance width (s .source))
-          → Gives a (next (withCalls cs (taking width s))) (callsAt calls′ ends′ stack′ b) (turned went.On (callsSet k (sourceSet p m)))
+          → Gives a b (next (withCalls cs (taking width s))) (callsAt calls′ ends′ stack′ b) (turned went.On (callsSet k (sourceSet p m)))
       unfolding taking
       both-changed cs width h q = gives-next (with-calls (with-source r q refl) h e-calls e-ends e-stack)
 
@@ -290,7 +290,7 @@ module _ {a : Setting} {b : Memory} {m : Machine} {s : State} (r : Means a b m s
           {p : Position} (start n width : ℕ) (c : Call) (cs : List Call)
           → CallsIn calls′ ends′ stack′ k (collecting (take n (drop start (lentAhead (b .text) (b .pending) (m .source)))) (c .depth) c ∷ cs)
           → SourceIn (b .text) (b .pending) p (advance width (s .source))
-          → Gives a (next (withCalls (collecting (take n (drop start (ahead (s .source)))) (c .depth) c ∷ cs) (taking width s))) (callsAt calls′ ends′ stack′ b)
+          → Gives a b (next (withCalls (collecting (take n (drop start (ahead (s .source)))) (c .depth) c ∷ cs) (taking width s))) (callsAt calls′ ends′ stack′ b)
           (turned went.On (callsSet k (sourceSet p m)))
       token-collected start n width c cs h q =
           let g : CallsIn calls′ ends′ stack′ k (collecting (take n (drop start (ahead (s .source)))) (c .depth) c ∷ cs) =
@@ -299,16 +299,16 @@ module _ {a : Setting} {b : Memory} {m : Machine} {s : State} (r : Means a b m s
 
   -- ---- a call is opened
 
-  refuses-deep : {b′ : Memory} {o : Outcome} → o ≡ refused deep → Gives a o b′ (turned (went.Refused answer.Deep) m)
+  refuses-deep : {o : Outcome} → o ≡ refused deep → Gives a b o b (turned (went.Refused answer.Deep) m)
   unfolding faultAnswer
   refuses-deep e = turned-refused deep e refl
 
-  pub open-deep : {b′ : Memory} (name : Bytes) (width : ℕ) → 64 ≤ m .calls .opens → Gives a (opened name (taking width s)) b′ (turned (went.Refused answer.Deep) m)
+  pub open-deep : (name : Bytes) (width : ℕ) → 64 ≤ m .calls .opens → Gives a b (opened name (taking width s)) b (turned (went.Refused answer.Deep) m)
   unfolding taking withSource
   open-deep name width h = refuses-deep (opened-deep name (taking width s) (rw (le-leb 64 (length (s .calls)) (omega (arith, r .calls .open-is)))))
 
   pub open-many :
-      {b′ : Memory} (name : Bytes) (width : ℕ) → 256 ≤ m .calls .strings .count - m .calls .opens → Gives a (opened name (taking width s)) b′ (turned (went.Refused answer.Deep) m)
+      (name : Bytes) (width : ℕ) → 256 ≤ m .calls .strings .count - m .calls .opens → Gives a b (opened name (taking width s)) b (turned (went.Refused answer.Deep) m)
   unfolding taking withSource
   open-many name width h =
       refuses-deep
@@ -323,10 +323,10 @@ module _ {a : Setting} {b : Memory} {m : Machine} {s : State} (r : Means a b m s
       (rw (lt-leb 64 (length (s .calls)) (omega (arith, r .calls .open-is)), lt-leb 256 (argumentCount (s .calls)) (omega (arith, calls-counted (r .calls)))))
 
   pub open-full :
-      {b′ : Memory} (name : Bytes) (n width : ℕ) → m .calls .opens < 64 → m .calls .strings .count - m .calls .opens < 256 → length name ≡ n
-      → length (b .calls) - m .calls .strings .used < n → Gives a (opened name (taking width s)) b′ (turned (went.Refused (answer.Room 2)) m)
+      (name : Bytes) (n width : ℕ) → m .calls .opens < 64 → m .calls .strings .count - m .calls .opens < 256 → length name ≡ n
+      → length (b .calls) - m .calls .strings .used < n → Gives a b (opened name (taking width s)) b (turned (went.Refused (answer.Room 2)) m)
   unfolding taking
-  open-full {b′} name n width h k en l =
+  open-full name n width h k en l =
       rw (open-free name width h k)
       (gives-room (withCalls (openCall name ∷ s .calls) (taking width s)) 1
       (calls-over r (advance width (s .source)) (after width) (openCall name ∷ s .calls)
@@ -337,7 +337,7 @@ module _ {a : Setting} {b : Memory} {m : Machine} {s : State} (r : Means a b m s
       → length stack′ ≡ length (b .stack) → (n : ℕ) → m .calls .opens < 64 → m .calls .strings .count - m .calls .opens < 256
       → CallsIn calls′ ends′ stack′ k (openCall (take n (lentAhead (b .text) (b .pending) (m .source))) ∷ s .calls)
       → SourceIn (b .text) (b .pending) p (advance (n + 1) (s .source))
-      → Gives a (opened (take n (ahead (s .source))) (taking (suc n) s)) (callsAt calls′ ends′ stack′ b) (turned went.On (callsSet k (sourceSet p m)))
+      → Gives a b (opened (take n (ahead (s .source))) (taking (suc n) s)) (callsAt calls′ ends′ stack′ b) (turned went.On (callsSet k (sourceSet p m)))
   call-opened {calls′} {ends′} {stack′} {k} e-calls e-ends e-stack n l f h q =
       let g : CallsIn calls′ ends′ stack′ k (openCall (take n (ahead (s .source))) ∷ s .calls) =
       subst (λ (t : Bytes). CallsIn calls′ ends′ stack′ k (openCall (take n t) ∷ s .calls)) (ahead-lent (r .source)) h in
@@ -347,12 +347,12 @@ module _ {a : Setting} {b : Memory} {m : Machine} {s : State} (r : Means a b m s
   -- ---- a comma
 
   pub comma-many :
-      {b′ : Memory} (c : Call) (cs : List Call) → s .calls ≡ c ∷ cs → 256 ≤ m .calls .strings .count - m .calls .opens → Gives a (commaMet c cs s) b′ (turned (went.Refused answer.Deep) m)
+      (c : Call) (cs : List Call) → s .calls ≡ c ∷ cs → 256 ≤ m .calls .strings .count - m .calls .opens → Gives a b (commaMet c cs s) b (turned (went.Refused answer.Deep) m)
   comma-many c cs e h = refuses-deep (comma-deep c cs s (omega (arith, calls-counted (r .calls), ap argumentCount e)))
 
   pub comma-next :
       {ends′ stack′ : List ℕ} {k : Calls} (c : Call) (cs : List Call) → s .calls ≡ c ∷ cs → m .calls .strings .count - m .calls .opens < 256
       → CallsIn (b .calls) ends′ stack′ k (nextArgument c ∷ cs) → length ends′ ≡ length (b .callEnds) → length stack′ ≡ length (b .stack)
-      → Gives a (commaMet c cs s) (callsAt (b .calls) ends′ stack′ b) (turned went.On (callsSet k m))
+      → Gives a b (commaMet c cs s) (callsAt (b .calls) ends′ stack′ b) (turned went.On (callsSet k m))
   comma-next c cs e h i e-ends e-stack =
       rw (comma-free c cs s (omega (arith, calls-counted (r .calls), ap argumentCount e))) (calls-changed refl e-ends e-stack (nextArgument c ∷ cs) i)

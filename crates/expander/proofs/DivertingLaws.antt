@@ -332,13 +332,13 @@ module _ (args : List Bytes) (s : State) where
   divert-some z e = rw (e, callDivert)
 
 module _ {a : Setting} {b : Memory} {m : Machine} {s : State} (r : Means a b m s) (args : List Bytes) where
-  pub divert-unread : {b′ : Memory} → decimalOf (numberOr (pos 0) 1 args) ≡ decimal.NoNumber → Gives a (callDivert args s) b′ (turned (went.Refused answer.Number) m)
+  pub divert-unread : decimalOf (numberOr (pos 0) 1 args) ≡ decimal.NoNumber → Gives a b (callDivert args s) b (turned (went.Refused answer.Number) m)
   unfolding faultAnswer
   divert-unread e = turned-refused noNumber (divert-none args s (decimal-none refl e)) refl
 
   pub divert-read :
       (bits : ℕ) → decimalOf (numberOr (pos 0) 1 args) ≡ decimal.Number bits
-      → Gives a (callDivert args s) b (turned went.On (sinksSet (record { current = bits; waiting = m .sinks .waiting; output = m .sinks .output }) m))
+      → Gives a b (callDivert args s) b (turned went.On (sinksSet (record { current = bits; waiting = m .sinks .waiting; output = m .sinks .output }) m))
   unfolding diverted
   divert-read bits e =
       let v = decimal-some refl bits e in
@@ -364,12 +364,12 @@ module _ (args : List Bytes) (s : State) where
   undivert-some e = rw (undivert-named args e, callUndivert) (ap (λ (u : Streams). next (withStreams u s)) (moves-in-turn (turns args) (s .streams)))
 
 module _ {a : Setting} {b : Memory} {m : Machine} {s : State} (r : Means a b m s) (args : List Bytes) where
-  pub undivert-bad : {b′ : Memory} → allNamed args ≡ false → Gives a (callUndivert args s) b′ (turned (went.Refused answer.Number) m)
+  pub undivert-bad : allNamed args ≡ false → Gives a b (callUndivert args s) b (turned (went.Refused answer.Number) m)
   unfolding faultAnswer
   undivert-bad e = turned-refused noNumber (undivert-none args s e) refl
 
   module _ {streams′ : Bytes} {owners′ : List ℕ} {output′ : Bytes} {k : Moved} (e : allNamed args ≡ true) (g : Moves streams′ owners′ output′ k (s .streams) (movedInTurn (turns args) (s .streams))) where
-    pub undivert-full : {b′ : Memory} → length output′ ≡ length (b .output) → k .fits ≡ false → Gives a (callUndivert args s) b′ (turned (went.Refused (answer.Room 7)) m)
+    pub undivert-full : length output′ ≡ length (b .output) → k .fits ≡ false → Gives a b (callUndivert args s) b (turned (went.Refused (answer.Room 7)) m)
     unfolding withSource
     undivert-full l f =
         let p = g .spilling f in
@@ -379,7 +379,7 @@ module _ {a : Setting} {b : Memory} {m : Machine} {s : State} (r : Means a b m s
 
     pub undivert-on :
         length streams′ ≡ length (b .streams) → length owners′ ≡ length (b .owners) → length output′ ≡ length (b .output) → k .fits ≡ true
-        → Gives a (callUndivert args s) (sinksAt streams′ owners′ output′ b) (turned went.On (sinksSet (k .sinks) m))
+        → Gives a b (callUndivert args s) (sinksAt streams′ owners′ output′ b) (turned went.On (sinksSet (k .sinks) m))
     undivert-on e-streams e-owners e-output f = rw (undivert-some args s e) (gives-next (with-sinks r (g .fitting f) e-streams e-owners e-output))
 
 -- ---- the end
@@ -390,7 +390,7 @@ module _ {a : Setting} {b : Memory} {m : Machine} {s : State} (r : Means a b m s
   finished-long =
       omega (arith, length-append (s .streams .output) (joined (s .streams .waiting)), front-long (r .sinks .written), joined-total (s .streams .waiting), used-is (r .sinks .waiting))
 
-  pub finish-full : {b′ : Memory} → length (b .output) - m .sinks .output < m .sinks .waiting → Gives a (stop done (withStreams (finishedStreams (s .streams)) s)) b′ (turned (went.Refused (answer.Room 7)) m)
+  pub finish-full : length (b .output) - m .sinks .output < m .sinks .waiting → Gives a b (stop done (withStreams (finishedStreams (s .streams)) s)) b (turned (went.Refused (answer.Room 7)) m)
   unfolding finishedStreams totalLength withSource
   finish-full h =
       gives-stop-room done (withStreams (finishedStreams (s .streams)) s) 6
@@ -398,7 +398,7 @@ module _ {a : Setting} {b : Memory} {m : Machine} {s : State} (r : Means a b m s
 
   pub finish-ends :
       (w : Bytes) → w ≡ joined (s .streams .waiting) → m .sinks .waiting ≤ length (b .output) - m .sinks .output
-      → Gives a (stop done (withStreams (finishedStreams (s .streams)) s))
+      → Gives a b (stop done (withStreams (finishedStreams (s .streams)) s))
       (sinksAt (b .streams) (b .owners) (putMid (m .sinks .output) (m .sinks .output + m .sinks .waiting - m .sinks .output) (b .output) w) b)
       (turned (went.Ended answer.Done) (sinksSet (record { current = m .sinks .current; waiting = 0; output = m .sinks .output + m .sinks .waiting }) m))
   unfolding finishedStreams endingAnswer

@@ -49,11 +49,11 @@ use Rattle.expander.proofs.TurnLaws.{gives-by, turned-refused}
 -- ---- what a machine makes of what is given
 
 -- by the turn that it is
-pub gives-given : {a : Setting} {o : Outcome} {b : Memory} {t t′ : Turn} → t ≡ t′ → Gives a o b t′ → Gives a o b t
+pub gives-given : {a : Setting} {o : Outcome} {before b : Memory} {t t′ : Turn} → t ≡ t′ → Gives a before o b t′ → Gives a before o b t
 gives-given e g = gives-by refl e g
 
 -- it is refused
-pub giving-refused : {a : Setting} {o : Outcome} {b : Memory} {m : Machine} {s : State} → Means a b m s → (f : Fault) → o ≡ refused f → Gives a o b (givenTurn m (given.Refused (faultAnswer f)))
+pub giving-refused : {a : Setting} {o : Outcome} {b : Memory} {m : Machine} {s : State} → Means a b m s → (f : Fault) → o ≡ refused f → Gives a b o b (givenTurn m (given.Refused (faultAnswer f)))
 unfolding givenTurn
 giving-refused r f e = turned-refused f e refl
 
@@ -76,8 +76,8 @@ module _
     -- there is no room for it
     pub giving-room :
         m .source .from < n
-        → Gives a (next (resulting w s)) (memory text pending calls callEnds stack definitions tableEnds streams owners wrap errors output)
-        (givenTurn m (given.Refused (answer.Room 1)))
+        → Gives a (memory text pending calls callEnds stack definitions tableEnds streams owners wrap errors output) (next (resulting w s))
+        (memory text pending calls callEnds stack definitions tableEnds streams owners wrap errors output) (givenTurn m (given.Refused (answer.Room 1)))
     unfolding givenTurn
     giving-room h =
         gives-room (resulting w s) 0 (over-pending a (resulting w s) (omega (arith, resulting-long, r .limits .pending, r .source .from-in)))
@@ -85,16 +85,16 @@ module _
     module _ (fits : n ≤ m .source .from) where
       -- it stands there
       pub giving-front :
-          {pending′ : Bytes} {at : ℕ} → at ≡ m .source .from - n → length pending′ ≡ length pending → drop at pending′ ≡ w ++ drop (m .source .from) pending
-          → Gives a (next (resulting w s)) (memory text pending′ calls callEnds stack definitions tableEnds streams owners wrap errors output)
+          {before : Memory} {pending′ : Bytes} {at : ℕ} → at ≡ m .source .from - n → length pending′ ≡ length pending → drop at pending′ ≡ w ++ drop (m .source .from) pending
+          → Gives a before (next (resulting w s)) (memory text pending′ calls callEnds stack definitions tableEnds streams owners wrap errors output)
           (givenTurn m (given.At at))
       unfolding resulting givenTurn
-      giving-front {at} i l k = gives-next (with-source r (pushed-back w at (r .source) (omega (arith, r .source .from-in)) k) l)
+      giving-front {at = at} i l k = gives-next (with-source r (pushed-back w at (r .source) (omega (arith, r .source .from-in)) k) l)
 
       -- it was written there, into the buffer
       pub giving-filled :
-          {pending′ : Bytes} → Filled pending (m .source .from - n) w pending′
-          → Gives a (next (resulting w s)) (memory text pending′ calls callEnds stack definitions tableEnds streams owners wrap errors output)
+          {before : Memory} {pending′ : Bytes} → Filled pending (m .source .from - n) w pending′
+          → Gives a before (next (resulting w s)) (memory text pending′ calls callEnds stack definitions tableEnds streams owners wrap errors output)
           (givenTurn m (given.At (m .source .from - n)))
       giving-filled f =
           let k : m .source .from - n + length w ≡ m .source .from = omega arith in
@@ -102,11 +102,11 @@ module _
 
       -- or into the part of it that ends before the pending text
       pub giving-part :
-          {y : Bytes} → y ≡ w
-          → Gives a (next (resulting w s))
+          {before : Memory} {y : Bytes} → y ≡ w
+          → Gives a before (next (resulting w s))
           (memory text (putMid (m .source .from - n) (m .source .from - (m .source .from - n)) pending y) calls callEnds stack definitions tableEnds streams owners wrap errors output)
           (givenTurn m (given.At (m .source .from - n)))
-      giving-part {y} f =
+      giving-part {y = y} f =
           giving-filled (rw f (part-fills pending w (m .source .from - n) (m .source .from) (omega arith) (r .source .from-in)))
 
 -- ---- what a result comes to

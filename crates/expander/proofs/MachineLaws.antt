@@ -142,24 +142,24 @@ means-fits {a} {s} r =
 
 module _ {a : Setting} {b : Memory} where
   -- the run goes on from what the memory and the machine mean now
-  pub gives-next : {m : Machine} {t : State} → Means a b m t → Gives a (next t) b (record { went = went.On; machine = m })
+  pub gives-next : {m : Machine} {t : State} {before : Memory} → Means a b m t → Gives a before (next t) b (record { went = went.On; machine = m })
   unfolding Came
   gives-next {m} {t} r = record { came = rw (verdict-next (lengths a) t (means-fits r)) (refl, r) }
 
-  pub gives-stop : {m : Machine} {t : State} (e : Ending) → Means a b m t → Gives a (stop e t) b (record { went = went.Ended (endingAnswer e); machine = m })
+  pub gives-stop : {m : Machine} {t : State} {before : Memory} (e : Ending) → Means a b m t → Gives a before (stop e t) b (record { went = went.Ended (endingAnswer e); machine = m })
   unfolding Came
   gives-stop {m} {t} e r = record { came = rw (verdict-stop (lengths a) e t (means-fits r)) (refl, r) }
 
-  pub gives-refused : {m : Machine} (f : Fault) → Gives a (refused f) b (record { went = went.Refused (faultAnswer f); machine = m })
+  pub gives-refused : {m : Machine} (f : Fault) → Gives a b (refused f) b (record { went = went.Refused (faultAnswer f); machine = m })
   unfolding Came
-  gives-refused f = record { came = rw (verdict-refused (lengths a) f) refl }
+  gives-refused f = record { came = rw (verdict-refused (lengths a) f) (refl, refl) }
 
   pub gives-room :
-      {m : Machine} (t : State) (k : ℕ) → overfull (held t) (lengths a) ≡ some k → Gives a (next t) b (record { went = went.Refused (answer.Room (k + 1)); machine = m })
+      {m : Machine} (t : State) (k : ℕ) → overfull (held t) (lengths a) ≡ some k → Gives a b (next t) b (record { went = went.Refused (answer.Room (k + 1)); machine = m })
   unfolding Came
-  gives-room t k e = record { came = rw (verdict-room (lengths a) t k e) (ap (λ (n : ℕ). went.Refused (answer.Room n)) (omega arith)) }
+  gives-room t k e = record { came = rw (verdict-room (lengths a) t k e) (ap (λ (n : ℕ). went.Refused (answer.Room n)) (omega arith), refl) }
 
   pub gives-stop-room :
-      {m : Machine} (e : Ending) (t : State) (k : ℕ) → overfull (held t) (lengths a) ≡ some k → Gives a (stop e t) b (record { went = went.Refused (answer.Room (k + 1)); machine = m })
+      {m : Machine} (e : Ending) (t : State) (k : ℕ) → overfull (held t) (lengths a) ≡ some k → Gives a b (stop e t) b (record { went = went.Refused (answer.Room (k + 1)); machine = m })
   unfolding Came
-  gives-stop-room e t k q = record { came = rw (verdict-stop-room (lengths a) e t k q) (ap (λ (n : ℕ). went.Refused (answer.Room n)) (omega arith)) }
+  gives-stop-room e t k q = record { came = rw (verdict-stop-room (lengths a) e t k q) (ap (λ (n : ℕ). went.Refused (answer.Room n)) (omega arith), refl) }

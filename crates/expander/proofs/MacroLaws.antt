@@ -22,12 +22,12 @@ use Rattle.expander.specs.Results.{Shows}
 use Rattle.expander.proofs.MachineLaws.{gives-refused}
 
 -- what a call gives, by what it comes to
-pub gives-as : {a : Setting} {b : Memory} {t : Turn} {o p : Outcome} → o ≡ p → Gives a p b t → Gives a o b t
-gives-as {a} {b} {t} e g = subst (λ (o : Outcome). Gives a o b t) (sym e) g
+pub gives-as : {a : Setting} {before b : Memory} {t : Turn} {o p : Outcome} → o ≡ p → Gives a before p b t → Gives a before o b t
+gives-as {a} {before} {b} {t} e g = subst (λ (o : Outcome). Gives a before o b t) (sym e) g
 
-pub gives-gone : {a : Setting} {b : Memory} {m : Machine} {t : Turn} → t ≡ turned (went.Refused answer.Gone) m → Gives a (refused gone) b t
+pub gives-gone : {a : Setting} {b : Memory} {m : Machine} {t : Turn} → t ≡ turned (went.Refused answer.Gone) m → Gives a b (refused gone) b t
 unfolding faultAnswer
-gives-gone {a} {b} e = subst (λ (t : Turn). Gives a (refused gone) b t) (sym e) (gives-refused gone)
+gives-gone {a} {b} e = subst (λ (t : Turn). Gives a b (refused gone) b t) (sym e) (gives-refused gone)
 
 -- what a function asks that is lent a part: the other buffers hold what they hold
 pub sound-at : {part : Memory → Memory} {m : Machine} (b : Memory) {a : Setting} {s : State} → Means a (part b) m s → Sound part m
@@ -45,8 +45,8 @@ sound-less {lent} {made} p h = sound-of (lent (p .sound .others)) (made (p .mach
 
 -- the macro of a number
 pub gives-at :
-    {a : Setting} {b : Memory} {t : Turn} {k : ℕ} (n : ℕ) → k ≡ n → (args : List Bytes) (s : State) → Gives a ((getD macros (n - 1) callNothing) args s) b t
-    → Gives a (perform k args s) b t
+    {a : Setting} {before b : Memory} {t : Turn} {k : ℕ} (n : ℕ) → k ≡ n → (args : List Bytes) (s : State) → Gives a before ((getD macros (n - 1) callNothing) args s) b t
+    → Gives a before (perform k args s) b t
 unfolding perform
 gives-at n e args s g = gives-as (ap (λ (j : ℕ). (getD macros (j - 1) callNothing) args s) e) g
 
@@ -89,7 +89,7 @@ module _ {k : ℕ} (r : Resulting k) (h : Changing k) where
       over 23 h23 (r .not-undivert)
 
   pub gives-none :
-      {a : Setting} {b : Memory} {m : Machine} {t : Turn} (args : List Bytes) (s : State) → t ≡ turned (went.Refused answer.Gone) m → Gives a (perform k args s) b t
+      {a : Setting} {b : Memory} {m : Machine} {t : Turn} (args : List Bytes) (s : State) → t ≡ turned (went.Refused answer.Gone) m → Gives a b (perform k args s) b t
   gives-none args s e = gives-as (performed-none past-all args s) (gives-gone e)
 
 -- the number of the current stream

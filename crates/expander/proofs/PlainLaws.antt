@@ -116,11 +116,11 @@ not-over ls (next t) h = room-not-over (overfull (held t) ls) t
 not-over ls (stop e t) h = absurd h
 not-over ls (refused f) h = tt
 
-came-not-ended : (a : Setting) (b : Memory) (t : Turn) (x : Answer) (v : Verdict) → t .went ≡ went.Ended x → Not-over v → Came a b t v → ⊥
+came-not-ended : (a : Setting) (before b : Memory) (t : Turn) (x : Answer) (v : Verdict) → t .went ≡ went.Ended x → Not-over v → Came a before b t v → ⊥
 unfolding Not-over Came wentKind
-came-not-ended a b t x (going u) e n c = let k : _≡_ {A = ℕ} 1 0 = ap wentKind (sym e ∙ c .0) in omega arith
-came-not-ended a b t x (over y u) e n c = n
-came-not-ended a b t x (denied y) e n c = let k : _≡_ {A = ℕ} 1 2 = ap wentKind (sym e ∙ c) in omega arith
+came-not-ended a before b t x (going u) e n c = let k : _≡_ {A = ℕ} 1 0 = ap wentKind (sym e ∙ c .0) in omega arith
+came-not-ended a before b t x (over y u) e n c = n
+came-not-ended a before b t x (denied y) e n c = let k : _≡_ {A = ℕ} 1 2 = ap wentKind (sym e ∙ c .0) in omega arith
 
-pub not-ended : {a : Setting} {o : Outcome} {b : Memory} {t : Turn} → Goes-on o → Gives a o b t → (x : Answer) → t .went ≡ went.Ended x → ⊥
-not-ended {a} {o} {b} {t} h g x e = came-not-ended a b t x (verdict (lengths a) o) e (not-over (lengths a) o h) (g .came)
+pub not-ended : {a : Setting} {o : Outcome} {before b : Memory} {t : Turn} → Goes-on o → Gives a before o b t → (x : Answer) → t .went ≡ went.Ended x → ⊥
+not-ended {a} {o} {before} {b} {t} h g x e = came-not-ended a before b t x (verdict (lengths a) o) e (not-over (lengths a) o h) (g .came)

@@ -86,11 +86,11 @@ marks-sized x y {r} e n = go (isMark x) (isEndMark y) (mark-sized x) (end-mark-s
 
 -- the marks of the machine are replaced
 pub remarked : {a : Setting} {b : Memory} {m m′ : Machine} {s : State} {t : Turn} {o : Outcome} {x : Marks} (y : MarkTexts) → Means a b m s → o ≡ next (withMarks y s) → markTexts x ≡ y → GoodMarks x
-    → m′ ≡ marksSet x m → t ≡ turned went.On m′ → Gives a o b t
+    → m′ ≡ marksSet x m → t ≡ turned went.On m′ → Gives a b o b t
 remarked {s = s} y r h e g k f = turned-on (with-marks r g) (h ∙ ap (λ (z : MarkTexts). next (withMarks z s)) (sym e)) (f ∙ ap (turned went.On) k)
 
 module _ {a : Setting} {b : Memory} {m : Machine} (f : Bytes → Bytes → MarkTexts → MarkTexts) (x y : Bytes) (s : State) {t : Turn} {r : Bool} (e : r ≡ isMark x && isEndMark y) where
-  pub badly-marked : not r ≡ true → t ≡ turned (went.Refused answer.Mark) m → Gives a (marking f x y s) b t
+  pub badly-marked : not r ≡ true → t ≡ turned (went.Refused answer.Mark) m → Gives a b (marking f x y s) b t
   unfolding marking faultAnswer
   badly-marked n g =
       let h : isMark x && isEndMark y ≡ false = sym e ∙ not-true r n in
@@ -98,7 +98,7 @@ module _ {a : Setting} {b : Memory} {m : Machine} (f : Bytes → Bytes → MarkT
 
   pub well-marked :
       not r ≡ false → Means a b m s → {m′ : Machine} {c : Marks} (v w : Mark) → markText v ≡ x → markText w ≡ y → markTexts c ≡ f (markText v) (markText w) (markTexts (m .marks)) → GoodMarks c
-      → m′ ≡ marksSet c m → t ≡ turned went.On m′ → Gives a (marking f x y s) b t
+      → m′ ≡ marksSet c m → t ≡ turned went.On m′ → Gives a b (marking f x y s) b t
   unfolding marking
   well-marked n k v w i j q g l p =
       let h : isMark x && isEndMark y ≡ true = sym e ∙ not-false r n in
@@ -169,7 +169,7 @@ module _ {a : Setting} {b : Memory} {m m′ : Machine} {s : State} {t : Turn} (r
   -- comments are turned off
   pub changecom-none :
       (none : Mark) → markText none ≡ [] → none .len ≡ 0 → markTexts x ≡ withComments (markText none) (markText (m .marks .«end_comment»)) (markTexts (m .marks))
-      → (GoodMarks (m .marks) → none .len ≤ 5 → FullMark (m .marks .«end_comment») → GoodMarks x) → Gives a (callChangecom args s) b t
+      → (GoodMarks (m .marks) → none .len ≤ 5 → FullMark (m .marks .«end_comment») → GoodMarks x) → Gives a b (callChangecom args s) b t
   unfolding markTexts
   changecom-none none n l e g =
       remarked (withComments [] (s .marks .endComment) (s .marks)) r (changecom-is args s ∙ by-none (commentsOff s) (commenting s) args h)
@@ -178,7 +178,7 @@ module _ {a : Setting} {b : Memory} {m m′ : Machine} {s : State} {t : Turn} (r
   -- the quote marks are the default ones
   pub changequote-none :
       {fresh : Marks} → markTexts fresh ≡ defaultMarks → GoodMarks fresh → markTexts x ≡ withQuotes (markText (fresh .«begin_quote»)) (markText (fresh .«end_quote»)) (markTexts (m .marks))
-      → (GoodMarks (m .marks) → FullMark (fresh .«begin_quote») → FullMark (fresh .«end_quote») → GoodMarks x) → Gives a (callChangequote args s) b t
+      → (GoodMarks (m .marks) → FullMark (fresh .«begin_quote») → FullMark (fresh .«end_quote») → GoodMarks x) → Gives a b (callChangequote args s) b t
   unfolding markTexts
   changequote-none d q e g =
       remarked (withQuotes (defaultMarks .beginQuote) (defaultMarks .endQuote) (s .marks)) r (changequote-is args s ∙ by-none (plainQuotes s) (quoting s) args h)

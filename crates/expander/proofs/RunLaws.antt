@@ -31,6 +31,7 @@ use Rattle.expander.specs.declared.machine.Machine.{Machine}
 use Rattle.expander.specs.declared.machine.Turn.{Turn}
 use Rattle.expander.specs.declared.machine.Went.{Went}
 use Rattle.expander.specs.declared.machine.Went.the-variants as went
+use Rattle.expander.specs.declared.run.Halted.{Halted}
 use Rattle.expander.specs.declared.events.Special.{Special}
 use Rattle.expander.specs.declared.stretch.Stop.{Stop}
 use Rattle.expander.specs.declared.stretch.Stop.the-variants as stop
@@ -39,48 +40,11 @@ use Rattle.expander.specs.Front.{Front}
 use Rattle.expander.specs.Machine.{Memory, Limits, Means, Sound, Came, Gives}
 use Rattle.expander.specs.Verdict.{Verdict, going, over, denied, roomed, verdict, followed}
 use Rattle.expander.specs.Events.{SpecialWithin, SpecialIs}
-use Rattle.expander.specs.Run.{Running, Ran, Wrote, finishedReport, stoppedReport, SpecialNext, StoppedHere, Reached, Stretched}
+use Rattle.expander.specs.Run.{Running, Leaves, halted, finishedReport, stoppedReport, haltedReport, Ran, SpecialNext, Reached, Stretched}
 use Rattle.expander.proofs.MachineLaws.{front-long}
 use Rattle.expander.proofs.Rows.{fresh-in}
 use Rattle.expander.proofs.Waiting.{none-held}
 use Rattle.expander.proofs.VerdictLaws.{run-follows}
-
--- ---- the answer of a verdict: 0 or 1 where it ends a run, another where it refuses a step
-
-unfoldable pub Finishing : Verdict → Type 0
-Finishing (going s) = Unit {0}
-Finishing (over x s) = isFinished x ≡ true
-Finishing (denied x) = isFinished x ≡ false
-
-ending-finishes : (e : Ending) → isFinished (endingAnswer e) ≡ true
-unfolding isFinished answerNumber endingAnswer
-ending-finishes done = refl
-ending-finishes (exit code) = refl
-
-fault-refuses : (f : Fault) → isFinished (faultAnswer f) ≡ false
-unfolding isFinished answerNumber faultAnswer
-fault-refuses unclosedQuote = refl
-fault-refuses unclosedComment = refl
-fault-refuses unclosedCall = refl
-fault-refuses noName = refl
-fault-refuses noNumber = refl
-fault-refuses noExpression = refl
-fault-refuses divisor = refl
-fault-refuses badMark = refl
-fault-refuses noText = refl
-fault-refuses gone = refl
-fault-refuses deep = refl
-
-room-finishing : (o : Option ℕ) (v : Verdict) → Finishing v → Finishing (roomed o v)
-unfolding Finishing roomed isFinished answerNumber
-room-finishing none v h = h
-room-finishing (some b) v h = refl
-
-finishing : (ls : List ℕ) (o : Outcome) → Finishing (verdict ls o)
-unfolding Finishing verdict
-finishing ls (next t) = room-finishing (overfull (held t) ls) (going t) tt
-finishing ls (stop e t) = room-finishing (overfull (held t) ls) (over (endingAnswer e) t) (ending-finishes e)
-finishing ls (refused f) = fault-refuses f
 
 -- ---- a verdict by what the step gave
 
@@ -107,24 +71,29 @@ pub record Goes (a : Setting) (v : Verdict) (b : Memory) (m : Machine) : Type 0 
   pub is : v ≡ going state
   pub means : Means a b m state
 
-module _ (a : Setting) (b : Memory) (t : Turn) where
-  is-denied : (v : Verdict) (x : Answer) → Came a b t v → t .went ≡ went.Refused x → v ≡ denied x
+-- a refusal, with nothing written
+pub record Refuses (v : Verdict) (before b : Memory) (x : Answer) : Type 0 where
+  pub is : v ≡ denied x
+  pub kept : b ≡ before
+
+module _ (a : Setting) (before b : Memory) (t : Turn) where
+  is-denied : (v : Verdict) (x : Answer) → Came a before b t v → t .went ≡ went.Refused x → Refuses v before b x
   unfolding Came wentKind wentAnswer
   is-denied (going s) x h e = absurd (let k : 2 ≡ 0 = kinds (sym e ∙ h .0) in omega arith)
   is-denied (over y s) x h e = absurd (let k : 2 ≡ 1 = kinds (sym e ∙ h .0) in omega arith)
-  is-denied (denied y) x h e = ap denied (ap wentAnswer (sym h ∙ e))
+  is-denied (denied y) x h e = record { is = ap denied (ap wentAnswer (sym (h .0) ∙ e)); kept = h .1 }
 
-  is-over : (v : Verdict) (x : Answer) → Came a b t v → t .went ≡ went.Ended x → Ends a v b (t .machine) x
+  is-over : (v : Verdict) (x : Answer) → Came a before b t v → t .went ≡ went.Ended x → Ends a v b (t .machine) x
   unfolding Came wentKind wentAnswer
   is-over (going s) x h e = absurd (let k : 1 ≡ 0 = kinds (sym e ∙ h .0) in omega arith)
   is-over (over y s) x h e = record { state = s; is = ap (λ (z : Answer). over z s) (ap wentAnswer (sym (h .0) ∙ e)); means = h .1 }
-  is-over (denied y) x h e = absurd (let k : 1 ≡ 2 = kinds (sym e ∙ h) in omega arith)
+  is-over (denied y) x h e = absurd (let k : 1 ≡ 2 = kinds (sym e ∙ h .0) in omega arith)
 
-  is-going : (v : Verdict) → Came a b t v → t .went ≡ went.On → Goes a v b (t .machine)
+  is-going : (v : Verdict) → Came a before b t v → t .went ≡ went.On → Goes a v b (t .machine)
   unfolding Came wentKind
   is-going (going s) h e = record { state = s; is = refl; means = h .1 }
   is-going (over y s) h e = absurd (let k : 0 ≡ 1 = kinds (sym e ∙ h .0) in omega arith)
-  is-going (denied y) h e = absurd (let k : 0 ≡ 2 = kinds (sym e ∙ h) in omega arith)
+  is-going (denied y) h e = absurd (let k : 0 ≡ 2 = kinds (sym e ∙ h .0) in omega arith)
 
 -- ---- what may be lent
 
@@ -200,88 +169,40 @@ one-more a (suc n) count s h =
     let e : suc n - 1 ≡ n = omega arith in
     rw e (run-follows (lengths a) n count s)
 
--- what a run writes: nothing on a refusal, else its output and error text
-writes-nothing : (e : Ended) → isFinished (e .answer) ≡ false → (outputOf e ≡ []) × (errorsOf e ≡ [])
-unfolding outputOf errorsOf
-writes-nothing e h = (rw (h, outputOf), rw (h, errorsOf))
-
-writes-all : (e : Ended) → isFinished (e .answer) ≡ true → (outputOf e ≡ e .state .streams .output) × (errorsOf e ≡ e .state .errors)
-unfolding outputOf errorsOf
-writes-all e h = (rw (h, outputOf), rw (h, errorsOf))
-
-reported :
-    (e : Ended) (p o r : ℕ) → e .state .source .taken ≡ p → length (outputOf e) ≡ o → length (errorsOf e) ≡ r
-    → record { answer = e .answer; steps = e .steps; place = p; output = o; errors = r } ≡ reportOf e
-unfolding reportOf
-reported e p o r ep eo er = rw (sym ep, sym eo, sym er) refl
-
-stopped-ran :
-    {a : Setting} {b : Memory} {m : Machine} (x : Answer) (count : ℕ) (s : State) (errors output : Bytes) → Means a b m s → isFinished x ≡ false
-    → Ran (endedWith x count s) errors output (stoppedReport x count m)
-unfolding endedWith stoppedReport
-stopped-ran {m} x count s errors output r h =
-    let e : Ended = endedWith x count s in
-    let w = writes-nothing e h in
-    record {
-      report = reported e (m .source .taken) 0 0 (r .source .taken-is) (ap length (w .0)) (ap length (w .1));
-      errors-are = subst (λ (y : Bytes). Front errors 0 y) (sym (w .1)) (nothing-front errors);
-      output-are = subst (λ (y : Bytes). Front output 0 y) (sym (w .0)) (nothing-front output);
-    }
-
-finished-ran :
-    {a : Setting} {b : Memory} {m : Machine} (x : Answer) (count : ℕ) (s : State) → Means a b m s → isFinished x ≡ true
-    → Ran (endedWith x count s) (b .errors) (b .output) (finishedReport x count m)
-unfolding endedWith finishedReport
-finished-ran {a} {b} {m} x count s r h =
-    let e : Ended = endedWith x count s in
-    let w = writes-all e h in
-    record {
-      report =
-          reported e (m .source .taken) (m .sinks .output) (m .errors) (r .source .taken-is) (ap length (w .0) ∙ front-long (r .sinks .written))
-          (ap length (w .1) ∙ front-long (r .errors));
-      errors-are = subst (λ (y : Bytes). Front (b .errors) (m .errors) y) (sym (w .1)) (r .errors);
-      output-are = subst (λ (y : Bytes). Front (b .output) (m .sinks .output) y) (sym (w .0)) (r .sinks .written);
-    }
+-- it ends with an answer, where memory and machine mean the last state
+leaves : {a : Setting} {b : Memory} {m : Machine} {w : Ended} {s : State} (x : Answer) (count : ℕ) → w ≡ endedWith x count s → Means a b m s → Leaves a w b (halted x count m)
+unfolding endedWith
+leaves {a} {b} {m} x count e h =
+    record { answer-is = ap (λ (k : Ended). k .answer) (sym e); steps-are = ap (λ (k : Ended). k .steps) (sym e); means = rw e h }
 
 module _ {a : Setting} {b : Memory} {m : Machine} {left count : ℕ} {w : Ended} (u : Running a b m left count w) where
-  pub taken-few : m .source .taken ≤ 65536
-  taken-few = omega (arith, u .means .source .taken-in, u .means .limits .text)
+  pub run-spent : left ≡ 0 → Leaves a w b (halted answer.Spent count m)
+  unfolding runFrom
+  run-spent e =
+      leaves answer.Spent count (u .so-far ∙ ap (λ (n : ℕ). runFrom (lengths a) n count (u .state)) e) (u .means)
 
-  pub run-spent : left ≡ 0 → (errors output : Bytes) → Ran w errors output (stoppedReport answer.Spent count m)
-  unfolding runFrom isFinished answerNumber
-  run-spent e errors output =
-      let q : w ≡ endedWith answer.Spent count (u .state) = u .so-far ∙ ap (λ (n : ℕ). runFrom (lengths a) n count (u .state)) e in
-      rw q (stopped-ran answer.Spent count (u .state) errors output (u .means) refl)
-
-  module _ {b′ : Memory} {t : Turn} (more : 0 < left) (g : Gives a (step (u .state)) b′ t) where
+  module _ {b′ : Memory} {t : Turn} (more : 0 < left) (g : Gives a b (step (u .state)) b′ t) where
     so : w ≡ followed (lengths a) (left - 1) count (u .state) (verdict (lengths a) (step (u .state)))
     so = u .so-far ∙ one-more a left count (u .state) more
 
-    pub run-refused : (x : Answer) → t .went ≡ went.Refused x → (errors output : Bytes) → Ran w errors output (stoppedReport x count m)
-    unfolding followed Finishing
-    run-refused x e errors output =
-        let d = is-denied a b′ t _ x (g .came) e in
-        let q : w ≡ endedWith x count (u .state) = so ∙ ap (followed (lengths a) (left - 1) count (u .state)) d in
-        rw q (stopped-ran x count (u .state) errors output (u .means) (subst Finishing d (finishing (lengths a) (step (u .state)))))
+    pub run-refused : (x : Answer) → t .went ≡ went.Refused x → Leaves a w b′ (halted x count m)
+    unfolding followed
+    run-refused x e =
+        let d = is-denied a b b′ t _ x (g .came) e in
+        leaves x count (so ∙ ap (followed (lengths a) (left - 1) count (u .state)) (d .is)) (rw (d .kept) (u .means))
 
-    pub run-ended : (x : Answer) → t .went ≡ went.Ended x → Ran w (b′ .errors) (b′ .output) (finishedReport x (count + 1) (t .machine))
-    unfolding followed Finishing
+    pub run-ended : (x : Answer) → t .went ≡ went.Ended x → Leaves a w b′ (halted x (count + 1) (t .machine))
+    unfolding followed
     run-ended x e =
-        let v = is-over a b′ t _ x (g .came) e in
+        let v = is-over a b b′ t _ x (g .came) e in
         let k : suc count ≡ count + 1 = omega arith in
-        let q : w ≡ endedWith x (count + 1) (v .state) =
-        so ∙ ap (followed (lengths a) (left - 1) count (u .state)) (v .is) ∙ ap (λ (n : ℕ). endedWith x n (v .state)) k in
-        rw q (finished-ran x (count + 1) (v .state) (v .means) (subst Finishing (v .is) (finishing (lengths a) (step (u .state)))))
-
-    pub run-few : (x : Answer) → t .went ≡ went.Ended x → (t .machine .source .taken ≤ 65536) × (t .machine .sinks .output ≤ 65536) × (t .machine .errors ≤ 65536)
-    run-few x e =
-        let v = is-over a b′ t _ x (g .came) e .means in
-        (omega (arith, v .source .taken-in, v .limits .text), omega (arith, v .sinks .written .inside, v .limits .output-most), omega (arith, v .errors .inside, v .limits .errors-most))
+        leaves x (count + 1)
+        (so ∙ ap (followed (lengths a) (left - 1) count (u .state)) (v .is) ∙ ap (λ (n : ℕ). endedWith x n (v .state)) k) (v .means)
 
     pub run-on : t .went ≡ went.On → Running a b′ (t .machine) (left - 1) (count + 1) w
     unfolding followed
     run-on e =
-        let v = is-going a b′ t _ (g .came) e in
+        let v = is-going a b b′ t _ (g .came) e in
         let k : suc count ≡ count + 1 = omega arith in
         record {
           state = v .state;
@@ -299,13 +220,6 @@ pub from-here : {a : Setting} {b : Memory} {m : Machine} {s : State} (left count
 from-here left count h = record { state = _; means = h; so-far = refl }
 
 module _ {a : Setting} {b : Memory} {m : Machine} {left count : ℕ} {w : Ended} (u : Running a b m left count w) where
-  pub spent-here : left ≡ 0 → StoppedHere w count m answer.Spent
-  spent-here e = record { taken-in = taken-few u; ran = run-spent u e }
-
-  pub refused-here :
-      {b′ : Memory} {t : Turn} {x : Answer} → 0 < left → Gives a (step (u .state)) b′ t → t .went ≡ went.Refused x → StoppedHere w count m x
-  refused-here {x = x} more g e = record { taken-in = taken-few u; ran = run-refused u more g x e }
-
   -- as many steps as were left before, less those left now
   pub recount : (n : ℕ) → count ≡ n → Running a b m left n w
   recount n e = subst (λ (k : ℕ). Running a b m left k w) e u
@@ -315,20 +229,13 @@ pub running-sound : {a : Setting} {m : Machine} {left count : ℕ} {w : Ended} {
 running-sound {a} {m} b u e =
     record { others = b; setting = a; state = u .state; means = subst (λ (k : Memory). Means a k m (u .state)) (sym e) (u .means) }
 
--- a report by another way to say its count
-pub ran-recount :
-    {w : Ended} {errors output : Bytes} {count : ℕ} (x : Answer) (m : Machine) (n : ℕ) → count ≡ n → Ran w errors output (stoppedReport x count m)
-    → Ran w errors output (stoppedReport x n m)
-ran-recount {w} {errors} {output} x m n e h = subst (λ (k : ℕ). Ran w errors output (stoppedReport x k m)) e h
-
-pub end-recount :
-    {w : Ended} {errors output : Bytes} {count : ℕ} (x : Answer) (m : Machine) (n : ℕ) → count ≡ n → Ran w errors output (finishedReport x (count + 1) m)
-    → Ran w errors output (finishedReport x (n + 1) m)
-end-recount {w} {errors} {output} x m n e h = subst (λ (k : ℕ). Ran w errors output (finishedReport x (k + 1) m)) e h
+-- an end by another way to say its count
+pub leaves-recount : {a : Setting} {w : Ended} {b : Memory} {x : Answer} {m : Machine} {count n : ℕ} → count ≡ n → Leaves a w b (halted x count m) → Leaves a w b (halted x n m)
+leaves-recount {a} {w} {b} {x} {m} e h = subst (λ (k : ℕ). Leaves a w b (halted x k m)) e h
 
 -- what a stretch came to, by why it ended
 module _ {a : Setting} {b : Memory} {w : Ended} {budget count : ℕ} {r : Stretch} (h : Stretched a b w budget count r) where
-  pub reached-stop : {x : Answer} → r .stop ≡ stop.Stopped x → StoppedHere w (count + (budget - r .left)) (r .machine) x
+  pub reached-stop : {x : Answer} → r .stop ≡ stop.Stopped x → Leaves a w b (halted x (count + (budget - r .left)) (r .machine))
   unfolding Reached
   reached-stop e = subst (Reached a b w (count + (budget - r .left)) r) e (h .reached)
 
@@ -358,3 +265,67 @@ none-left h = omega arith
 
 pub all-counted : (budget : ℕ) {left : ℕ} → left ≤ 0 → budget - left ≡ budget
 all-counted budget h = omega arith
+
+-- ---- the report of a run, and what it wrote
+
+front-whole : {buffer : Bytes} {n : ℕ} {w : Bytes} → Front buffer n w → Front buffer (length w) w
+front-whole {buffer} {n} {w} f = subst (λ (k : ℕ). Front buffer k w) (sym (front-long f)) f
+
+-- nothing on a refusal, else its output and error text
+writes-nothing : (e : Ended) → isFinished (e .answer) ≡ false → (outputOf e ≡ []) × (errorsOf e ≡ [])
+unfolding outputOf errorsOf
+writes-nothing e h = (rw (h, outputOf), rw (h, errorsOf))
+
+writes-all : (e : Ended) → isFinished (e .answer) ≡ true → (outputOf e ≡ e .state .streams .output) × (errorsOf e ≡ e .state .errors)
+unfolding outputOf errorsOf
+writes-all e h = (rw (h, outputOf), rw (h, errorsOf))
+
+reported :
+    (e : Ended) (p o r : ℕ) → e .state .source .taken ≡ p → length (outputOf e) ≡ o → length (errorsOf e) ≡ r
+    → record { answer = e .answer; steps = e .steps; place = p; output = o; errors = r } ≡ reportOf e
+unfolding reportOf
+reported e p o r ep eo er = rw (sym ep, sym eo, sym er) refl
+
+-- by the number of its answer
+module _ (h : Halted) {n : ℕ} (i : n ≡ answerNumber (h .answer)) where
+  pub halted-finished : n ≤ 1 → finishedReport (h .answer) (h .steps) (h .machine) ≡ haltedReport h
+  unfolding haltedReport isFinished
+  halted-finished f = rw (le-leb (answerNumber (h .answer)) 1 (omega (arith, f, i)), haltedReport)
+
+  pub halted-stopped : 1 < n → stoppedReport (h .answer) (h .steps) (h .machine) ≡ haltedReport h
+  unfolding haltedReport isFinished
+  halted-stopped f = rw (lt-leb (answerNumber (h .answer)) 1 (omega (arith, f, i)), haltedReport)
+
+module _ {a : Setting} {e : Ended} {b : Memory} {h : Halted} (l : Leaves a e b h) where
+  pub leaves-few : (h .machine .source .taken ≤ 65536) × (h .machine .sinks .output ≤ 65536) × (h .machine .errors ≤ 65536)
+  leaves-few =
+      let m = l .means in
+      (omega (arith, m .source .taken-in, m .limits .text), omega (arith, m .sinks .written .inside, m .limits .output-most), omega (arith, m .errors .inside, m .limits .errors-most))
+
+  report-by : (f : Bool) → isFinished (e .answer) ≡ f → haltedReport h ≡ reportOf e
+  unfolding haltedReport finishedReport stoppedReport
+  report-by true k =
+      let w = writes-all e k in
+      let m = l .means in
+      rw (ap isFinished (l .answer-is) ∙ k, haltedReport, l .answer-is, l .steps-are)
+      (reported e (h .machine .source .taken) (h .machine .sinks .output) (h .machine .errors) (m .source .taken-is) (ap length (w .0) ∙ front-long (m .sinks .written))
+      (ap length (w .1) ∙ front-long (m .errors)))
+  report-by false k =
+      let w = writes-nothing e k in
+      rw (ap isFinished (l .answer-is) ∙ k, haltedReport, l .answer-is, l .steps-are)
+      (reported e (h .machine .source .taken) 0 0 (l .means .source .taken-is) (ap length (w .0)) (ap length (w .1)))
+
+  fronts-by : (f : Bool) → isFinished (e .answer) ≡ f → Front (b .errors) (length (errorsOf e)) (errorsOf e) × Front (b .output) (length (outputOf e)) (outputOf e)
+  unfolding outputOf errorsOf
+  fronts-by true k = rw (k, outputOf, errorsOf) (front-whole (l .means .errors), front-whole (l .means .sinks .written))
+  fronts-by false k = rw (k, outputOf, errorsOf) (nothing-front (b .errors), nothing-front (b .output))
+
+  pub leaves-report : haltedReport h ≡ reportOf e
+  leaves-report = report-by (isFinished (e .answer)) refl
+
+  pub leaves-ran : {r : Report} → r ≡ haltedReport h → Ran e (b .errors) (b .output) r
+  unfolding reportOf
+  leaves-ran k =
+      let f = fronts-by (isFinished (e .answer)) refl in
+      let i = k ∙ leaves-report in
+      record { report = i; errors-are = rw i (f .0); output-are = rw i (f .1) }

@@ -53,11 +53,11 @@ pub lends : {lent part : Memory → Memory} {m : Machine} (p : Sound lent m) →
 lends {lent} {m} p e =
     record { others = lent (p .others); setting = p .setting; state = p .state; means = subst (λ (b : Memory). Means (p .setting) b m (p .state)) (sym e) (p .means) }
 
-pub by : {a : Setting} {o o′ : Outcome} {b : Memory} {t : Turn} → o′ ≡ o → Gives a o b t → Gives a o′ b t
-by {a} {b} {t} e g = subst (λ (x : Outcome). Gives a x b t) (sym e) g
+pub by : {a : Setting} {o o′ : Outcome} {before b : Memory} {t : Turn} → o′ ≡ o → Gives a before o b t → Gives a before o′ b t
+by {a} {before = before} {b} {t} e g = subst (λ (x : Outcome). Gives a before x b t) (sym e) g
 
-pub turns : {a : Setting} {o : Outcome} {b : Memory} {t t′ : Turn} → t′ ≡ t → Gives a o b t → Gives a o b t′
-turns {a} {o} {b} e g = subst (λ (x : Turn). Gives a o b x) (sym e) g
+pub turns : {a : Setting} {o : Outcome} {before b : Memory} {t t′ : Turn} → t′ ≡ t → Gives a before o b t → Gives a before o b t′
+turns {a} {o} {before} {b} e g = subst (λ (x : Turn). Gives a before o b x) (sym e) g
 
 -- ---- whether a call is open
 
@@ -266,7 +266,7 @@ end-done (x ∷ xs) s e = absurd (omega arith)
 
 module _ {a : Setting} {b : Memory} {m : Machine} {s : State} (r : Means a b m s) where
   -- a call is open
-  pub end-refused : (m .calls .opens ≡ 0 → ⊥) → Gives a (atEnd (s .calls) (s .wrap) s) b (turned (went.Refused (answer.Unclosed 3)) m)
+  pub end-refused : (m .calls .opens ≡ 0 → ⊥) → Gives a b (atEnd (s .calls) (s .wrap) s) b (turned (went.Refused (answer.Unclosed 3)) m)
   unfolding faultAnswer
   end-refused f =
       let i = some-calls r (omega (arith, f)) in
@@ -283,7 +283,7 @@ module _ {a : Setting} {b : Memory} {m : Machine} {s : State} (r : Means a b m s
           ap (λ (cs : List Call). atEnd cs (s .wrap) s) (no-calls r e) ∙ end-wrapped (s .wrap) s (omega (arith, f, front-long (r .wrap)))
 
       -- it doesn't fit the buffer
-      pub end-full : length (b .pending) < m .wrap → Gives a (atEnd (s .calls) (s .wrap) s) b (turned (went.Refused (answer.Room 1)) m)
+      pub end-full : length (b .pending) < m .wrap → Gives a b (atEnd (s .calls) (s .wrap) s) b (turned (went.Refused (answer.Room 1)) m)
       unfolding resulting withWrap withSource pushBack
       end-full h =
           let t = resulting (s .wrap) (withWrap [] s) in
@@ -295,7 +295,7 @@ module _ {a : Setting} {b : Memory} {m : Machine} {s : State} (r : Means a b m s
       pub end-pending :
           (pending : Bytes) (from : ℕ) → length pending ≡ length (b .pending) → from ≤ length pending
           → drop from pending ≡ take (m .wrap) (b .wrap) ++ drop (m .source .from) (b .pending)
-          → Gives a (atEnd (s .calls) (s .wrap) s) (pendingAt pending b)
+          → Gives a b (atEnd (s .calls) (s .wrap) s) (pendingAt pending b)
           (turned went.On (wrapSet 0 (sourceSet (record { from = from; taken = m .source .taken }) m)))
       unfolding resulting withWrap withSource
       end-pending pending from l h d =

@@ -25,7 +25,7 @@ use Rattle.expander.specs.declared.source.Position.{Position}
 use Rattle.expander.specs.Ahead.{LineEnd}
 use Rattle.expander.specs.Filled.{Filled}
 use Rattle.expander.specs.Front.{Front}
-use Rattle.expander.specs.Machine.{memory, Means, Gives, sourceSet, sinksSet, wrapSet, errorsSet, turned}
+use Rattle.expander.specs.Machine.{Memory, memory, Means, Gives, sourceSet, sinksSet, wrapSet, errorsSet, turned}
 use Rattle.expander.specs.Sinks.{SinksIn}
 use Rattle.expander.specs.Source.{SourceIn}
 use Rattle.expander.proofs.FilledLaws.{filled-long, front-more}
@@ -56,15 +56,16 @@ module _
     (r : Means a (memory text pending calls callEnds stack definitions tableEnds streams owners wrap errors output) m s) (args : List Bytes) {t : Turn}
   where
     pub line-taken :
-        {p : Position} {m′ : Machine} {n : ℕ} → LineEnd (ahead (s .source)) n → (n ≤ length (ahead (s .source)) → SourceIn text pending p (advance n (s .source)))
-        → m′ ≡ sourceSet p m → t ≡ turned went.On m′ → Gives a (callDnl args s) (memory text pending calls callEnds stack definitions tableEnds streams owners wrap errors output) t
+        {before : Memory} {p : Position} {m′ : Machine} {n : ℕ} → LineEnd (ahead (s .source)) n → (n ≤ length (ahead (s .source)) → SourceIn text pending p (advance n (s .source)))
+        → m′ ≡ sourceSet p m → t ≡ turned went.On m′ → Gives a before (callDnl args s) (memory text pending calls callEnds stack definitions tableEnds streams owners wrap errors output) t
     unfolding callDnl taking
     line-taken l f k e = turned-on (with-source r (f (l .within)) refl) (ap (λ (n : ℕ). next (taking n s)) (sym (l .line))) (e ∙ ap (turned went.On) k)
 
     module _ {x : Bytes} (e : x ≡ arg 1 args) where
       pub wrap-full :
           length wrap - m .wrap < length x → t ≡ turned (went.Refused (answer.Room 5)) m
-          → Gives a (callM4wrap args s) (memory text pending calls callEnds stack definitions tableEnds streams owners wrap errors output) t
+          → Gives a (memory text pending calls callEnds stack definitions tableEnds streams owners wrap errors output) (callM4wrap args s)
+          (memory text pending calls callEnds stack definitions tableEnds streams owners wrap errors output) t
       unfolding callM4wrap withWrap
       wrap-full h f =
           let u = withWrap (s .wrap ++ x) s in
@@ -73,15 +74,16 @@ module _
           (rw e) f
 
       pub wrap-more :
-          {wrap′ : Bytes} {m′ : Machine} → Filled wrap (m .wrap) x wrap′ → m′ ≡ wrapSet (m .wrap + length x) m → t ≡ turned went.On m′
-          → Gives a (callM4wrap args s) (memory text pending calls callEnds stack definitions tableEnds streams owners wrap′ errors output) t
+          {before : Memory} {wrap′ : Bytes} {m′ : Machine} → Filled wrap (m .wrap) x wrap′ → m′ ≡ wrapSet (m .wrap + length x) m → t ≡ turned went.On m′
+          → Gives a before (callM4wrap args s) (memory text pending calls callEnds stack definitions tableEnds streams owners wrap′ errors output) t
       unfolding callM4wrap
       wrap-more g k f = turned-on (with-wrap r (front-more (r .wrap) g) (filled-long g)) (rw e) (f ∙ ap (turned went.On) k)
 
     module _ {x : Bytes} (e : x ≡ separated 32 args) {n : ℕ} (l : n ≡ length x) where
       pub errors-full :
           length errors - m .errors < n → t ≡ turned (went.Refused (answer.Room 6)) m
-          → Gives a (callErrprint args s) (memory text pending calls callEnds stack definitions tableEnds streams owners wrap errors output) t
+          → Gives a (memory text pending calls callEnds stack definitions tableEnds streams owners wrap errors output) (callErrprint args s)
+          (memory text pending calls callEnds stack definitions tableEnds streams owners wrap errors output) t
       unfolding callErrprint withErrors
       errors-full h f =
           let u = withErrors (s .errors ++ x) s in
@@ -90,8 +92,8 @@ module _
           (rw e) f
 
       pub errors-more :
-          {errors′ : Bytes} {m′ : Machine} → Filled errors (m .errors) x errors′ → m′ ≡ errorsSet (m .errors + n) m → t ≡ turned went.On m′
-          → Gives a (callErrprint args s) (memory text pending calls callEnds stack definitions tableEnds streams owners wrap errors′ output) t
+          {before : Memory} {errors′ : Bytes} {m′ : Machine} → Filled errors (m .errors) x errors′ → m′ ≡ errorsSet (m .errors + n) m → t ≡ turned went.On m′
+          → Gives a before (callErrprint args s) (memory text pending calls callEnds stack definitions tableEnds streams owners wrap errors′ output) t
       unfolding callErrprint
       errors-more g k f =
           turned-on (with-errors r (front-more (r .errors) g) (filled-long g)) (rw e)
@@ -100,16 +102,17 @@ module _
     module _ {c : Natural} (e : c ≡ naturalOf (bounded 0 255 (numberOr (pos 0) 1 args))) where
       pub exit-refused :
           c ≡ natural.NoNumber → t ≡ turned (went.Refused answer.Number) m
-          → Gives a (callM4exit args s) (memory text pending calls callEnds stack definitions tableEnds streams owners wrap errors output) t
+          → Gives a (memory text pending calls callEnds stack definitions tableEnds streams owners wrap errors output) (callM4exit args s)
+          (memory text pending calls callEnds stack definitions tableEnds streams owners wrap errors output) t
       unfolding callM4exit faultAnswer
       exit-refused h f =
           let q : bounded 0 255 (numberOr (pos 0) 1 args) ≡ none = reads-none e h in
           turned-refused {m = m} noNumber (rw (q, callM4exit)) f
 
       pub exited :
-          {m′ m″ : Machine} (code : ℕ) → c ≡ natural.Number code → m′ ≡ sinksSet (record { current = m .sinks .current; waiting = 0; output = m .sinks .output }) m
+          {before : Memory} {m′ m″ : Machine} (code : ℕ) → c ≡ natural.Number code → m′ ≡ sinksSet (record { current = m .sinks .current; waiting = 0; output = m .sinks .output }) m
           → m″ ≡ wrapSet 0 m′ → t ≡ turned (went.Ended (answer.Exit code)) m″
-          → Gives a (callM4exit args s) (memory text pending calls callEnds stack definitions tableEnds streams owners wrap errors output) t
+          → Gives a before (callM4exit args s) (memory text pending calls callEnds stack definitions tableEnds streams owners wrap errors output) t
       unfolding callM4exit changing changedInTurn changed endingAnswer droppedStreams
       exited code h j k f =
           let q : bounded 0 255 (numberOr (pos 0) 1 args) ≡ some code = reads-some e code h in

@@ -13,15 +13,15 @@ use Rattle.expander.specs.Machine.{Memory, Means, Gives, turned}
 use Rattle.expander.proofs.MachineLaws.{gives-next, gives-refused, gives-room}
 
 -- by another way to say the outcome, and what the code hands back
-pub gives-by : {a : Setting} {o o′ : Outcome} {b : Memory} {t t′ : Turn} → o ≡ o′ → t ≡ t′ → Gives a o′ b t′ → Gives a o b t
+pub gives-by : {a : Setting} {o o′ : Outcome} {before b : Memory} {t t′ : Turn} → o ≡ o′ → t ≡ t′ → Gives a before o′ b t′ → Gives a before o b t
 gives-by e f g = rw (e, f) g
 
 module _ {a : Setting} {b : Memory} {m : Machine} {o : Outcome} {t : Turn} where
-  pub turned-on : {u : State} → Means a b m u → o ≡ next u → t ≡ turned went.On m → Gives a o b t
+  pub turned-on : {before : Memory} {u : State} → Means a b m u → o ≡ next u → t ≡ turned went.On m → Gives a before o b t
   turned-on r e f = rw (e, f) (gives-next r)
 
-  pub turned-refused : (f : Fault) → o ≡ refused f → t ≡ turned (went.Refused (faultAnswer f)) m → Gives a o b t
+  pub turned-refused : (f : Fault) → o ≡ refused f → t ≡ turned (went.Refused (faultAnswer f)) m → Gives a b o b t
   turned-refused f e g = rw (e, g) (gives-refused f)
 
-  pub turned-full : (u : State) (k : ℕ) → overfull (held u) (lengths a) ≡ some k → o ≡ next u → t ≡ turned (went.Refused (answer.Room (k + 1))) m → Gives a o b t
+  pub turned-full : (u : State) (k : ℕ) → overfull (held u) (lengths a) ≡ some k → o ≡ next u → t ≡ turned (went.Refused (answer.Room (k + 1))) m → Gives a b o b t
   turned-full u k h e f = rw (e, f) (gives-room u k h)

@@ -182,11 +182,12 @@ pub record Reach (text pending : Bytes) (p : Position) (start n width : ℕ) : T
   pub some : start + n ≤ aheadOf text pending p
   pub whole : width ≤ aheadOf text pending p
 
--- what a function leaves whose outcome is o, once room is judged
-unfoldable pub Came : Setting → Memory → Turn → Verdict → Type 0
-Came a b t (going s) = (t .went ≡ went.On) × Means a b (t .machine) s
-Came a b t (over x s) = (t .went ≡ went.Ended x) × Means a b (t .machine) s
-Came a b t (denied x) = t .went ≡ went.Refused x
+-- what a function leaves, from the memory `before`, whose outcome is o, once room is judged. A refused step has written nothing: the
+-- standing state is still meant
+unfoldable pub Came : Setting → Memory → Memory → Turn → Verdict → Type 0
+Came a before b t (going s) = (t .went ≡ went.On) × Means a b (t .machine) s
+Came a before b t (over x s) = (t .went ≡ went.Ended x) × Means a b (t .machine) s
+Came a before b t (denied x) = (t .went ≡ went.Refused x) × (b ≡ before)
 
-pub record Gives (a : Setting) (o : Outcome) (b : Memory) (t : Turn) : Type 0 where
-  pub came : Came a b t (verdict (lengths a) o)
+pub record Gives (a : Setting) (before : Memory) (o : Outcome) (b : Memory) (t : Turn) : Type 0 where
+  pub came : Came a before b t (verdict (lengths a) o)

@@ -1,15 +1,18 @@
 -- What the run leaves, and what its functions ask.
 use Prim.Native.Nat.{ℕ, _+_, _-_, _≤_, _<_}
 use mathlib.Core.Path.{_≡_}
+use mathlib.Core.Bool.{true, false}
 use mathlib.Core.List.{List}
 use lib.ListN.{length, replicate}
 use Rattle.rules.specs.declared.Answer.{Answer}
 use Rattle.rules.specs.declared.Report.{Report}
 use Rattle.rules.specs.Bytes.{Bytes}
+use Rattle.rules.specs.Answers.{isFinished}
 use Rattle.rules.specs.State.{State}
 use Rattle.rules.specs.Run.{Setting, Ended, lengths, runFrom}
 use Rattle.rules.specs.Contract.{reportOf, errorsOf, outputOf, fronted}
 use Rattle.expander.specs.declared.machine.Machine.{Machine}
+use Rattle.expander.specs.declared.run.Halted.{Halted}
 use Rattle.expander.specs.declared.events.Special.{Special}
 use Rattle.expander.specs.declared.stretch.Stop.{Stop}
 use Rattle.expander.specs.declared.stretch.Stop.the-variants as stop
@@ -29,17 +32,33 @@ pub record Running (a : Setting) (b : Memory) (m : Machine) (left count : ℕ) (
   pub means : Means a b m state
   pub so-far : whole ≡ runFrom (lengths a) left count state
 
--- a run's report, and its error text and output at the front of buffers
-pub record Ran (e : Ended) (errors output : Bytes) (r : Report) : Type 0 where
-  pub report : r ≡ reportOf e
-  pub errors-are : Front errors (r .errors) (errorsOf e)
-  pub output-are : Front output (r .output) (outputOf e)
+-- how a run ended, in memory: the answer, the completed steps, and the standing state
+pub record Leaves (a : Setting) (e : Ended) (b : Memory) (r : Halted) : Type 0 where
+  pub answer-is : r .answer ≡ e .answer
+  pub steps-are : r .steps ≡ e .steps
+  pub means : Means a b (r .machine) (e .state)
+
+abbrev pub halted : Answer → ℕ → Machine → Halted
+halted answer steps m = record { answer = answer; steps = steps; machine = m }
 
 unfoldable pub finishedReport : Answer → ℕ → Machine → Report
 finishedReport answer steps m = record { answer = answer; steps = steps; place = m .source .taken; output = m .sinks .output; errors = m .errors }
 
 unfoldable pub stoppedReport : Answer → ℕ → Machine → Report
 stoppedReport answer steps m = record { answer = answer; steps = steps; place = m .source .taken; output = 0; errors = 0 }
+
+unfoldable pub haltedReport : Halted → Report
+haltedReport h =
+    elim (isFinished (h .answer)) [
+      | true ↦ finishedReport (h .answer) (h .steps) (h .machine)
+      | false ↦ stoppedReport (h .answer) (h .steps) (h .machine)
+    ]
+
+-- a run's report, and its error text and output at the front of buffers
+pub record Ran (e : Ended) (errors output : Bytes) (r : Report) : Type 0 where
+  pub report : r ≡ reportOf e
+  pub errors-are : Front errors (r .errors) (errorsOf e)
+  pub output-are : Front output (r .output) (outputOf e)
 
 -- the next step is not plain, and this is what it comes to
 pub record SpecialNext (a : Setting) (b : Memory) (whole : Ended) (count : ℕ) (r : Stretch) (e : Special) : Type 0 where
@@ -48,13 +67,9 @@ pub record SpecialNext (a : Setting) (b : Memory) (whole : Ended) (count : ℕ) 
   pub within : SpecialWithin (b .text) (b .pending) (r .machine) e
   pub is : SpecialIs (running .state) e
 
--- the run ends here, with its budget spent or a step refused
-pub record StoppedHere (whole : Ended) (count : ℕ) (m : Machine) (x : Answer) : Type 0 where
-  pub taken-in : m .source .taken ≤ 65536
-  pub ran : (errors output : Bytes) → Ran whole errors output (stoppedReport x count m)
-
+-- the run ends here, with its budget spent or a step refused; or a special step is next
 unfoldable pub Reached : Setting → Memory → Ended → ℕ → Stretch → Stop → Type 0
-Reached a b whole count r (stop.Stopped x) = StoppedHere whole count (r .machine) x
+Reached a b whole count r (stop.Stopped x) = Leaves a whole b (halted x count (r .machine))
 Reached a b whole count r (stop.Special e) = SpecialNext a b whole count r e
 
 -- a stretch of plain steps of a run that had `budget` steps left after `count`

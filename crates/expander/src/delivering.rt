@@ -30,7 +30,7 @@ pub(crate) fn emit_token(
 ) -> Turn
     requires { ⌜ Sound (λ b. textAt (now text) (pendingAt (now pending) (sinksAt (now streams) (now owners) (now output) b))) m ⌝ }
     requires { ⌜ Reach (now text) (now pending) (m .source) start n width ⌝ }
-    ensures { λ t. ⌜ ((a : Setting) (s : State) (b : Memory) → Means a (textAt (now (text .entry)) (pendingAt (now (pending .entry)) (sinksAt (now (streams .entry)) (now (owners .entry)) (now (output .entry)) b))) m s → Gives a (next (emitting (take n (drop start (ahead (s .source)))) (taking width s))) (textAt (now (text .entry)) (pendingAt (now (pending .entry)) (sinksAt (now (streams .exit)) (now (owners .exit)) (now (output .exit)) b))) t) ⌝ }
+    ensures { λ t. ⌜ ((a : Setting) (s : State) (b : Memory) → Means a (textAt (now (text .entry)) (pendingAt (now (pending .entry)) (sinksAt (now (streams .entry)) (now (owners .entry)) (now (output .entry)) b))) m s → Gives a (textAt (now (text .entry)) (pendingAt (now (pending .entry)) (sinksAt (now (streams .entry)) (now (owners .entry)) (now (output .entry)) b))) (next (emitting (take n (drop start (ahead (s .source)))) (taking width s))) (textAt (now (text .entry)) (pendingAt (now (pending .entry)) (sinksAt (now (streams .exit)) (now (owners .exit)) (now (output .exit)) b))) t) ⌝ }
 {
     let p = m.source;
     let from = p.from;
@@ -67,7 +67,7 @@ pub(crate) fn collect_token(
 ) -> Turn
     requires { ⌜ Sound (λ b. textAt (now text) (pendingAt (now pending) (callsAt (now calls) (now ends) (now stack) b))) m ⌝ }
     requires { ⌜ Reach (now text) (now pending) (m .source) start n width × (0 < m .calls .opens) ⌝ }
-    ensures { λ t. ⌜ ((a : Setting) (s : State) (b : Memory) (c : Call) (cs : List Call) → Means a (textAt (now (text .entry)) (pendingAt (now (pending .entry)) (callsAt (now (calls .entry)) (now (ends .entry)) (now (stack .entry)) b))) m s → s .calls ≡ c ∷ cs → Gives a (next (withCalls (collecting (take n (drop start (ahead (s .source)))) (c .depth) c ∷ cs) (taking width s))) (textAt (now (text .entry)) (pendingAt (now (pending .entry)) (callsAt (now (calls .exit)) (now (ends .exit)) (now (stack .exit)) b))) t) ⌝ }
+    ensures { λ t. ⌜ ((a : Setting) (s : State) (b : Memory) (c : Call) (cs : List Call) → Means a (textAt (now (text .entry)) (pendingAt (now (pending .entry)) (callsAt (now (calls .entry)) (now (ends .entry)) (now (stack .entry)) b))) m s → s .calls ≡ c ∷ cs → Gives a (textAt (now (text .entry)) (pendingAt (now (pending .entry)) (callsAt (now (calls .entry)) (now (ends .entry)) (now (stack .entry)) b))) (next (withCalls (collecting (take n (drop start (ahead (s .source)))) (c .depth) c ∷ cs) (taking width s))) (textAt (now (text .entry)) (pendingAt (now (pending .entry)) (callsAt (now (calls .exit)) (now (ends .exit)) (now (stack .exit)) b))) t) ⌝ }
 {
     let p = m.source;
     let from = p.from;
@@ -106,7 +106,7 @@ pub(crate) fn deliver(
 ) -> Turn
     requires { ⌜ Sound (λ b. textAt (now text) (pendingAt (now pending) (callsAt (now calls) (now ends) (now stack) (sinksAt (now streams) (now owners) (now output) b)))) m ⌝ }
     requires { ⌜ Reach (now text) (now pending) (m .source) start n width ⌝ }
-    ensures { λ t. ⌜ ((a : Setting) (s : State) (b : Memory) → Means a (textAt (now (text .entry)) (pendingAt (now (pending .entry)) (callsAt (now (calls .entry)) (now (ends .entry)) (now (stack .entry)) (sinksAt (now (streams .entry)) (now (owners .entry)) (now (output .entry)) b)))) m s → Gives a (next (delivered (take n (drop start (ahead (s .source)))) (s .calls) (taking width s))) (textAt (now (text .entry)) (pendingAt (now (pending .entry)) (callsAt (now (calls .exit)) (now (ends .exit)) (now (stack .exit)) (sinksAt (now (streams .exit)) (now (owners .exit)) (now (output .exit)) b)))) t) ⌝ }
+    ensures { λ t. ⌜ ((a : Setting) (s : State) (b : Memory) → Means a (textAt (now (text .entry)) (pendingAt (now (pending .entry)) (callsAt (now (calls .entry)) (now (ends .entry)) (now (stack .entry)) (sinksAt (now (streams .entry)) (now (owners .entry)) (now (output .entry)) b)))) m s → Gives a (textAt (now (text .entry)) (pendingAt (now (pending .entry)) (callsAt (now (calls .entry)) (now (ends .entry)) (now (stack .entry)) (sinksAt (now (streams .entry)) (now (owners .entry)) (now (output .entry)) b)))) (next (delivered (take n (drop start (ahead (s .source)))) (s .calls) (taking width s))) (textAt (now (text .entry)) (pendingAt (now (pending .entry)) (callsAt (now (calls .exit)) (now (ends .exit)) (now (stack .exit)) (sinksAt (now (streams .exit)) (now (owners .exit)) (now (output .exit)) b)))) t) ⌝ }
 {
     if m.calls.opens == 0 {
         return emit_token(text, pending, streams, owners, output, m, start, n, width);
@@ -123,7 +123,7 @@ pub(crate) fn emit_byte(
     x: u8,
 ) -> Turn
     requires { ⌜ Sound (λ b. sinksAt (now streams) (now owners) (now output) b) m ⌝ }
-    ensures { λ t. ⌜ ((a : Setting) (s : State) (b : Memory) → Means a (sinksAt (now (streams .entry)) (now (owners .entry)) (now (output .entry)) b) m s → Gives a (next (emitting (x ∷ []) s)) (sinksAt (now (streams .exit)) (now (owners .exit)) (now (output .exit)) b) t) ⌝ }
+    ensures { λ t. ⌜ ((a : Setting) (s : State) (b : Memory) → Means a (sinksAt (now (streams .entry)) (now (owners .entry)) (now (output .entry)) b) m s → Gives a (sinksAt (now (streams .entry)) (now (owners .entry)) (now (output .entry)) b) (next (emitting (x ∷ []) s)) (sinksAt (now (streams .exit)) (now (owners .exit)) (now (output .exit)) b) t) ⌝ }
 {
     let full = sinks::full(m.sinks, 1, streams.len(), output.len());
     if full != 0 {
@@ -144,7 +144,7 @@ pub(crate) fn collect_byte(
 ) -> Turn
     requires { ⌜ Sound (λ b. callsAt (now calls) (now ends) (now stack) b) m ⌝ }
     requires { ⌜ 0 < m .calls .opens ⌝ }
-    ensures { λ t. ⌜ ((a : Setting) (s : State) (b : Memory) (c : Call) (cs : List Call) → Means a (callsAt (now (calls .entry)) (now (ends .entry)) (now (stack .entry)) b) m s → s .calls ≡ c ∷ cs → depth ≤ length (c .current) + 1 → Gives a (next (withCalls (collecting (x ∷ []) depth c ∷ cs) s)) (callsAt (now (calls .exit)) (now (ends .exit)) (now (stack .exit)) b) t) ⌝ }
+    ensures { λ t. ⌜ ((a : Setting) (s : State) (b : Memory) (c : Call) (cs : List Call) → Means a (callsAt (now (calls .entry)) (now (ends .entry)) (now (stack .entry)) b) m s → s .calls ≡ c ∷ cs → depth ≤ length (c .current) + 1 → Gives a (callsAt (now (calls .entry)) (now (ends .entry)) (now (stack .entry)) b) (next (withCalls (collecting (x ∷ []) depth c ∷ cs) s)) (callsAt (now (calls .exit)) (now (ends .exit)) (now (stack .exit)) b) t) ⌝ }
 {
     if calls.len() <= m.calls.strings.used {
         return m.refused(Answer::Room(2));
@@ -165,7 +165,7 @@ pub(crate) fn open_call(
 ) -> Turn
     requires { ⌜ Sound (λ b. textAt (now text) (pendingAt (now pending) (callsAt (now calls) (now ends) (now stack) b))) m ⌝ }
     requires { ⌜ Reach (now text) (now pending) (m .source) 0 n (suc n) ⌝ }
-    ensures { λ t. ⌜ ((a : Setting) (s : State) (b : Memory) → Means a (textAt (now (text .entry)) (pendingAt (now (pending .entry)) (callsAt (now (calls .entry)) (now (ends .entry)) (now (stack .entry)) b))) m s → Gives a (opened (take n (ahead (s .source))) (taking (suc n) s)) (textAt (now (text .entry)) (pendingAt (now (pending .entry)) (callsAt (now (calls .exit)) (now (ends .exit)) (now (stack .exit)) b))) t) ⌝ }
+    ensures { λ t. ⌜ ((a : Setting) (s : State) (b : Memory) → Means a (textAt (now (text .entry)) (pendingAt (now (pending .entry)) (callsAt (now (calls .entry)) (now (ends .entry)) (now (stack .entry)) b))) m s → Gives a (textAt (now (text .entry)) (pendingAt (now (pending .entry)) (callsAt (now (calls .entry)) (now (ends .entry)) (now (stack .entry)) b))) (opened (take n (ahead (s .source))) (taking (suc n) s)) (textAt (now (text .entry)) (pendingAt (now (pending .entry)) (callsAt (now (calls .exit)) (now (ends .exit)) (now (stack .exit)) b))) t) ⌝ }
 {
     let p = m.source;
     let from = p.from;
@@ -197,7 +197,7 @@ pub(crate) fn open_call(
 pub(crate) fn next_argument(calls: &[u8], ends: &mut [u32], stack: &mut [u32], m: Machine) -> Turn
     requires { ⌜ Sound (λ b. callsAt (now calls) (now ends) (now stack) b) m ⌝ }
     requires { ⌜ 0 < m .calls .opens ⌝ }
-    ensures { λ t. ⌜ ((a : Setting) (s : State) (b : Memory) (c : Call) (cs : List Call) → Means a (callsAt (now (calls .entry)) (now (ends .entry)) (now (stack .entry)) b) m s → s .calls ≡ c ∷ cs → Gives a (commaMet c cs s) (callsAt (now (calls .entry)) (now (ends .exit)) (now (stack .exit)) b) t) ⌝ }
+    ensures { λ t. ⌜ ((a : Setting) (s : State) (b : Memory) (c : Call) (cs : List Call) → Means a (callsAt (now (calls .entry)) (now (ends .entry)) (now (stack .entry)) b) m s → s .calls ≡ c ∷ cs → Gives a (callsAt (now (calls .entry)) (now (ends .entry)) (now (stack .entry)) b) (commaMet c cs s) (callsAt (now (calls .entry)) (now (ends .exit)) (now (stack .exit)) b) t) ⌝ }
 {
     if 256 <= m.calls.strings.count - m.calls.opens {
         return m.refused(Answer::Deep);

@@ -207,7 +207,7 @@ fn move_streams(
 pub(crate) fn divert(calls: &[u8], ends: &[u32], m: Machine, x: Arguments) -> Turn
     requires { ⌜ Sound (λ b. stringsAt (now calls) (now ends) b) m ⌝ }
     requires { ⌜ SomeArguments (now calls) (now ends) x ⌝ }
-    ensures { λ t. ⌜ ((a : Setting) (s : State) (b : Memory) (args : List Bytes) → Means a (stringsAt (now (calls .entry)) (now (ends .entry)) b) m s → ArgumentsIn (now (calls .entry)) (now (ends .entry)) x args → Gives a (callDivert args s) (stringsAt (now (calls .entry)) (now (ends .entry)) b) t) ⌝ }
+    ensures { λ t. ⌜ ((a : Setting) (s : State) (b : Memory) (args : List Bytes) → Means a (stringsAt (now (calls .entry)) (now (ends .entry)) b) m s → ArgumentsIn (now (calls .entry)) (now (ends .entry)) x args → Gives a (stringsAt (now (calls .entry)) (now (ends .entry)) b) (callDivert args s) (stringsAt (now (calls .entry)) (now (ends .entry)) b) t) ⌝ }
 {
     let Decimal::Number(current) = arguments::decimal_or(calls, ends, x, 1, 0) else {
         return m.refused(Answer::Number);
@@ -233,7 +233,7 @@ pub(crate) fn undivert(
 ) -> Turn
     requires { ⌜ Sound (λ b. stringsAt (now calls) (now ends) (sinksAt (now streams) (now owners) (now output) b)) m ⌝ }
     requires { ⌜ SomeArguments (now calls) (now ends) x × (length (now scratch) ≡ 65536) ⌝ }
-    ensures { λ t. ⌜ ((a : Setting) (s : State) (b : Memory) (args : List Bytes) → Means a (stringsAt (now (calls .entry)) (now (ends .entry)) (sinksAt (now (streams .entry)) (now (owners .entry)) (now (output .entry)) b)) m s → ArgumentsIn (now (calls .entry)) (now (ends .entry)) x args → Gives a (callUndivert args s) (stringsAt (now (calls .entry)) (now (ends .entry)) (sinksAt (now (streams .exit)) (now (owners .exit)) (now (output .exit)) b)) t) ⌝ }
+    ensures { λ t. ⌜ ((a : Setting) (s : State) (b : Memory) (args : List Bytes) → Means a (stringsAt (now (calls .entry)) (now (ends .entry)) (sinksAt (now (streams .entry)) (now (owners .entry)) (now (output .entry)) b)) m s → ArgumentsIn (now (calls .entry)) (now (ends .entry)) x args → Gives a (stringsAt (now (calls .entry)) (now (ends .entry)) (sinksAt (now (streams .entry)) (now (owners .entry)) (now (output .entry)) b)) (callUndivert args s) (stringsAt (now (calls .entry)) (now (ends .entry)) (sinksAt (now (streams .exit)) (now (owners .exit)) (now (output .exit)) b)) t) ⌝ }
 {
     if !names_streams(calls, ends, x) {
         return m.refused(Answer::Number);
@@ -259,7 +259,7 @@ pub(crate) fn undivert(
 // The text is used up: streams 1 to 9 go to the output in order.
 pub(crate) fn finish(streams: &[u8], owners: &[u8], output: &mut [u8], m: Machine) -> Turn
     requires { ⌜ Sound (λ b. sinksAt (now streams) (now owners) (now output) b) m ⌝ }
-    ensures { λ t. ⌜ ((a : Setting) (s : State) (b : Memory) → Means a (sinksAt (now (streams .entry)) (now (owners .entry)) (now (output .entry)) b) m s → Gives a (stop done (withStreams (finishedStreams (s .streams)) s)) (sinksAt (now (streams .entry)) (now (owners .entry)) (now (output .exit)) b) t) ⌝ }
+    ensures { λ t. ⌜ ((a : Setting) (s : State) (b : Memory) → Means a (sinksAt (now (streams .entry)) (now (owners .entry)) (now (output .entry)) b) m s → Gives a (sinksAt (now (streams .entry)) (now (owners .entry)) (now (output .entry)) b) (stop done (withStreams (finishedStreams (s .streams)) s)) (sinksAt (now (streams .entry)) (now (owners .entry)) (now (output .exit)) b) t) ⌝ }
 {
     let n = m.sinks.waiting;
     let at = m.sinks.output;

@@ -45,7 +45,7 @@ pub enum Given {
 // A number in a radix.
 fn give_number(pending: &mut [u8], p: Position, bits: u32, radix: u32, least: u32) -> Given
     requires { ⌜ SoundAt (λ b. pendingAt (now pending) b) (λ m. sourceSet p m) ⌝ }
-    ensures { λ r. ⌜ ((a : Setting) (s : State) (b : Memory) (m : Machine) → Means a (pendingAt (now (pending .entry)) b) (sourceSet p m) s → isRadix radix ≡ true → Gives a (next (resulting (writtenIn radix least (signedValue bits)) s)) (pendingAt (now (pending .exit)) b) (givenTurn (sourceSet p m) r)) ⌝ }
+    ensures { λ r. ⌜ ((a : Setting) (s : State) (b : Memory) (m : Machine) → Means a (pendingAt (now (pending .entry)) b) (sourceSet p m) s → isRadix radix ≡ true → Gives a (pendingAt (now (pending .entry)) b) (next (resulting (writtenIn radix least (signedValue bits)) s)) (pendingAt (now (pending .exit)) b) (givenTurn (sourceSet p m) r)) ⌝ }
 {
     let Length::Bytes(n) = numerals::written_length(bits, radix, least) else {
         return Given::Refused(Answer::Number);
@@ -62,7 +62,7 @@ fn give_number(pending: &mut [u8], p: Position, bits: u32, radix: u32, least: u3
 // A slice.
 fn give_slice(pending: &mut [u8], p: Position, s: &[u8]) -> Given
     requires { ⌜ SoundAt (λ b. pendingAt (now pending) b) (λ m. sourceSet p m) ⌝ }
-    ensures { λ r. ⌜ ((a : Setting) (u : State) (b : Memory) (m : Machine) → Means a (pendingAt (now (pending .entry)) b) (sourceSet p m) u → Gives a (next (resulting (now (s .entry)) u)) (pendingAt (now (pending .exit)) b) (givenTurn (sourceSet p m) r)) ⌝ }
+    ensures { λ r. ⌜ ((a : Setting) (u : State) (b : Memory) (m : Machine) → Means a (pendingAt (now (pending .entry)) b) (sourceSet p m) u → Gives a (pendingAt (now (pending .entry)) b) (next (resulting (now (s .entry)) u)) (pendingAt (now (pending .exit)) b) (givenTurn (sourceSet p m) r)) ⌝ }
 {
     let from = p.from;
     if from < s.len() {
@@ -75,7 +75,7 @@ fn give_slice(pending: &mut [u8], p: Position, s: &[u8]) -> Given
 // A number.
 pub(crate) fn give_figure(pending: &mut [u8], p: Position, f: Figure) -> Given
     requires { ⌜ SoundAt (λ b. pendingAt (now pending) b) (λ m. sourceSet p m) ⌝ }
-    ensures { λ r. ⌜ ((a : Setting) (s : State) (b : Memory) (m : Machine) (w : Result) → Means a (pendingAt (now (pending .entry)) b) (sourceSet p m) s → Shows w f → Gives a (giving w s) (pendingAt (now (pending .exit)) b) (givenTurn (sourceSet p m) r)) ⌝ }
+    ensures { λ r. ⌜ ((a : Setting) (s : State) (b : Memory) (m : Machine) (w : Result) → Means a (pendingAt (now (pending .entry)) b) (sourceSet p m) s → Shows w f → Gives a (pendingAt (now (pending .entry)) b) (giving w s) (pendingAt (now (pending .exit)) b) (givenTurn (sourceSet p m) r)) ⌝ }
 {
     match f {
         Figure::NoNumber => Given::Refused(Answer::Number),
@@ -89,7 +89,7 @@ pub(crate) fn give_figure(pending: &mut [u8], p: Position, f: Figure) -> Given
 pub(crate) fn give_cut(pending: &mut [u8], calls: &[u8], p: Position, c: Cut) -> Given
     requires { ⌜ SoundAt (λ b. pendingAt (now pending) b) (λ m. sourceSet p m) ⌝ }
     requires { ⌜ CutInside (now calls) c ⌝ }
-    ensures { λ r. ⌜ ((a : Setting) (s : State) (b : Memory) (m : Machine) (w : Result) → Means a (pendingAt (now (pending .entry)) b) (sourceSet p m) s → Cuts (now (calls .entry)) w c → Gives a (giving w s) (pendingAt (now (pending .exit)) b) (givenTurn (sourceSet p m) r)) ⌝ }
+    ensures { λ r. ⌜ ((a : Setting) (s : State) (b : Memory) (m : Machine) (w : Result) → Means a (pendingAt (now (pending .entry)) b) (sourceSet p m) s → Cuts (now (calls .entry)) w c → Gives a (pendingAt (now (pending .entry)) b) (giving w s) (pendingAt (now (pending .exit)) b) (givenTurn (sourceSet p m) r)) ⌝ }
 {
     let Cut::Part { start, end } = c else {
         return Given::Refused(Answer::Number);
@@ -108,7 +108,7 @@ pub(crate) fn give_shift(
 ) -> Given
     requires { ⌜ SoundAt (λ b. pendingAt (now pending) (stringsAt (now calls) (now ends) b)) (λ m. sourceSet p (marksSet marks m)) ⌝ }
     requires { ⌜ SomeArguments (now calls) (now ends) x ⌝ }
-    ensures { λ r. ⌜ ((a : Setting) (s : State) (b : Memory) (m : Machine) (args : List Bytes) → Means a (pendingAt (now (pending .entry)) (stringsAt (now (calls .entry)) (now (ends .entry)) b)) (sourceSet p (marksSet marks m)) s → ArgumentsIn (now (calls .entry)) (now (ends .entry)) x args → Gives a (callShift args s) (pendingAt (now (pending .exit)) (stringsAt (now (calls .entry)) (now (ends .entry)) b)) (givenTurn (sourceSet p (marksSet marks m)) r)) ⌝ }
+    ensures { λ r. ⌜ ((a : Setting) (s : State) (b : Memory) (m : Machine) (args : List Bytes) → Means a (pendingAt (now (pending .entry)) (stringsAt (now (calls .entry)) (now (ends .entry)) b)) (sourceSet p (marksSet marks m)) s → ArgumentsIn (now (calls .entry)) (now (ends .entry)) x args → Gives a (pendingAt (now (pending .entry)) (stringsAt (now (calls .entry)) (now (ends .entry)) b)) (callShift args s) (pendingAt (now (pending .exit)) (stringsAt (now (calls .entry)) (now (ends .entry)) b)) (givenTurn (sourceSet p (marksSet marks m)) r)) ⌝ }
 {
     let n = lists::list_length(ends, x, 1, marks);
     let from = p.from;
@@ -130,7 +130,7 @@ pub(crate) fn give_translit(
 ) -> Given
     requires { ⌜ SoundAt (λ b. pendingAt (now pending) (stringsAt (now calls) (now ends) b)) (λ m. sourceSet p m) ⌝ }
     requires { ⌜ SomeArguments (now calls) (now ends) x ⌝ }
-    ensures { λ r. ⌜ ((a : Setting) (s : State) (b : Memory) (m : Machine) (args : List Bytes) → Means a (pendingAt (now (pending .entry)) (stringsAt (now (calls .entry)) (now (ends .entry)) b)) (sourceSet p m) s → ArgumentsIn (now (calls .entry)) (now (ends .entry)) x args → Gives a (callTranslit args s) (pendingAt (now (pending .exit)) (stringsAt (now (calls .entry)) (now (ends .entry)) b)) (givenTurn (sourceSet p m) r)) ⌝ }
+    ensures { λ r. ⌜ ((a : Setting) (s : State) (b : Memory) (m : Machine) (args : List Bytes) → Means a (pendingAt (now (pending .entry)) (stringsAt (now (calls .entry)) (now (ends .entry)) b)) (sourceSet p m) s → ArgumentsIn (now (calls .entry)) (now (ends .entry)) x args → Gives a (pendingAt (now (pending .entry)) (stringsAt (now (calls .entry)) (now (ends .entry)) b)) (callTranslit args s) (pendingAt (now (pending .exit)) (stringsAt (now (calls .entry)) (now (ends .entry)) b)) (givenTurn (sourceSet p m) r)) ⌝ }
 {
     let s = arguments::argument(calls, ends, x, 1);
     let old = arguments::argument(calls, ends, x, 2);
@@ -160,7 +160,7 @@ pub(crate) fn give_defn(
 ) -> Given
     requires { ⌜ SoundAt (λ b. pendingAt (now pending) (stringsAt (now calls) (now ends) (definitionsAt (now definitions) (now «table_ends») b))) (λ m. sourceSet p (marksSet marks (tableSet table m))) ⌝ }
     requires { ⌜ SomeArguments (now calls) (now ends) x ⌝ }
-    ensures { λ r. ⌜ ((a : Setting) (s : State) (b : Memory) (m : Machine) (args : List Bytes) → Means a (pendingAt (now (pending .entry)) (stringsAt (now (calls .entry)) (now (ends .entry)) (definitionsAt (now (definitions .entry)) (now («table_ends» .entry)) b))) (sourceSet p (marksSet marks (tableSet table m))) s → ArgumentsIn (now (calls .entry)) (now (ends .entry)) x args → Gives a (callDefn args s) (pendingAt (now (pending .exit)) (stringsAt (now (calls .entry)) (now (ends .entry)) (definitionsAt (now (definitions .entry)) (now («table_ends» .entry)) b))) (givenTurn (sourceSet p (marksSet marks (tableSet table m))) r)) ⌝ }
+    ensures { λ r. ⌜ ((a : Setting) (s : State) (b : Memory) (m : Machine) (args : List Bytes) → Means a (pendingAt (now (pending .entry)) (stringsAt (now (calls .entry)) (now (ends .entry)) (definitionsAt (now (definitions .entry)) (now («table_ends» .entry)) b))) (sourceSet p (marksSet marks (tableSet table m))) s → ArgumentsIn (now (calls .entry)) (now (ends .entry)) x args → Gives a (pendingAt (now (pending .entry)) (stringsAt (now (calls .entry)) (now (ends .entry)) (definitionsAt (now (definitions .entry)) (now («table_ends» .entry)) b))) (callDefn args s) (pendingAt (now (pending .exit)) (stringsAt (now (calls .entry)) (now (ends .entry)) (definitionsAt (now (definitions .entry)) (now («table_ends» .entry)) b))) (givenTurn (sourceSet p (marksSet marks (tableSet table m))) r)) ⌝ }
 {
     let DefnLength::Bytes(n) = defn::defn_length(
         calls,
@@ -208,7 +208,7 @@ pub(crate) fn give_text(
     requires { ⌜ SoundAt (λ b. pendingAt (now pending) (stringsAt (now calls) (now ends) (definitionsAt (now definitions) (now «table_ends») b))) (λ m. sourceSet p (marksSet marks (tableSet table m))) ⌝ }
     requires { ⌜ SomeArguments (now calls) (now ends) x ⌝ }
     requires { ⌜ (length (now name) ≤ 65536) × (2 * place + 2 ≤ table .packed .count) ⌝ }
-    ensures { λ r. ⌜ ((a : Setting) (s : State) (b : Memory) (m : Machine) (args : List Bytes) → Means a (pendingAt (now (pending .entry)) (stringsAt (now (calls .entry)) (now (ends .entry)) (definitionsAt (now (definitions .entry)) (now («table_ends» .entry)) b))) (sourceSet p (marksSet marks (tableSet table m))) s → ArgumentsIn (now (calls .entry)) (now (ends .entry)) x args → Gives a (giving (yields (substituted (now (name .entry)) args (s .marks) (getD (rows (s .table .definitions)) (2 * place + 1) []))) s) (pendingAt (now (pending .exit)) (stringsAt (now (calls .entry)) (now (ends .entry)) (definitionsAt (now (definitions .entry)) (now («table_ends» .entry)) b))) (givenTurn (sourceSet p (marksSet marks (tableSet table m))) r)) ⌝ }
+    ensures { λ r. ⌜ ((a : Setting) (s : State) (b : Memory) (m : Machine) (args : List Bytes) → Means a (pendingAt (now (pending .entry)) (stringsAt (now (calls .entry)) (now (ends .entry)) (definitionsAt (now (definitions .entry)) (now («table_ends» .entry)) b))) (sourceSet p (marksSet marks (tableSet table m))) s → ArgumentsIn (now (calls .entry)) (now (ends .entry)) x args → Gives a (pendingAt (now (pending .entry)) (stringsAt (now (calls .entry)) (now (ends .entry)) (definitionsAt (now (definitions .entry)) (now («table_ends» .entry)) b))) (giving (yields (substituted (now (name .entry)) args (s .marks) (getD (rows (s .table .definitions)) (2 * place + 1) []))) s) (pendingAt (now (pending .exit)) (stringsAt (now (calls .entry)) (now (ends .entry)) (definitionsAt (now (definitions .entry)) (now («table_ends» .entry)) b))) (givenTurn (sourceSet p (marksSet marks (tableSet table m))) r)) ⌝ }
 {
     let k = 2 * place + 1;
     let body = packed::string(definitions, table_ends, table.packed, k);

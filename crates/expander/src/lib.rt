@@ -21,6 +21,7 @@ mod marking;
 mod packed;
 mod pending;
 mod remarking;
+mod reporting;
 mod run;
 mod sinks;
 mod source;
@@ -68,7 +69,7 @@ fn copied(
 {
     let most = output.len();
     let most_errors = errors.len();
-    let r = run::run(
+    let h = run::run(
         text,
         pending,
         calls,
@@ -84,6 +85,7 @@ fn copied(
         scratch,
         budget,
     );
+    let r = reporting::report_of(h);
     let n = r.output as usize;
     let k = r.errors as usize;
     pending::copy_front(&output_text[..n], output);

@@ -41,7 +41,7 @@ fn end_mark<'a>(calls: &'a [u8], ends: &[u32], x: Arguments, newline: &'a [u8]) 
 // New comment marks, if they are good.
 fn remarked_comments(m: Machine, begin: &[u8], end: &[u8]) -> Turn
     requires { ⌜ GoodMarks (m .marks) ⌝ }
-    ensures { λ t. ⌜ ((a : Setting) (s : State) (b : Memory) → Means a b m s → Gives a (marking withComments (now (begin .entry)) (now (end .entry)) s) b t) ⌝ }
+    ensures { λ t. ⌜ ((a : Setting) (s : State) (b : Memory) → Means a b m s → Gives a b (marking withComments (now (begin .entry)) (now (end .entry)) s) b t) ⌝ }
 {
     if !are_marks(begin, end) {
         return m.refused(Answer::Mark);
@@ -53,7 +53,7 @@ fn remarked_comments(m: Machine, begin: &[u8], end: &[u8]) -> Turn
 // New quote marks, if they are good.
 fn remarked_quotes(m: Machine, begin: &[u8], end: &[u8]) -> Turn
     requires { ⌜ GoodMarks (m .marks) ⌝ }
-    ensures { λ t. ⌜ ((a : Setting) (s : State) (b : Memory) → Means a b m s → Gives a (marking withQuotes (now (begin .entry)) (now (end .entry)) s) b t) ⌝ }
+    ensures { λ t. ⌜ ((a : Setting) (s : State) (b : Memory) → Means a b m s → Gives a b (marking withQuotes (now (begin .entry)) (now (end .entry)) s) b t) ⌝ }
 {
     if !are_marks(begin, end) {
         return m.refused(Answer::Mark);
@@ -66,7 +66,7 @@ fn remarked_quotes(m: Machine, begin: &[u8], end: &[u8]) -> Turn
 pub(crate) fn changecom(calls: &[u8], ends: &[u32], m: Machine, x: Arguments) -> Turn
     requires { ⌜ Sound (λ b. stringsAt (now calls) (now ends) b) m ⌝ }
     requires { ⌜ SomeArguments (now calls) (now ends) x ⌝ }
-    ensures { λ t. ⌜ ((a : Setting) (s : State) (b : Memory) (args : List Bytes) → Means a (stringsAt (now (calls .entry)) (now (ends .entry)) b) m s → ArgumentsIn (now (calls .entry)) (now (ends .entry)) x args → Gives a (callChangecom args s) (stringsAt (now (calls .entry)) (now (ends .entry)) b) t) ⌝ }
+    ensures { λ t. ⌜ ((a : Setting) (s : State) (b : Memory) (args : List Bytes) → Means a (stringsAt (now (calls .entry)) (now (ends .entry)) b) m s → ArgumentsIn (now (calls .entry)) (now (ends .entry)) x args → Gives a (stringsAt (now (calls .entry)) (now (ends .entry)) b) (callChangecom args s) (stringsAt (now (calls .entry)) (now (ends .entry)) b) t) ⌝ }
 {
     let have = arguments::count(x);
     let marks = m.marks;
@@ -84,7 +84,7 @@ pub(crate) fn changecom(calls: &[u8], ends: &[u32], m: Machine, x: Arguments) ->
 pub(crate) fn changequote(calls: &[u8], ends: &[u32], m: Machine, x: Arguments) -> Turn
     requires { ⌜ Sound (λ b. stringsAt (now calls) (now ends) b) m ⌝ }
     requires { ⌜ SomeArguments (now calls) (now ends) x ⌝ }
-    ensures { λ t. ⌜ ((a : Setting) (s : State) (b : Memory) (args : List Bytes) → Means a (stringsAt (now (calls .entry)) (now (ends .entry)) b) m s → ArgumentsIn (now (calls .entry)) (now (ends .entry)) x args → Gives a (callChangequote args s) (stringsAt (now (calls .entry)) (now (ends .entry)) b) t) ⌝ }
+    ensures { λ t. ⌜ ((a : Setting) (s : State) (b : Memory) (args : List Bytes) → Means a (stringsAt (now (calls .entry)) (now (ends .entry)) b) m s → ArgumentsIn (now (calls .entry)) (now (ends .entry)) x args → Gives a (stringsAt (now (calls .entry)) (now (ends .entry)) b) (callChangequote args s) (stringsAt (now (calls .entry)) (now (ends .entry)) b) t) ⌝ }
 {
     let have = arguments::count(x);
     let marks = m.marks;

@@ -11,15 +11,19 @@ use crate::stretch;
 use crate::stretch::Stop;
 use crate::table::Definitions;
 use rules::Answer;
-use rules::Report;
 ghost use mathlib.Core.Path.{_≡_};
-ghost use Prim.Native.Nat.{_+_, _≤_, _<_};
 ghost use lib.ListN.{length};
-ghost use Rattle.rules.specs.Answers.{isFinished};
 ghost use Rattle.rules.specs.State.{State, freshStart, startState};
-ghost use Rattle.rules.specs.Run.{Setting, lengths, runFrom, endedWith};
+ghost use Rattle.rules.specs.Run.{Setting, lengths, runFrom};
 ghost use Rattle.expander.specs.Machine.{Memory, memory, Limits, Means};
-ghost use Rattle.expander.specs.Run.{Roomy, Ran, finishedReport, stoppedReport};
+ghost use Rattle.expander.specs.Run.{Roomy, Leaves};
+
+// How a run ended: its answer, the completed steps, and the by-value part of the standing state.
+pub(crate) struct Halted {
+    pub answer: Answer,
+    pub steps: u32,
+    pub machine: Machine,
+}
 
 // The machine at the start of a run, over a buffer for pending text of `from` bytes.
 fn start(from: usize) -> Machine
@@ -47,38 +51,7 @@ fn start(from: usize) -> Machine
     }
 }
 
-// The report of a run that ended by itself, from its last machine.
-fn finished(answer: Answer, steps: u32, m: Machine) -> Report
-    requires { ⌜ (m .source .taken ≤ 65536) × (m .sinks .output ≤ 65536) × (m .errors ≤ 65536) ⌝ }
-    ensures { λ r. ⌜ r ≡ finishedReport answer steps m ⌝ }
-{
-    let place = m.source.taken as u32;
-    let output = m.sinks.output as u32;
-    let errors = m.errors as u32;
-    Report {
-        answer,
-        steps,
-        place,
-        output,
-        errors,
-    }
-}
-
-// The report of a run that was refused or whose budget is spent, from the machine before the refused step.
-fn stopped(answer: Answer, steps: u32, m: Machine) -> Report
-    requires { ⌜ m .source .taken ≤ 65536 ⌝ }
-    ensures { λ r. ⌜ r ≡ stoppedReport answer steps m ⌝ }
-{
-    let place = m.source.taken as u32;
-    Report {
-        answer,
-        steps,
-        place,
-        output: 0,
-        errors: 0,
-    }
-}
-
+// A run of a text. Whatever the answer, memory and machine mean the standing state, which on a refusal is that before the refused step.
 pub(crate) fn run(
     text: &[u8],
     pending: &mut [u8],
@@ -94,9 +67,9 @@ pub(crate) fn run(
     output: &mut [u8],
     scratch: &mut [u8],
     budget: u32,
-) -> Report
+) -> Halted
     requires { ⌜ Roomy (memory (now text) (now pending) (now calls) (now ends) (now stack) (now definitions) (now «table_ends») (now streams) (now owners) (now wrap) (now errors) (now output)) × (length (now scratch) ≡ 65536) ⌝ }
-    ensures { λ r. ⌜ ((a : Setting) → Limits a (memory (now (text .entry)) (now (pending .entry)) (now (calls .entry)) (now (ends .entry)) (now (stack .entry)) (now (definitions .entry)) (now («table_ends» .entry)) (now (streams .entry)) (now (owners .entry)) (now (wrap .entry)) (now (errors .entry)) (now (output .entry))) → Ran (runFrom (lengths a) budget 0 (startState (freshStart (now (text .entry))))) (now (errors .exit)) (now (output .exit)) r) ⌝ }
+    ensures { λ r. ⌜ ((a : Setting) → Limits a (memory (now (text .entry)) (now (pending .entry)) (now (calls .entry)) (now (ends .entry)) (now (stack .entry)) (now (definitions .entry)) (now («table_ends» .entry)) (now (streams .entry)) (now (owners .entry)) (now (wrap .entry)) (now (errors .entry)) (now (output .entry))) → Leaves a (runFrom (lengths a) budget 0 (startState (freshStart (now (text .entry))))) (memory (now (text .entry)) (now (pending .exit)) (now (calls .exit)) (now (ends .exit)) (now (stack .exit)) (now (definitions .exit)) (now («table_ends» .exit)) (now (streams .exit)) (now (owners .exit)) (now (wrap .exit)) (now (errors .exit)) (now (output .exit))) r) ⌝ }
 {
     let from = pending.len();
     let mut m = start(from);
@@ -122,7 +95,12 @@ pub(crate) fn run(
         let stop = s.stop;
         match stop {
             Stop::Stopped(answer) => {
-                return stopped(answer, budget - left, m);
+                let steps = budget - left;
+                return Halted {
+                    answer,
+                    steps,
+                    machine: m,
+                };
             }
             Stop::Special(e) => {
                 let t = step::special_step(
@@ -145,11 +123,21 @@ pub(crate) fn run(
                 let went = t.went;
                 match went {
                     Went::Refused(answer) => {
-                        return stopped(answer, budget - left, m);
+                        let steps = budget - left;
+                        return Halted {
+                            answer,
+                            steps,
+                            machine: m,
+                        };
                     }
                     Went::Ended(answer) => {
+                        let machine = t.machine;
                         let steps = budget - left + 1;
-                        return finished(answer, steps, t.machine);
+                        return Halted {
+                            answer,
+                            steps,
+                            machine,
+                        };
                     }
                     Went::On => {
                         m = t.machine;
@@ -159,5 +147,9 @@ pub(crate) fn run(
         }
         left -= 1;
     }
-    stopped(Answer::Spent, budget, m)
+    Halted {
+        answer: Answer::Spent,
+        steps: budget,
+        machine: m,
+    }
 }

@@ -47,7 +47,7 @@ fn plain_step(
 ) -> Turn
     requires { ⌜ Sound (λ b. textAt (now text) (pendingAt (now pending) (callsAt (now calls) (now ends) (now stack) (sinksAt (now streams) (now owners) (now output) b)))) m ⌝ }
     requires { ⌜ PlainWithin (now text) (now pending) m p ⌝ }
-    ensures { λ t. ⌜ ((a : Setting) (s : State) (b : Memory) → Means a (textAt (now (text .entry)) (pendingAt (now (pending .entry)) (callsAt (now (calls .entry)) (now (ends .entry)) (now (stack .entry)) (sinksAt (now (streams .entry)) (now (owners .entry)) (now (output .entry)) b)))) m s → PlainIs s p → Gives a (step s) (textAt (now (text .entry)) (pendingAt (now (pending .entry)) (callsAt (now (calls .exit)) (now (ends .exit)) (now (stack .exit)) (sinksAt (now (streams .exit)) (now (owners .exit)) (now (output .exit)) b)))) t) ⌝ }
+    ensures { λ t. ⌜ ((a : Setting) (s : State) (b : Memory) → Means a (textAt (now (text .entry)) (pendingAt (now (pending .entry)) (callsAt (now (calls .entry)) (now (ends .entry)) (now (stack .entry)) (sinksAt (now (streams .entry)) (now (owners .entry)) (now (output .entry)) b)))) m s → PlainIs s p → Gives a (textAt (now (text .entry)) (pendingAt (now (pending .entry)) (callsAt (now (calls .entry)) (now (ends .entry)) (now (stack .entry)) (sinksAt (now (streams .entry)) (now (owners .entry)) (now (output .entry)) b)))) (step s) (textAt (now (text .entry)) (pendingAt (now (pending .entry)) (callsAt (now (calls .exit)) (now (ends .exit)) (now (stack .exit)) (sinksAt (now (streams .exit)) (now (owners .exit)) (now (output .exit)) b)))) t) ⌝ }
 {
     match p {
         Plain::Deliver { start, n, width } => delivering::deliver(

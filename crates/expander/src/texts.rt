@@ -21,7 +21,7 @@ ghost use Rattle.rules.specs.Macros.{callDnl, callErrprint, callM4exit, callM4w
 // dnl: the text ahead through the next newline is dropped.
 pub(crate) fn dnl(text: &[u8], pending: &[u8], m: Machine) -> Turn
     requires { ⌜ Sound (λ b. textAt (now text) (pendingAt (now pending) b)) m ⌝ }
-    ensures { λ t. ⌜ ((a : Setting) (s : State) (b : Memory) (args : List Bytes) → Means a (textAt (now (text .entry)) (pendingAt (now (pending .entry)) b)) m s → Gives a (callDnl args s) (textAt (now (text .entry)) (pendingAt (now (pending .entry)) b)) t) ⌝ }
+    ensures { λ t. ⌜ ((a : Setting) (s : State) (b : Memory) (args : List Bytes) → Means a (textAt (now (text .entry)) (pendingAt (now (pending .entry)) b)) m s → Gives a (textAt (now (text .entry)) (pendingAt (now (pending .entry)) b)) (callDnl args s) (textAt (now (text .entry)) (pendingAt (now (pending .entry)) b)) t) ⌝ }
 {
     let p = m.source;
     let from = p.from;
@@ -41,7 +41,7 @@ pub(crate) fn errprint(
 ) -> Turn
     requires { ⌜ Sound (λ b. stringsAt (now calls) (now ends) (errorsAt (now errors) b)) m ⌝ }
     requires { ⌜ SomeArguments (now calls) (now ends) x ⌝ }
-    ensures { λ t. ⌜ ((a : Setting) (s : State) (b : Memory) (args : List Bytes) → Means a (stringsAt (now (calls .entry)) (now (ends .entry)) (errorsAt (now (errors .entry)) b)) m s → ArgumentsIn (now (calls .entry)) (now (ends .entry)) x args → Gives a (callErrprint args s) (stringsAt (now (calls .entry)) (now (ends .entry)) (errorsAt (now (errors .exit)) b)) t) ⌝ }
+    ensures { λ t. ⌜ ((a : Setting) (s : State) (b : Memory) (args : List Bytes) → Means a (stringsAt (now (calls .entry)) (now (ends .entry)) (errorsAt (now (errors .entry)) b)) m s → ArgumentsIn (now (calls .entry)) (now (ends .entry)) x args → Gives a (stringsAt (now (calls .entry)) (now (ends .entry)) (errorsAt (now (errors .entry)) b)) (callErrprint args s) (stringsAt (now (calls .entry)) (now (ends .entry)) (errorsAt (now (errors .exit)) b)) t) ⌝ }
 {
     let marks = lists::bare_marks();
     let at = m.errors;
@@ -58,7 +58,7 @@ pub(crate) fn errprint(
 pub(crate) fn m4wrap(calls: &[u8], ends: &[u32], wrap: &mut [u8], m: Machine, x: Arguments) -> Turn
     requires { ⌜ Sound (λ b. stringsAt (now calls) (now ends) (wrapAt (now wrap) b)) m ⌝ }
     requires { ⌜ SomeArguments (now calls) (now ends) x ⌝ }
-    ensures { λ t. ⌜ ((a : Setting) (s : State) (b : Memory) (args : List Bytes) → Means a (stringsAt (now (calls .entry)) (now (ends .entry)) (wrapAt (now (wrap .entry)) b)) m s → ArgumentsIn (now (calls .entry)) (now (ends .entry)) x args → Gives a (callM4wrap args s) (stringsAt (now (calls .entry)) (now (ends .entry)) (wrapAt (now (wrap .exit)) b)) t) ⌝ }
+    ensures { λ t. ⌜ ((a : Setting) (s : State) (b : Memory) (args : List Bytes) → Means a (stringsAt (now (calls .entry)) (now (ends .entry)) (wrapAt (now (wrap .entry)) b)) m s → ArgumentsIn (now (calls .entry)) (now (ends .entry)) x args → Gives a (stringsAt (now (calls .entry)) (now (ends .entry)) (wrapAt (now (wrap .entry)) b)) (callM4wrap args s) (stringsAt (now (calls .entry)) (now (ends .entry)) (wrapAt (now (wrap .exit)) b)) t) ⌝ }
 {
     let at = m.wrap;
     let s = arguments::argument(calls, ends, x, 1);
@@ -74,7 +74,7 @@ pub(crate) fn m4wrap(calls: &[u8], ends: &[u32], wrap: &mut [u8], m: Machine, x:
 pub(crate) fn m4exit(calls: &[u8], ends: &[u32], m: Machine, x: Arguments) -> Turn
     requires { ⌜ Sound (λ b. stringsAt (now calls) (now ends) b) m ⌝ }
     requires { ⌜ SomeArguments (now calls) (now ends) x ⌝ }
-    ensures { λ t. ⌜ ((a : Setting) (s : State) (b : Memory) (args : List Bytes) → Means a (stringsAt (now (calls .entry)) (now (ends .entry)) b) m s → ArgumentsIn (now (calls .entry)) (now (ends .entry)) x args → Gives a (callM4exit args s) (stringsAt (now (calls .entry)) (now (ends .entry)) b) t) ⌝ }
+    ensures { λ t. ⌜ ((a : Setting) (s : State) (b : Memory) (args : List Bytes) → Means a (stringsAt (now (calls .entry)) (now (ends .entry)) b) m s → ArgumentsIn (now (calls .entry)) (now (ends .entry)) x args → Gives a (stringsAt (now (calls .entry)) (now (ends .entry)) b) (callM4exit args s) (stringsAt (now (calls .entry)) (now (ends .entry)) b) t) ⌝ }
 {
     let Natural::Number(code) = arguments::natural_or(calls, ends, x, 1, 0, 0, 255) else {
         return m.refused(Answer::Number);

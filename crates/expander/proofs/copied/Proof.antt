@@ -9,7 +9,8 @@ use Rattle.rules.specs.State.{freshStart, startState}
 use Rattle.rules.specs.Run.{Setting, Ended, lengths, runFrom}
 use Rattle.rules.specs.Contract.{settingOf}
 use Rattle.expander.specs.Machine.{memory, Limits}
-use Rattle.expander.specs.Run.{Ran}
+use Rattle.expander.specs.Run.{Leaves, Ran}
+use Rattle.expander.proofs.RunLaws.{leaves-few, leaves-ran}
 use Rattle.expander.proofs.ExpandLaws.{lent-limits, part-size, put-back, ran-longer, output-few, errors-few, wrote}
 use borrow.Author.Needs.{needs}
 use Rattle.expander.proofs.copied.Statement.{statement}
@@ -73,11 +74,18 @@ errors-left c = c .run .last .1 .1 .1 .1 .1 .1 .1 .1 .1 .1 .0
 abbrev output-left : tie.After-run → Bytes
 output-left c = c .run .last .1 .1 .1 .1 .1 .1 .1 .1 .1 .1 .1 .0
 
-ran : (c : tie.After-run) → Ran (whole c) (errors-left c) (output-left c) (c .run .result)
-ran c = c .run .ensures (setting (begin c)) (limits (begin c))
+-- the report, made of what the run left
+abbrev left : tie.After-report-of → tie.After-run
+left c = c .before .before .before .before .before .before .before .before .before .before .before .before .before .before .before .before .before .before .before .before .before .before .before .before .before
 
-longer : (c : tie.After-run) → Ran (whole c) (errors-left c ++ error-rest (begin c)) (output-left c ++ output-rest (begin c)) (c .run .result)
-longer c = ran-longer (ran c) (error-rest (begin c)) (output-rest (begin c))
+leaves : (c : tie.After-run) → Leaves (setting (begin c)) (whole c) (memory (begin c .args .text .now) (c .run .last .1 .0) (c .run .last .1 .1 .0) (c .run .last .1 .1 .1 .0) (c .run .last .1 .1 .1 .1 .0) (c .run .last .1 .1 .1 .1 .1 .0) (c .run .last .1 .1 .1 .1 .1 .1 .0) (c .run .last .1 .1 .1 .1 .1 .1 .1 .0) (c .run .last .1 .1 .1 .1 .1 .1 .1 .1 .0) (c .run .last .1 .1 .1 .1 .1 .1 .1 .1 .1 .0) (errors-left c) (output-left c)) (c .run .result)
+leaves c = c .run .ensures (setting (begin c)) (limits (begin c))
+
+ran : (c : tie.After-report-of) → Ran (whole (left c)) (errors-left (left c)) (output-left (left c)) (c .report-of .result)
+ran c = leaves-ran (leaves (left c)) (c .report-of .ensures)
+
+longer : (c : tie.After-report-of) → Ran (whole (left c)) (errors-left (left c) ++ error-rest (begin (left c))) (output-left (left c) ++ output-rest (begin (left c))) (c .report-of .result)
+longer c = ran-longer (ran c) (error-rest (begin (left c))) (output-rest (begin (left c)))
 
 slice-relend-prefix-run : tie.Need-slice-relend-prefix-run
 slice-relend-prefix-run c = error-fits (c .before .before .before .before .before .before .before .before .before .before .before .before .before .before .before .before .before .before .before .before .before .before .before .before)
@@ -94,6 +102,9 @@ slice-aggregate-run-2 c = output-size (c .before .before .before .before .before
 run-requires : tie.Need-run-requires
 run-requires c κs = (record { setting = setting (c .before .before .before .before .before .before .before .before .before .before .before .before .before .before .before .before .before .before .before .before .before .before .before .before .before .before .before); limits = limits (c .before .before .before .before .before .before .before .before .before .before .before .before .before .before .before .before .before .before .before .before .before .before .before .before .before .before .before) }, c .before .before .before .before .before .before .before .before .before .before .before .before .before .before .before .before .before .before .before .before .before .before .before .before .before .before .before .pre .1 .3)
 
+report-of-requires : tie.Need-report-of-requires
+report-of-requires c κs = leaves-few (leaves (c .before .before .before .before .before .before .before .before .before .before .before .before .before .before .before .before .before .before .before .before .before .before .before .before))
+
 cast-n : tie.Need-cast-n
 cast-n c = search needs
 
@@ -101,32 +112,41 @@ cast-k : tie.Need-cast-k
 cast-k c = search needs
 
 slice-reshare-prefix-copy-front : tie.Need-slice-reshare-prefix-copy-front
-slice-reshare-prefix-copy-front c = longer (c .before .before .before .before .before .before .before .before .before .before .before .before .before .before .before .before .before .before .before .before .before .before .before .before .before .before) .output-are .inside
+slice-reshare-prefix-copy-front c = longer (c .before .before) .output-are .inside
 
 slice-aggregate-copy-front : tie.Need-slice-aggregate-copy-front
-slice-aggregate-copy-front c = part-size (c .before .before .before .before .before .before .before .before .before .before .before .before .before .before .before .before .before .before .before .before .before .before .before .before .before .before .before .run .result .output) (output-left (c .before .before .before .before .before .before .before .before .before .before .before .before .before .before .before .before .before .before .before .before .before .before .before .before .before .before .before) ++ output-rest (begin (c .before .before .before .before .before .before .before .before .before .before .before .before .before .before .before .before .before .before .before .before .before .before .before .before .before .before .before))) (longer (c .before .before .before .before .before .before .before .before .before .before .before .before .before .before .before .before .before .before .before .before .before .before .before .before .before .before .before) .output-are .inside)
+slice-aggregate-copy-front c =
+    let w = c .before .before .before in
+    part-size (w .report-of .result .output) (output-left (left w) ++ output-rest (begin (left w))) (longer w .output-are .inside)
 
 copy-front-requires : tie.Need-copy-front-requires
 copy-front-requires c κs =
-    let w = c .before .before .before .before .before .before .before .before .before .before .before .before .before .before .before .before .before .before .before .before .before .before .before .before .before .before .before .before in
-    output-few (ran w) (error-rest (begin w)) (output-rest (begin w)) _ (w .run .kept .1 .1 .1 .1 .1 .1 .1 .1 .1 .1 .1 .0 ∙ sym (output-size (begin w)))
+    let w = c .before .before .before .before in
+    let v = left w in
+    output-few (ran w) (error-rest (begin v)) (output-rest (begin v)) _ (v .run .kept .1 .1 .1 .1 .1 .1 .1 .1 .1 .1 .1 .0 ∙ sym (output-size (begin v)))
 
 slice-reshare-prefix-copy-front-2 : tie.Need-slice-reshare-prefix-copy-front-2
-slice-reshare-prefix-copy-front-2 c = longer (c .before .before .before .before .before .before .before .before .before .before .before .before .before .before .before .before .before .before .before .before .before .before .before .before .before .before .before .before .before .before .before) .errors-are .inside
+slice-reshare-prefix-copy-front-2 c = longer (c .before .before .before .before .before .before .before) .errors-are .inside
 
 slice-aggregate-copy-front-2 : tie.Need-slice-aggregate-copy-front-2
-slice-aggregate-copy-front-2 c = part-size (c .before .before .before .before .before .before .before .before .before .before .before .before .before .before .before .before .before .before .before .before .before .before .before .before .before .before .before .before .before .before .before .before .run .result .errors) (errors-left (c .before .before .before .before .before .before .before .before .before .before .before .before .before .before .before .before .before .before .before .before .before .before .before .before .before .before .before .before .before .before .before .before) ++ error-rest (begin (c .before .before .before .before .before .before .before .before .before .before .before .before .before .before .before .before .before .before .before .before .before .before .before .before .before .before .before .before .before .before .before .before))) (longer (c .before .before .before .before .before .before .before .before .before .before .before .before .before .before .before .before .before .before .before .before .before .before .before .before .before .before .before .before .before .before .before .before) .errors-are .inside)
+slice-aggregate-copy-front-2 c =
+    let w = c .before .before .before .before .before .before .before .before in
+    part-size (w .report-of .result .errors) (errors-left (left w) ++ error-rest (begin (left w))) (longer w .errors-are .inside)
 
 copy-front-requires-2 : tie.Need-copy-front-requires-2
 copy-front-requires-2 c κs =
-    let w = c .before .before .before .before .before .before .before .before .before .before .before .before .before .before .before .before .before .before .before .before .before .before .before .before .before .before .before .before .before .before .before .before .before in
-    errors-few (ran w) (error-rest (begin w)) (output-rest (begin w)) _ (w .run .kept .1 .1 .1 .1 .1 .1 .1 .1 .1 .1 .0 ∙ sym (error-size (begin w)))
+    let w = c .before .before .before .before .before .before .before .before .before in
+    let v = left w in
+    errors-few (ran w) (error-rest (begin v)) (output-rest (begin v)) _ (v .run .kept .1 .1 .1 .1 .1 .1 .1 .1 .1 .1 .0 ∙ sym (error-size (begin v)))
+
+abbrev at-report : tie.After-slice-known28 → tie.After-report-of
+at-report c = c .before .before .before .before .before .before .before .before .before .before .before .before
 
 abbrev at-run : tie.After-slice-known28 → tie.After-run
-at-run c = c .before .before .before .before .before .before .before .before .before .before .before .before .before .before .before .before .before .before .before .before .before .before .before .before .before .before .before .before .before .before .before .before .before .before .before .before
+at-run c = left (at-report c)
 
 returns : tie.Need-returns
-returns c = wrote (longer (at-run c)) (c .before .before .copy-front2 .ensures) (c .before .before .before .before .before .before .before .copy-front .ensures)
+returns c = wrote (longer (at-report c)) (c .before .before .copy-front2 .ensures) (c .before .before .before .before .before .before .before .copy-front .ensures)
 
 pub copied-spec : {M : Type 1} → statement M
 copied-spec =
@@ -137,6 +157,7 @@ copied-spec =
     slice-relend-prefix-run-2
     slice-aggregate-run-2
     run-requires
+    report-of-requires
     cast-n
     cast-k
     slice-reshare-prefix-copy-front

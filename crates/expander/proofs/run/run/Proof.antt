@@ -1,7 +1,7 @@
 -- `expander::run::run` meets its contract. Assumes nothing.
 use Prim.Native.Nat.{ℕ, _+_, _-_, _≤_, _<_}
 use native.Mathlib.Nat.{le-trans, le-of-lt}
-use mathlib.Core.Path.{_≡_, refl, sym, subst, _∙_}
+use mathlib.Core.Path.{_≡_, refl, ap, _∙_}
 use mathlib.Core.List.{List, []}
 use native.Mathlib.Omega.{arith}
 use lib.ListN.{length}
@@ -9,8 +9,8 @@ use Rattle.rules.specs.State.{freshStart, startState}
 use Rattle.rules.specs.Step.{step}
 use Rattle.rules.specs.Run.{Setting, Ended, lengths, runFrom}
 use Rattle.expander.specs.Machine.{Memory, memory, Limits, Gives, wrapAt, errorsAt}
-use Rattle.expander.specs.Run.{Running, Ran, Stretched, SpecialNext}
-use Rattle.expander.proofs.RunLaws.{begun, taken-few, run-spent, run-refused, run-ended, run-few, run-on, recount, ran-recount, end-recount, reached-stop, reached-special, counted, counted-one, one-less, step-fits, none-left, all-counted}
+use Rattle.expander.specs.Run.{Running, Leaves, Stretched, SpecialNext}
+use Rattle.expander.proofs.RunLaws.{begun, run-spent, run-refused, run-ended, run-on, recount, leaves-recount, reached-stop, reached-special, counted, counted-one, one-less, step-fits, none-left, all-counted}
 use borrow.Author.Needs.{needs}
 use Rattle.expander.proofs.run.run.Statement.{statement}
 use Rattle.expander.proofs.run.run.Tie as tie
@@ -137,7 +137,7 @@ more c =
     let p = begin (head (plain c)) .pre .0 in
     next c (p .setting) (p .limits) .more
 
-gives : (c : tie.After-special-step Inv-loop μ-loop) (a : Setting) (l : Limits a (lent (begin (head (plain (stop c)))))) → Gives a (step (next (stop c) a l .running .state)) (after-special c) (c .special-step .result)
+gives : (c : tie.After-special-step Inv-loop μ-loop) (a : Setting) (l : Limits a (lent (begin (head (plain (stop c)))))) → Gives a (after-plain (plain (stop c))) (step (next (stop c) a l .running .state)) (after-special c) (c .special-step .result)
 gives c a l =
     let g = next (stop c) a l in
     c .special-step .ensures a (g .running .state) none-other (g .running .means) (g .is)
@@ -159,20 +159,14 @@ run-plain-requires c κs =
 enum-known-stop : tie.Need-enum-known-stop Inv-loop μ-loop
 enum-known-stop c = search needs
 
-sub-stopped : tie.Need-sub-stopped Inv-loop μ-loop
-sub-stopped c = few-of-all (c .before .before .before .before .before .before .before .before .before .before .before .before .before .before .before .before .before .before)
-
-stopped-requires : tie.Need-stopped-requires Inv-loop μ-loop
-stopped-requires c κs =
-    let p = c .before .before .before .before .before .before .before .before .before .before .before .before .before .before .before .before .before .before in
-    let q = begin (head p) .pre .0 in
-    reached-stop (stretched p (q .setting) (q .limits)) (c .before .stop .given .1) .taken-in
+sub-steps : tie.Need-sub-steps Inv-loop μ-loop
+sub-steps c = few-of-all (plain-stopped (c .before))
 
 returns : tie.Need-returns Inv-loop μ-loop
 returns c =
     λ a l.
-    let p = plain-stopped (c .before .before) in
-    subst (Ran _ _ _) (sym (c .stopped .ensures)) (ran-recount _ _ _ (count-is p) (reached-stop (stretched p a l) (c .before .before .stop .given .1) .ran _ _))
+    let p = plain-stopped (c .before) in
+    leaves-recount (count-is p) (reached-stop (stretched p a l) (c .before .stop .given .1))
 
 enum-known-stop-2 : tie.Need-enum-known-stop-2 Inv-loop μ-loop
 enum-known-stop-2 c = search needs
@@ -187,49 +181,34 @@ special-step-requires c κs =
 enum-known-went : tie.Need-enum-known-went Inv-loop μ-loop
 enum-known-went c = search needs
 
-sub-stopped-2 : tie.Need-sub-stopped-2 Inv-loop μ-loop
-sub-stopped-2 c = few-of-all (plain (stop (refused (c .before))))
-
-stopped-requires-2 : tie.Need-stopped-requires-2 Inv-loop μ-loop
-stopped-requires-2 c κs =
-    let s = stop (refused (c .before)) in
-    let p = begin (head (plain s)) .pre .0 in
-    taken-few (next s (p .setting) (p .limits) .running)
+sub-steps-2 : tie.Need-sub-steps-2 Inv-loop μ-loop
+sub-steps-2 c = few-of-all (plain (stop (refused (c .before))))
 
 returns-2 : tie.Need-returns-2 Inv-loop μ-loop
 returns-2 c =
     λ a l.
-    let t = refused (c .before .before) in
+    let t = refused (c .before) in
     let g = next (stop t) a l in
-    subst (Ran _ _ _) (sym (c .stopped2 .ensures))
-    (ran-recount _ _ _ (count-is (plain (stop t))) (run-refused (g .running) (g .more) (gives t a l) _ (c .before .before .went .given .1) _ _))
+    leaves-recount (count-is (plain (stop t))) (run-refused (g .running) (g .more) (gives t a l) _ (c .before .went .given .1))
 
 enum-known-went-2 : tie.Need-enum-known-went-2 Inv-loop μ-loop
 enum-known-went-2 c = search needs
 
-sub-steps : tie.Need-sub-steps Inv-loop μ-loop
-sub-steps c = few-of-all (plain (stop (ended (c .before))))
+sub-steps-3 : tie.Need-sub-steps-3 Inv-loop μ-loop
+sub-steps-3 c = few-of-all (plain (stop (ended (c .before .before))))
 
 add-steps : tie.Need-add-steps Inv-loop μ-loop
 add-steps c =
-    let s = stop (ended (c .before)) in
+    let s = stop (ended (c .before .before)) in
     let p = plain s in
     step-fits (more s) (few-of-all p) (begin (head p) .fits .budget)
-
-finished-requires : tie.Need-finished-requires Inv-loop μ-loop
-finished-requires c κs =
-    let t = ended (c .before) in
-    let p = begin (head (plain (stop t))) .pre .0 in
-    let g = next (stop t) (p .setting) (p .limits) in
-    run-few (g .running) (g .more) (gives t (p .setting) (p .limits)) _ (c .before .went2 .given .1)
 
 returns-3 : tie.Need-returns-3 Inv-loop μ-loop
 returns-3 c =
     λ a l.
     let t = ended (c .before .before) in
     let g = next (stop t) a l in
-    subst (Ran _ _ _) (sym (c .finished .ensures))
-    (end-recount _ _ _ (count-is (plain (stop t))) (run-ended (g .running) (g .more) (gives t a l) _ (c .before .before .went2 .given .1)))
+    leaves-recount (ap (λ (n : ℕ). n + 1) (count-is (plain (stop t)))) (run-ended (g .running) (g .more) (gives t a l) _ (c .before .before .went2 .given .1))
 
 enum-told : tie.Need-enum-told Inv-loop μ-loop
 enum-told c = search needs
@@ -255,19 +234,12 @@ loop-again c =
       le-trans (le-of-lt (one-less (few p) (more s))) (i .2),
     )
 
-stopped-requires-3 : tie.Need-stopped-requires-3 Inv-loop μ-loop
-stopped-requires-3 c κs =
-    let h = c .before in
-    let p = begin h .pre .0 in
-    taken-few (h .loop .inv .0 (p .setting) (p .limits))
-
 returns-4 : tie.Need-returns-4 Inv-loop μ-loop
 returns-4 c =
     λ a l.
-    let h = c .before .before in
-    let z = c .before .loop-test .left in
-    subst (Ran _ _ _) (sym (c .stopped3 .ensures))
-    (ran-recount _ _ _ (all-counted (begin h .args .budget) z) (run-spent (h .loop .inv .0 a l) (none-left z) _ _))
+    let h = c .before in
+    let z = c .loop-test .left in
+    leaves-recount (all-counted (begin h .args .budget) z) (run-spent (h .loop .inv .0 a l) (none-left z))
 
 pub run-spec : {M : Type 1} → statement M
 run-spec =
@@ -279,43 +251,40 @@ run-spec =
     loop-holds
     run-plain-requires
     enum-known-stop
-    sub-stopped
-    stopped-requires
-    (λ c. kept-plain (plain-stopped (c .before .before)) .0)
-    (λ c. kept-plain (plain-stopped (c .before .before)) .1)
-    (λ c. kept-plain (plain-stopped (c .before .before)) .2)
-    (λ c. kept-plain (plain-stopped (c .before .before)) .3)
-    (λ c. kept-plain (plain-stopped (c .before .before)) .4)
-    (λ c. kept-plain (plain-stopped (c .before .before)) .5)
-    (λ c. kept-plain (plain-stopped (c .before .before)) .6)
-    (λ c. kept-plain (plain-stopped (c .before .before)) .7)
-    (λ c. kept-plain (plain-stopped (c .before .before)) .8)
-    (λ c. kept-plain (plain-stopped (c .before .before)) .9)
-    (λ c. kept-plain (plain-stopped (c .before .before)) .10)
-    (λ c. kept-plain (plain-stopped (c .before .before)) .11)
+    sub-steps
+    (λ c. kept-plain (plain-stopped (c .before)) .0)
+    (λ c. kept-plain (plain-stopped (c .before)) .1)
+    (λ c. kept-plain (plain-stopped (c .before)) .2)
+    (λ c. kept-plain (plain-stopped (c .before)) .3)
+    (λ c. kept-plain (plain-stopped (c .before)) .4)
+    (λ c. kept-plain (plain-stopped (c .before)) .5)
+    (λ c. kept-plain (plain-stopped (c .before)) .6)
+    (λ c. kept-plain (plain-stopped (c .before)) .7)
+    (λ c. kept-plain (plain-stopped (c .before)) .8)
+    (λ c. kept-plain (plain-stopped (c .before)) .9)
+    (λ c. kept-plain (plain-stopped (c .before)) .10)
+    (λ c. kept-plain (plain-stopped (c .before)) .11)
     returns
     enum-known-stop-2
     special-step-requires
     enum-known-went
-    sub-stopped-2
-    stopped-requires-2
-    (λ c. kept-special (refused (c .before .before)) .0)
-    (λ c. kept-special (refused (c .before .before)) .1)
-    (λ c. kept-special (refused (c .before .before)) .2)
-    (λ c. kept-special (refused (c .before .before)) .3)
-    (λ c. kept-special (refused (c .before .before)) .4)
-    (λ c. kept-special (refused (c .before .before)) .5)
-    (λ c. kept-special (refused (c .before .before)) .6)
-    (λ c. kept-special (refused (c .before .before)) .7)
-    (λ c. kept-special (refused (c .before .before)) .8)
-    (λ c. kept-special (refused (c .before .before)) .9)
-    (λ c. kept-special (refused (c .before .before)) .10)
-    (λ c. kept-special (refused (c .before .before)) .11)
+    sub-steps-2
+    (λ c. kept-special (refused (c .before)) .0)
+    (λ c. kept-special (refused (c .before)) .1)
+    (λ c. kept-special (refused (c .before)) .2)
+    (λ c. kept-special (refused (c .before)) .3)
+    (λ c. kept-special (refused (c .before)) .4)
+    (λ c. kept-special (refused (c .before)) .5)
+    (λ c. kept-special (refused (c .before)) .6)
+    (λ c. kept-special (refused (c .before)) .7)
+    (λ c. kept-special (refused (c .before)) .8)
+    (λ c. kept-special (refused (c .before)) .9)
+    (λ c. kept-special (refused (c .before)) .10)
+    (λ c. kept-special (refused (c .before)) .11)
     returns-2
     enum-known-went-2
-    sub-steps
+    sub-steps-3
     add-steps
-    finished-requires
     (λ c. kept-special (ended (c .before .before)) .0)
     (λ c. kept-special (ended (c .before .before)) .1)
     (λ c. kept-special (ended (c .before .before)) .2)
@@ -333,17 +302,16 @@ run-spec =
     sub-left
     loop-less
     loop-again
-    stopped-requires-3
-    (λ c. c .before .before .loop .inv .1 .0)
-    (λ c. c .before .before .loop .inv .1 .1)
-    (λ c. c .before .before .loop .inv .1 .2)
-    (λ c. c .before .before .loop .inv .1 .3)
-    (λ c. c .before .before .loop .inv .1 .4)
-    (λ c. c .before .before .loop .inv .1 .5)
-    (λ c. c .before .before .loop .inv .1 .6)
-    (λ c. c .before .before .loop .inv .1 .7)
-    (λ c. c .before .before .loop .inv .1 .8)
-    (λ c. c .before .before .loop .inv .1 .9)
-    (λ c. c .before .before .loop .inv .1 .10)
-    (λ c. c .before .before .loop .inv .1 .11)
+    (λ c. c .before .loop .inv .1 .0)
+    (λ c. c .before .loop .inv .1 .1)
+    (λ c. c .before .loop .inv .1 .2)
+    (λ c. c .before .loop .inv .1 .3)
+    (λ c. c .before .loop .inv .1 .4)
+    (λ c. c .before .loop .inv .1 .5)
+    (λ c. c .before .loop .inv .1 .6)
+    (λ c. c .before .loop .inv .1 .7)
+    (λ c. c .before .loop .inv .1 .8)
+    (λ c. c .before .loop .inv .1 .9)
+    (λ c. c .before .loop .inv .1 .10)
+    (λ c. c .before .loop .inv .1 .11)
     returns-4)

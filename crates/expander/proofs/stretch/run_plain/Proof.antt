@@ -12,7 +12,7 @@ use Rattle.expander.specs.Events.{EventWithin, EventIs, PlainWithin, Pla
 use Rattle.expander.specs.Machine.{Memory, Means, Gives, textAt, pendingAt, stringsAt, callsAt, definitionsAt, sinksAt}
 use Rattle.expander.specs.Run.{Running, Reached}
 use Rattle.expander.proofs.PlainLaws.{event-is, event-within, plain-goes, not-ended}
-use Rattle.expander.proofs.RunLaws.{from-here, running-sound, spent-here, refused-here, recount, run-on, counted-on, one-less, none-left}
+use Rattle.expander.proofs.RunLaws.{from-here, running-sound, run-spent, run-refused, recount, run-on, counted-on, one-less, none-left}
 use borrow.Author.Needs.{needs}
 use Rattle.expander.proofs.stretch.run_plain.Statement.{statement}
 use Rattle.expander.proofs.stretch.run_plain.Tie as tie
@@ -108,7 +108,7 @@ is c {a} {s} b h =
     let o = head (event c) .loop in
     event-is s (c .p .given .1) (event c .event-ahead .ensures .1 a s (stringsAt (o .calls) (o .ends) (sinksAt (o .streams) (o .owners) (o .output) b)) h)
 
-gives : (c : tie.After-plain-step Inv-loop μ-loop) {a : Setting} {s : State} (b : Memory) → Means a (standing (head (event (plain c))) b) (head (event (plain c)) .loop .m) s → Gives a (step s) (after c b) (c .plain-step .result)
+gives : (c : tie.After-plain-step Inv-loop μ-loop) {a : Setting} {s : State} (b : Memory) → Means a (standing (head (event (plain c))) b) (head (event (plain c)) .loop .m) s → Gives a (standing (head (event (plain c))) b) (step s) (after c b) (c .plain-step .result)
 gives c {a} {s} b h =
     let d = begin (head (event (plain c))) .args in
     c .plain-step .ensures a s (definitionsAt (d .definitions .now) (d .table-ends .now) b) h (is (plain c) b h)
@@ -165,7 +165,7 @@ returns-2 c =
     let x = refused (c .before) in
     let i = head (event (plain x)) .loop .inv in
     let v = i .0 a b w count u in
-    record { few = i .1; reached = refused-here v (more x) (gives x b (v .means)) (c .before .went .given .1) }
+    record { few = i .1; reached = run-refused v (more x) (gives x b (v .means)) _ (c .before .went .given .1) }
 
 enum-known-went-2 : tie.Need-enum-known-went-2 Inv-loop μ-loop
 enum-known-went-2 c = search needs
@@ -202,7 +202,7 @@ unfolding Reached
 returns-4 c =
     λ a b w count u.
     let i = c .before .loop .inv in
-    record { few = i .1; reached = spent-here (i .0 a b w count u) (none-left (c .loop-test .left)) }
+    record { few = i .1; reached = run-spent (i .0 a b w count u) (none-left (c .loop-test .left)) }
 
 pub run-plain-spec : {M : Type 1} → statement M
 run-plain-spec =

@@ -1,10 +1,10 @@
 use Rattle.expander.specs.Run.{finishedReport}
 use mathlib.Core.Path.{refl}
 use borrow.Author.Needs.{needs}
-use Rattle.expander.proofs.run.finished.Statement.{statement}
-use Rattle.expander.proofs.run.finished.Tie as tie
-use Rattle.expander.proofs.run.finished.Reads as reads
-use Rattle.expander.proofs.run.finished.Lts as lts
+use Rattle.expander.proofs.reporting.finished.Statement.{statement}
+use Rattle.expander.proofs.reporting.finished.Tie as tie
+use Rattle.expander.proofs.reporting.finished.Reads as reads
+use Rattle.expander.proofs.reporting.finished.Lts as lts
 
 cast-place : tie.Need-cast-place
 cast-place c = search needs

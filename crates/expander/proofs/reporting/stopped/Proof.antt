@@ -1,10 +1,10 @@
 use Rattle.expander.specs.Run.{stoppedReport}
 use mathlib.Core.Path.{refl}
 use borrow.Author.Needs.{needs}
-use Rattle.expander.proofs.run.stopped.Statement.{statement}
-use Rattle.expander.proofs.run.stopped.Tie as tie
-use Rattle.expander.proofs.run.stopped.Reads as reads
-use Rattle.expander.proofs.run.stopped.Lts as lts
+use Rattle.expander.proofs.reporting.stopped.Statement.{statement}
+use Rattle.expander.proofs.reporting.stopped.Tie as tie
+use Rattle.expander.proofs.reporting.stopped.Reads as reads
+use Rattle.expander.proofs.reporting.stopped.Lts as lts
 
 cast-place : tie.Need-cast-place
 cast-place c = search needs
