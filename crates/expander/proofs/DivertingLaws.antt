@@ -26,14 +26,13 @@ use Rattle.rules.specs.State.{State, next, stop, refused, withSource, withStrea
 use Rattle.rules.specs.Run.{Setting}
 use Rattle.rules.proofs.Changes.{moves-in-turn}
 use Rattle.expander.specs.declared.sinks.Sinks.{Sinks}
-use Rattle.expander.specs.declared.diverting.Moved.{Moved}
 use Rattle.expander.specs.declared.machine.Machine.{Machine}
 use Rattle.expander.specs.declared.machine.Went.the-variants as went
 use Rattle.expander.specs.Streams.{IsStream, StreamsIn, ownedBy, ownedCount, behindStream, discards}
 use Rattle.expander.specs.Sinks.{SinksIn}
 use Rattle.expander.specs.Filled.{Filled}
 use Rattle.expander.specs.Front.{Front}
-use Rattle.expander.specs.Diverting.{allNamed, turns, Spilled, Moves, Idle, Seen}
+use Rattle.expander.specs.Diverting.{allNamed, turns, Idle, Seen}
 use Rattle.expander.specs.Machine.{Memory, Means, Gives, turned, sinksSet, sinksAt}
 use Rattle.expander.proofs.ArgumentLaws.{number-or-bits, decimal-none, decimal-some, bits-plain}
 use Rattle.expander.proofs.CallsLaws.{joined-total}
@@ -43,7 +42,7 @@ use Rattle.expander.proofs.SinksLaws.{lost-is}
 use Rattle.expander.proofs.Moved.{moved-same, moved-to, moved-out, moved-lost, moved-current, turn-on, turns-end}
 use Rattle.expander.proofs.Parted.{with-sinks}
 use Rattle.expander.proofs.Totals.{used-is}
-use Rattle.expander.proofs.Turns.{undivert-named, undivert-unnamed}
+use Rattle.expander.proofs.Turns.{undivert-named, undivert-unnamed, turn-each}
 use Rattle.expander.proofs.MachineLaws.{front-long, pending-fits, streams-fit, gives-next, gives-stop, gives-room, gives-stop-room}
 use Rattle.expander.proofs.DeliveringLaws.{total-set, output-over}
 use Rattle.expander.proofs.TurnLaws.{turned-on, turned-refused}
@@ -53,10 +52,10 @@ use Rattle.expander.proofs.TurnLaws.{turned-on, turned-refused}
 module _
     (P : Streams → Type 0) (i : ℕ) (h : IsStream i) (u : Streams) (same : u .current ≡ pos i → P u)
     (to : (j : ℕ) → u .current ≡ pos j → IsStream j → (i ≡ j → ⊥) → P (record { output = u .output; waiting = behindStream i j (u .waiting); current = u .current }))
-    (out : P (record { output = u .output ++ getD (u .waiting) (i - 1) []; waiting = set (u .waiting) (i - 1) []; current = u .current }))
+    (out : u .current ≡ pos 0 → P (record { output = u .output ++ getD (u .waiting) (i - 1) []; waiting = set (u .waiting) (i - 1) []; current = u .current }))
     (lost : P (record { output = u .output; waiting = set (u .waiting) (i - 1) []; current = u .current }))
   where
-    moved-any : P (moved i u)
+    pub moved-any : P (moved i u)
     unfolding discards
     moved-any = go (u .current) refl
       where
@@ -71,17 +70,17 @@ module _
         high j false q e = subst P (sym (moved-lost i h u (ap discards e ∙ lt-ltb 9 (suc j) (leb-false (suc j) 9 q)))) lost
 
         go : (c : ℤ) → u .current ≡ c → P (moved i u)
-        go (pos zero) e = subst P (sym (moved-out i h u e)) out
+        go (pos zero) e = subst P (sym (moved-out i h u e)) (out e)
         go (pos (suc j)) e = high j (leb (suc j) 9) refl e
         go (negsuc n) e = subst P (sym (moved-lost i h u (ap discards e))) lost
 
--- ---- what waits is no more then, the output no less, and there are nine streams
+-- ---- the output is no shorter then, it and what waits are no longer in all, and there are nine streams
 
-total-less : (ws : List Bytes) (k : ℕ) → totalLength (set ws k []) ≤ totalLength ws
+total-out : (ws : List Bytes) (k : ℕ) → length (getD ws k []) + totalLength (set ws k []) ≡ totalLength ws
 unfolding totalLength
-total-less [] k = omega arith
-total-less (w ∷ ws) zero = omega arith
-total-less (w ∷ ws) (suc k) = omega (arith, total-less ws k)
+total-out [] k = refl
+total-out (w ∷ ws) zero = omega arith
+total-out (w ∷ ws) (suc k) = omega (arith, total-out ws k)
 
 total-behind : (i j : ℕ) (ws : List Bytes) → IsStream i → IsStream j → (i ≡ j → ⊥) → length ws ≡ 9 → totalLength (behindStream i j ws) ≡ totalLength ws
 unfolding behindStream
@@ -91,38 +90,40 @@ total-behind i j ws h k d n =
     omega (
       arith,
       ap length e,
-      total-set ws (i - 1) [] (omega (arith, h .low, h .high)),
+      total-out ws (i - 1),
       total-set vs (j - 1) (getD ws (j - 1) [] ++ getD ws (i - 1) []) (omega (arith, k .low, k .high, length-set ws (i - 1) [])),
       length-append (getD ws (j - 1) []) (getD ws (i - 1) []),
     )
 
 module _ (i : ℕ) (h : IsStream i) (u : Streams) (n : length (u .waiting) ≡ 9) where
-  moved-nine : length (moved i u .waiting) ≡ 9
+  pub moved-nine : length (moved i u .waiting) ≡ 9
   unfolding behindStream
   moved-nine =
       moved-any (λ (x : Streams). length (x .waiting) ≡ 9) i h u (λ e. n)
       (λ j e k d. length-set (set (u .waiting) (i - 1) []) (j - 1) (getD (u .waiting) (j - 1) [] ++ getD (u .waiting) (i - 1) []) ∙ length-set (u .waiting) (i - 1) [] ∙ n)
-      (length-set (u .waiting) (i - 1) [] ∙ n) (length-set (u .waiting) (i - 1) [] ∙ n)
-
-  moved-less : totalLength (moved i u .waiting) ≤ totalLength (u .waiting)
-  moved-less =
-      moved-any (λ (x : Streams). totalLength (x .waiting) ≤ totalLength (u .waiting)) i h u (λ e. omega arith) (λ j e k d. omega (arith, total-behind i j (u .waiting) h k d n))
-      (total-less (u .waiting) (i - 1)) (total-less (u .waiting) (i - 1))
+      (λ e. length-set (u .waiting) (i - 1) [] ∙ n) (length-set (u .waiting) (i - 1) [] ∙ n)
 
   moved-more : length (u .output) ≤ length (moved i u .output)
   moved-more =
       moved-any (λ (x : Streams). length (u .output) ≤ length (x .output)) i h u (λ e. omega arith) (λ j e k d. omega arith)
-      (omega (arith, length-append (u .output) (getD (u .waiting) (i - 1) []))) (omega arith)
+      (λ e. omega (arith, length-append (u .output) (getD (u .waiting) (i - 1) []))) (omega arith)
 
-turns-spill :
+  moved-sum : length (moved i u .output) + totalLength (moved i u .waiting) ≤ length (u .output) + totalLength (u .waiting)
+  moved-sum =
+      let l = total-out (u .waiting) (i - 1) in
+      moved-any (λ (x : Streams). length (x .output) + totalLength (x .waiting) ≤ length (u .output) + totalLength (u .waiting)) i h u (λ e. omega arith)
+      (λ j e k d. omega (arith, total-behind i j (u .waiting) h k d n))
+      (λ e. omega (arith, length-append (u .output) (getD (u .waiting) (i - 1) []))) (omega arith)
+
+pub turns-sum :
     (ns : List ℕ) → ((k : ℕ) → k < length ns → IsStream (getD ns k 0)) → (u : Streams) → length (u .waiting) ≡ 9
-    → (totalLength (movedInTurn ns u .waiting) ≤ totalLength (u .waiting)) × (length (u .output) ≤ length (movedInTurn ns u .output))
+    → (length (u .output) ≤ length (movedInTurn ns u .output)) × (length (movedInTurn ns u .output) + totalLength (movedInTurn ns u .waiting) ≤ length (u .output) + totalLength (u .waiting))
 unfolding movedInTurn
-turns-spill [] f u n = (omega arith, omega arith)
-turns-spill (i ∷ ns) f u n =
+turns-sum [] f u n = (omega arith, omega arith)
+turns-sum (i ∷ ns) f u n =
     let h : IsStream i = f 0 (omega arith) in
-    let r = turns-spill ns (λ k l. f (suc k) (omega arith)) (moved i u) (moved-nine i h u n) in
-    (omega (arith, r .0, moved-less i h u n), omega (arith, r .1, moved-more i h u n))
+    let r = turns-sum ns (λ k l. f (suc k) (omega arith)) (moved i u) (moved-nine i h u n) in
+    (omega (arith, r .0, moved-more i h u n), omega (arith, r .1, moved-sum i h u n))
 
 -- ---- streams that a move leaves alone
 
@@ -139,7 +140,7 @@ module _ (i : ℕ) (h : IsStream i) (u : Streams) where
       let l : length (getD (u .waiting) (i - 1) []) ≡ 0 = ap length e in
       moved-any (λ (x : Streams). x ≡ u) i h u (λ c. refl)
       (λ j c k d. ap {B = Streams} (λ (ws : List Bytes). record { output = u .output; waiting = ws; current = u .current }) (nothing-moved (u .waiting) i j l))
-      (ap₂ {C = Streams} (λ (o : Bytes) (ws : List Bytes). record { output = o; waiting = ws; current = u .current }) (ap (λ (w : Bytes). u .output ++ w) e ∙ append-nil (u .output)) (nothing-out (u .waiting) i l))
+      (λ c. ap₂ {C = Streams} (λ (o : Bytes) (ws : List Bytes). record { output = o; waiting = ws; current = u .current }) (ap (λ (w : Bytes). u .output ++ w) e ∙ append-nil (u .output)) (nothing-out (u .waiting) i l))
       (ap {B = Streams} (λ (ws : List Bytes). record { output = u .output; waiting = ws; current = u .current }) (nothing-out (u .waiting) i l))
 
   idle-same : Idle i u → moved i u ≡ u
@@ -152,7 +153,7 @@ module _ (i : ℕ) (h : IsStream i) (u : Streams) where
       let e : getD (set (u .waiting) (i - 1) []) (i - 1) [] ≡ [] = getD-set-same (u .waiting) (i - 1) [] [] (omega (arith, h .low, h .high)) in
       moved-any (λ (x : Streams). (x .current ≡ pos i) ⊎ (getD (x .waiting) (i - 1) [] ≡ [])) i h u inl
       (λ j c k d. inr (getD-set-other (set (u .waiting) (i - 1) []) (j - 1) (i - 1) (getD (u .waiting) (j - 1) [] ++ getD (u .waiting) (i - 1) []) [] (λ q. d (omega (arith, h .low, k .low))) ∙ e))
-      (inr e) (inr e)
+      (λ c. inr e) (inr e)
 
   idle-stays : (k : ℕ) → IsStream k → Idle k u → Idle k (moved i u)
   unfolding Idle behindStream
@@ -161,7 +162,7 @@ module _ (i : ℕ) (h : IsStream i) (u : Streams) where
       stays : getD (u .waiting) (k - 1) [] ≡ [] → (moved i u .current ≡ pos k) ⊎ (getD (moved i u .waiting) (k - 1) [] ≡ [])
       stays e =
           let g : getD (set (u .waiting) (i - 1) []) (k - 1) [] ≡ [] = still-empty (u .waiting) (i - 1) (k - 1) e in
-          moved-any (λ (x : Streams). (x .current ≡ pos k) ⊎ (getD (x .waiting) (k - 1) [] ≡ [])) i h u (λ c. inr e) (λ j c m n. to j c m g (ℕ-discrete k j)) (inr g) (inr g)
+          moved-any (λ (x : Streams). (x .current ≡ pos k) ⊎ (getD (x .waiting) (k - 1) [] ≡ [])) i h u (λ c. inr e) (λ j c m n. to j c m g (ℕ-discrete k j)) (λ c. inr g) (inr g)
         where
           to : (j : ℕ) → u .current ≡ pos j → IsStream j → getD (set (u .waiting) (i - 1) []) (k - 1) [] ≡ [] → Dec (k ≡ j)
               → (u .current ≡ pos k) ⊎ (getD (set (set (u .waiting) (i - 1) []) (j - 1) (getD (u .waiting) (j - 1) [] ++ getD (u .waiting) (i - 1) [])) (k - 1) [] ≡ [])
@@ -180,7 +181,7 @@ none-seen u seen e =
 
 module _ {seen : List ℕ} {u : Streams} (s : Seen seen u) (i : ℕ) (h : IsStream i) where
   -- a marked one moves nothing
-  seen-same : (getD seen i 0 ≡ 0 → ⊥) → moved i u ≡ u
+  pub seen-same : (getD seen i 0 ≡ 0 → ⊥) → moved i u ≡ u
   seen-same f = idle-same i h u (s .idle i h f)
 
   pub seen-more : length (u .waiting) ≡ 9 → Seen (set seen i 1) (moved i u)
@@ -203,39 +204,27 @@ written-more {output} {at} {t} h w v n e l r =
       filled-long f,
     )
 
-module _ {streams : Bytes} {owners : List ℕ} {output : Bytes} {u w : Streams} where
-  pub moves-fit : {k : Sinks} → SinksIn streams owners output k w → Moves streams owners output (record { sinks = k; fits = true }) u w
-  moves-fit h = record { fitting = λ e. h; spilling = λ e. let z : _≡_ {A = ℕ} 0 1 = cc in absurd (omega arith) }
-
-  pub moves-spill : {k : Sinks} → Spilled output u w → Moves streams owners output (record { sinks = k; fits = false }) u w
-  moves-spill h = record { fitting = λ e. let z : _≡_ {A = ℕ} 0 1 = cc in absurd (omega arith); spilling = λ e. h }
-
 module _ {streams : Bytes} {owners : List ℕ} {output : Bytes} {k : Sinks} {u : Streams} (m : SinksIn streams owners output k u) (i : ℕ) (h : IsStream i) where
   -- to the output
-  module _ (e : k .current ≡ 0) (n : ℕ) (en : n ≡ ownedCount i (take (k .waiting) owners)) where
+  module _ (e : k .current ≡ 0) where
     is-out : u .current ≡ pos 0
     is-out = m .current ∙ ap signedValue e ∙ bits-plain 0 (omega arith)
 
-    pub out-spills : length output - k .output < n → Spilled output u (moved i u)
-    out-spills l =
-        subst (λ (x : Streams). Spilled output u x) (sym (moved-out i h u is-out))
-        (record {
-          over = omega (arith, length-append (u .output) (getD (u .waiting) (i - 1) []), length-of (m .waiting) i h, en, front-long (m .written), m .written .inside);
-          less = total-less (u .waiting) (i - 1);
-        })
+    pub out-long : length (moved i u .output) ≡ k .output + ownedCount i (take (k .waiting) owners)
+    out-long = rw (moved-out i h u is-out) (omega (arith, length-append (u .output) (getD (u .waiting) (i - 1) []), length-of (m .waiting) i h, front-long (m .written)))
 
     pub out-moves :
-        {streams′ : Bytes} {owners′ : List ℕ} {kept : ℕ} (w : Bytes) → w ≡ ownedBy i (take (k .waiting) owners) (take (k .waiting) streams) → n ≤ length output - k .output
-        → StreamsIn streams′ owners′ kept (set (u .waiting) (i - 1) [])
+        {streams′ : Bytes} {owners′ : List ℕ} {kept : ℕ} (n : ℕ) → n ≡ ownedCount i (take (k .waiting) owners) → (w : Bytes)
+        → w ≡ ownedBy i (take (k .waiting) owners) (take (k .waiting) streams) → k .output + n ≤ length output → StreamsIn streams′ owners′ kept (set (u .waiting) (i - 1) [])
         → SinksIn streams′ owners′ (putMid (k .output) (k .output + n - k .output) output w) (record { current = k .current; waiting = kept; output = k .output + n }) (moved i u)
-    out-moves {streams′} {owners′} {kept} w ew l g =
+    out-moves {streams′} {owners′} {kept} n en w ew l g =
         let e-text : w ≡ getD (u .waiting) (i - 1) [] = ew ∙ sym (text-of (m .waiting) i h) in
         let e-long : length w ≡ n = ap length e-text ∙ length-of (m .waiting) i h ∙ sym en in
         let after = putMid (k .output) (k .output + n - k .output) output w in
         subst (λ (x : Streams). SinksIn streams′ owners′ after (record { current = k .current; waiting = kept; output = k .output + n }) x) (sym (moved-out i h u is-out))
         (record {
           waiting = g;
-          written = written-more (m .written) w (getD (u .waiting) (i - 1) []) n e-text e-long l .0;
+          written = written-more (m .written) w (getD (u .waiting) (i - 1) []) n e-text e-long (omega arith) .0;
           current = m .current;
         })
 
@@ -265,8 +254,8 @@ module _ {streams : Bytes} {owners : List ℕ} {output : Bytes} {k : Sinks} {u :
 -- a stream that was moved before
 pub seen-moves :
     {streams : Bytes} {owners : List ℕ} {output : Bytes} {k : Sinks} {u : Streams} {seen : List ℕ} → SinksIn streams owners output k u → Seen seen u → (i : ℕ) → IsStream i
-    → (getD seen i 0 ≡ 0 → ⊥) → Moves streams owners output (record { sinks = k; fits = true }) u (moved i u) × Seen seen (moved i u)
-seen-moves {seen = seen} m s i h f = let e = seen-same s i h f in (moves-fit (rw e m), rw e s)
+    → (getD seen i 0 ≡ 0 → ⊥) → SinksIn streams owners output k (moved i u) × Seen seen (moved i u)
+seen-moves {seen = seen} m s i h f = let e = seen-same s i h f in (rw e m, rw e s)
 
 -- ---- moves in turn: what those before j made of u
 
@@ -275,50 +264,39 @@ pub record Turning (streams : Bytes) (owners : List ℕ) (output : Bytes) (k : S
   pub are : SinksIn streams owners output k held
   pub marked : Seen seen held
   pub left : movedInTurn (drop j ns) held ≡ movedInTurn ns u
-  pub less : totalLength (held .waiting) ≤ totalLength (u .waiting)
 
 pub turning-begins :
     {streams : Bytes} {owners : List ℕ} {output : Bytes} {k : Sinks} {u : Streams} (seen ns : List ℕ) → SinksIn streams owners output k u → seen ≡ replicate 10 0
     → Turning streams owners output k seen ns 0 u
-turning-begins {u = u} seen ns m e = record { held = u; are = m; marked = none-seen u seen e; left = refl; less = omega arith }
+turning-begins {u = u} seen ns m e = record { held = u; are = m; marked = none-seen u seen e; left = refl }
 
 module _
     {streams : Bytes} {owners : List ℕ} {output : Bytes} {k : Sinks} {seen ns : List ℕ} {j : ℕ} {u : Streams} (t : Turning streams owners output k seen ns j u)
     (each : (k : ℕ) → k < length ns → IsStream (getD ns k 0))
   where
-    pub turning-ends : length ns ≤ j → Moves streams owners output (record { sinks = k; fits = true }) u (movedInTurn ns u)
-    turning-ends h = moves-fit (subst (λ (x : Streams). SinksIn streams owners output k x) (turns-end ns j (t .held) (movedInTurn ns u) (t .left) h) (t .are))
+    pub turning-ends : length ns ≤ j → SinksIn streams owners output k (movedInTurn ns u)
+    turning-ends h = subst (λ (x : Streams). SinksIn streams owners output k x) (turns-end ns j (t .held) (movedInTurn ns u) (t .left) h) (t .are)
 
-    module _
-        {streams′ : Bytes} {owners′ : List ℕ} {output′ : Bytes} {seen′ : List ℕ} {r : Moved} (h : j < length ns) (i : ℕ) (e : i ≡ getD ns j 0)
-        (g : Moves streams′ owners′ output′ r (t .held) (moved i (t .held)) × Seen seen′ (moved i (t .held)))
-      where
-        here : IsStream i
-        here = subst IsStream (sym e) (each j h)
+    module _ (h : j < length ns) (i : ℕ) (e : i ≡ getD ns j 0) where
+      here : IsStream i
+      here = subst IsStream (sym e) (each j h)
 
-        then-left : movedInTurn (drop (j + 1) ns) (moved i (t .held)) ≡ movedInTurn ns u
-        then-left = ap (λ (n : ℕ). movedInTurn (drop (j + 1) ns) (moved n (t .held))) e ∙ turn-on ns j (t .held) (movedInTurn ns u) (t .left) h
+      then-left : movedInTurn (drop (j + 1) ns) (moved i (t .held)) ≡ movedInTurn ns u
+      then-left = ap (λ (n : ℕ). movedInTurn (drop (j + 1) ns) (moved n (t .held))) e ∙ turn-on ns j (t .held) (movedInTurn ns u) (t .left) h
 
-        pub turning-on : r .fits ≡ true → Turning streams′ owners′ output′ (r .sinks) seen′ ns (j + 1) u
-        turning-on q =
-            record {
-              held = moved i (t .held);
-              are = g .0 .fitting q;
-              marked = g .1;
-              left = then-left;
-              less = omega (arith, t .less, moved-less i here (t .held) (t .are .waiting .nine));
-            }
+      -- where all fits, this move does, since later ones only lengthen the output
+      pub turning-fits : {n : ℕ} → length (movedInTurn ns u .output) ≤ n → length (moved i (t .held) .output) ≤ n
+      turning-fits l =
+          omega (
+            arith,
+            ap (λ (x : Streams). length (x .output)) then-left,
+            turns-sum (drop (j + 1) ns) (λ n o. subst IsStream (sym (getD-drop (j + 1) ns n 0)) (each (j + 1 + n) (omega (arith, length-drop (j + 1) ns)))) (moved i (t .held)) (moved-nine i here (t .held) (t .are .waiting .nine)) .0,
+          )
 
-        pub turning-spills : r .fits ≡ false → Moves streams′ owners′ output′ r u (movedInTurn ns u)
-        turning-spills q =
-            let s = turns-spill (drop (j + 1) ns) (λ n l. subst IsStream (sym (getD-drop (j + 1) ns n 0)) (each (j + 1 + n) (omega (arith, length-drop (j + 1) ns)))) (moved i (t .held)) (moved-nine i here (t .held) (t .are .waiting .nine)) in
-            let p = g .0 .spilling q in
-            let w : totalLength (movedInTurn (drop (j + 1) ns) (moved i (t .held)) .waiting) ≡ totalLength (movedInTurn ns u .waiting) = ap (λ (x : Streams). totalLength (x .waiting)) then-left in
-            let o : length (movedInTurn (drop (j + 1) ns) (moved i (t .held)) .output) ≡ length (movedInTurn ns u .output) = ap (λ (x : Streams). length (x .output)) then-left in
-            record {
-              fitting = λ z. let y : true ≡ false = sym z ∙ q in let x : _≡_ {A = ℕ} 0 1 = cc in absurd (omega arith);
-              spilling = λ z. record { over = omega (arith, p .over, s .1, o); less = omega (arith, p .less, s .0, t .less, w) };
-            }
+      pub turning-on :
+          {streams′ : Bytes} {owners′ : List ℕ} {output′ : Bytes} {seen′ : List ℕ} {r : Sinks}
+          → SinksIn streams′ owners′ output′ r (moved i (t .held)) × Seen seen′ (moved i (t .held)) → Turning streams′ owners′ output′ r seen′ ns (j + 1) u
+      turning-on g = record { held = moved i (t .held); are = g .0; marked = g .1; left = then-left }
 
 -- ---- divert
 
@@ -368,19 +346,20 @@ module _ {a : Setting} {b : Memory} {m : Machine} {s : State} (r : Means a b m s
   unfolding faultAnswer
   undivert-bad e = turned-refused noNumber (undivert-none args s e) refl
 
-  module _ {streams′ : Bytes} {owners′ : List ℕ} {output′ : Bytes} {k : Moved} (e : allNamed args ≡ true) (g : Moves streams′ owners′ output′ k (s .streams) (movedInTurn (turns args) (s .streams))) where
-    pub undivert-full : length output′ ≡ length (b .output) → k .fits ≡ false → Gives a b (callUndivert args s) b (turned (went.Refused (answer.Room 7)) m)
+  module _ (e : allNamed args ≡ true) where
+    pub undivert-full : leb (length (movedInTurn (turns args) (s .streams) .output)) (length (b .output)) ≡ false → Gives a b (callUndivert args s) b (turned (went.Refused (answer.Room 7)) m)
     unfolding withSource
-    undivert-full l f =
-        let p = g .spilling f in
+    undivert-full l =
+        let w = turns-sum (turns args) (turn-each args e) (s .streams) (r .sinks .waiting .nine) in
         rw (undivert-some args s e)
         (gives-room (withStreams (movedInTurn (turns args) (s .streams)) s) 6
-        (output-over r (s .source) (pending-fits r) (movedInTurn (turns args) (s .streams)) (omega (arith, p .less, streams-fit r)) (omega (arith, p .over, l, r .limits .output))))
+        (output-over r (s .source) (pending-fits r) (movedInTurn (turns args) (s .streams)) (omega (arith, w .0, w .1, streams-fit r)) (omega (arith, leb-false (length (movedInTurn (turns args) (s .streams) .output)) (length (b .output)) l, r .limits .output))))
 
     pub undivert-on :
-        length streams′ ≡ length (b .streams) → length owners′ ≡ length (b .owners) → length output′ ≡ length (b .output) → k .fits ≡ true
-        → Gives a b (callUndivert args s) (sinksAt streams′ owners′ output′ b) (turned went.On (sinksSet (k .sinks) m))
-    undivert-on e-streams e-owners e-output f = rw (undivert-some args s e) (gives-next (with-sinks r (g .fitting f) e-streams e-owners e-output))
+        {streams′ : Bytes} {owners′ : List ℕ} {output′ : Bytes} {k : Sinks} → SinksIn streams′ owners′ output′ k (movedInTurn (turns args) (s .streams))
+        → length streams′ ≡ length (b .streams) → length owners′ ≡ length (b .owners) → length output′ ≡ length (b .output)
+        → Gives a b (callUndivert args s) (sinksAt streams′ owners′ output′ b) (turned went.On (sinksSet k m))
+    undivert-on g e-streams e-owners e-output = rw (undivert-some args s e) (gives-next (with-sinks r g e-streams e-owners e-output))
 
 -- ---- the end
 

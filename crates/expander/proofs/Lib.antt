@@ -13,6 +13,7 @@ pub mod EventLaws
 pub mod ExpandLaws
 pub mod FigureLaws
 pub mod FilledLaws
+pub mod Fitting
 pub mod GivingLaws
 pub mod ListLaws
 pub mod MachineLaws

@@ -1,5 +1,5 @@
--- The streams that undivert moves in turn, and what moves come to in the buffers.
-use Prim.Native.Nat.{ℕ, _-_, _≤_, _<_}
+-- The streams that undivert moves in turn, and what its functions ask of the buffers.
+use Prim.Native.Nat.{ℕ, _-_, _≤_}
 use mathlib.Core.Path.{_≡_}
 use mathlib.Core.Logic.{_⊎_}
 use mathlib.Core.Bool.{Bool, true, false}
@@ -7,14 +7,15 @@ use mathlib.Core.List.{List, [], _∷_}
 use mathlib.Core.Option.{Option, none, some}
 use lib.Dec.{eqb}
 use lib.IntN.{pos}
-use lib.ListN.{length, getD}
+use lib.ListN.{length, take, getD}
 use Rattle.rules.specs.Bytes.{Bytes}
 use Rattle.rules.specs.Numerals.{number}
 use Rattle.rules.specs.Arguments.{bounded}
-use Rattle.rules.specs.Streams.{Streams, totalLength}
-use Rattle.expander.specs.declared.diverting.Moved.{Moved}
+use Rattle.rules.specs.Streams.{Streams}
+use Rattle.expander.specs.declared.arguments.Arguments.{Arguments}
 use Rattle.expander.specs.declared.sinks.Sinks.{Sinks}
-use Rattle.expander.specs.Streams.{IsStream}
+use Rattle.expander.specs.Arguments.{ArgumentsIn, SomeArguments}
+use Rattle.expander.specs.Streams.{IsStream, ownedCount}
 use Rattle.expander.specs.Sinks.{SinksIn}
 
 unfoldable pub orZero : Option ℕ → ℕ
@@ -38,21 +39,17 @@ unfoldable pub turns : List Bytes → List ℕ
 turns [] = 1 ∷ 2 ∷ 3 ∷ 4 ∷ 5 ∷ 6 ∷ 7 ∷ 8 ∷ 9 ∷ []
 turns (a ∷ more) = streamsOf (a ∷ more)
 
--- some texts stand in the buffers: what functions ask; `scratch` has room for any of them
-pub record SomeSinks (streams : Bytes) (owners : List ℕ) (output scratch : Bytes) (k : Sinks) : Type 0 where
+-- arguments each of which names a stream
+pub record StreamArguments (bytes : Bytes) (ends : List ℕ) (x : Arguments) : Type 0 where
+  pub given : SomeArguments bytes ends x
+  pub named : (args : List Bytes) → ArgumentsIn bytes ends x args → allNamed args ≡ true
+
+-- some texts stand in the buffers, and what `made` makes of them fits: what moves ask; `scratch` has room for any of them
+pub record SomeSinks (streams : Bytes) (owners : List ℕ) (output scratch : Bytes) (k : Sinks) (made : Streams → Streams) : Type 0 where
   pub held : Streams
   pub are : SinksIn streams owners output k held
+  pub fits : length (made held .output) ≤ length output
   pub room : length streams ≤ length scratch
-
--- w is too long for the output; what waits in it is no more than what waits in u
-pub record Spilled (output : Bytes) (u w : Streams) : Type 0 where
-  pub over : length output < length (w .output)
-  pub less : totalLength (w .waiting) ≤ totalLength (u .waiting)
-
--- moves that make w of u: it stands in the buffers, or they do not fit
-pub record Moves (streams : Bytes) (owners : List ℕ) (output : Bytes) (r : Moved) (u w : Streams) : Type 0 where
-  pub fitting : r .fits ≡ true → SinksIn streams owners output (r .sinks) w
-  pub spilling : r .fits ≡ false → Spilled output u w
 
 -- a move of stream i changes nothing: it is the current one, or empty
 unfoldable pub Idle : ℕ → Streams → Type 0
@@ -62,3 +59,10 @@ Idle i u = (u .current ≡ pos i) ⊎ (getD (u .waiting) (i - 1) [] ≡ [])
 pub record Seen (seen : List ℕ) (u : Streams) : Type 0 where
   pub ten : length seen ≡ 10
   pub idle : (i : ℕ) → IsStream i → (getD seen i 0 ≡ 0 → ⊥) → Idle i u
+
+-- moves go to the output; each stream that is marked was moved, and each other one has as many bytes as are its own
+pub record Leaving (owners : List ℕ) (used : ℕ) (seen : List ℕ) (u : Streams) : Type 0 where
+  pub out : u .current ≡ pos 0
+  pub nine : length (u .waiting) ≡ 9
+  pub marked : Seen seen u
+  pub owned : (i : ℕ) → IsStream i → getD seen i 0 ≡ 0 → length (getD (u .waiting) (i - 1) []) ≡ ownedCount i (take used owners)

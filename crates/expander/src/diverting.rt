@@ -9,10 +9,10 @@ use numerals::Decimal;
 use numerals::Natural;
 use rules::Answer;
 ghost use mathlib.Core.Path.{_≡_};
-ghost use mathlib.Core.Bool.{true};
 ghost use mathlib.Core.List.{List};
-ghost use Prim.Native.Nat.{ℕ, _≤_, _<_};
-ghost use lib.ListN.{length, getD, replicate};
+ghost use Prim.Native.Nat.{ℕ, _+_, _≤_, _<_};
+ghost use lib.Dec.{leb};
+ghost use lib.ListN.{length, take, getD, replicate};
 ghost use Rattle.rules.specs.Bytes.{Bytes};
 ghost use Rattle.rules.specs.Arguments.{arg};
 ghost use Rattle.rules.specs.State.{State, stop, withStreams};
@@ -22,15 +22,9 @@ ghost use Rattle.expander.specs.Machine.{Memory, Means, Gives, Sound, st
 ghost use Rattle.rules.specs.Macros.{callDivert, callUndivert};
 ghost use Rattle.rules.specs.Answers.{done};
 ghost use Rattle.rules.specs.Streams.{Streams, moved, movedInTurn, finishedStreams};
-ghost use Rattle.expander.specs.Streams.{IsStream};
+ghost use Rattle.expander.specs.Streams.{IsStream, ownedCount};
 ghost use Rattle.expander.specs.Sinks.{SinksIn};
-ghost use Rattle.expander.specs.Diverting.{streamOf, allNamed, turns, SomeSinks, Moves, Seen};
-
-// What moves come to: where the streams stand then, and whether they fit.
-pub struct Moved {
-    pub sinks: Sinks,
-    pub fits: bool,
-}
+ghost use Rattle.expander.specs.Diverting.{streamOf, allNamed, turns, StreamArguments, SomeSinks, Seen, Leaving};
 
 // The stream that the n-th argument names; 0: none.
 fn stream_argument(calls: &[u8], ends: &[u32], x: Arguments, n: usize) -> u32
@@ -83,29 +77,76 @@ fn turn_stream(calls: &[u8], ends: &[u32], x: Arguments, k: usize) -> u32
     stream_argument(calls, ends, x, k + 1)
 }
 
-// Stream i goes behind the output.
-fn move_out(streams: &mut [u8], owners: &mut [u8], output: &mut [u8], k: Sinks, i: u8) -> Moved
-    requires { ⌜ (k .waiting ≤ length (now streams)) × (k .waiting ≤ length (now owners)) × (k .output ≤ length (now output)) ⌝ }
-    ensures { λ r. ⌜ ((u : Streams) → SinksIn (now (streams .entry)) (now (owners .entry)) (now (output .entry)) k u → k .current ≡ 0 → IsStream i → Moves (now (streams .exit)) (now (owners .exit)) (now (output .exit)) r u (moved i u)) ⌝ }
+// How many bytes stream i has; 0 if it was counted before.
+fn count_new(owners: &[u8], used: usize, seen: &mut [u8; 10], i: u32) -> usize
+    requires { ⌜ (used ≤ length (now owners)) × IsStream i ⌝ }
+    ensures { λ r. ⌜ (r ≤ used) × ((u : Streams) → Leaving (now (owners .entry)) used (now (seen .entry)) u → Leaving (now (owners .entry)) used (now (seen .exit)) (moved i u) × (length (moved i u .output) ≡ length (u .output) + r)) ⌝ }
+{
+    let at = i as usize;
+    if seen[at] != 0 {
+        return 0;
+    }
+    seen[at] = 1;
+    streams::count(owners, used, i as u8)
+}
+
+// How many bytes the streams have that the arguments name, or all nine; each counts once.
+fn count_streams(
+    calls: &[u8],
+    ends: &[u32],
+    owners: &[u8],
+    used: usize,
+    seen: &mut [u8; 10],
+    x: Arguments,
+) -> usize
+    requires { ⌜ (used ≤ length (now owners)) × (used ≤ 65536) ⌝ }
+    requires { ⌜ StreamArguments (now calls) (now ends) x ⌝ }
+    ensures { λ r. ⌜ ((u : Streams) (args : List Bytes) → Leaving (now (owners .entry)) used (now (seen .entry)) u → ArgumentsIn (now (calls .entry)) (now (ends .entry)) x args → length (movedInTurn (turns args) u .output) ≡ length (u .output) + r) ⌝ }
+{
+    let n = turn_count(x);
+    let mut sum = 0;
+    let mut j = 0;
+    while j < n {
+        let i = turn_stream(calls, ends, x, j);
+        sum += count_new(owners, used, seen, i);
+        j += 1;
+    }
+    sum
+}
+
+// Whether the output has room for the streams that the arguments name, or all nine, if it is the current stream. Nothing is counted
+// where all that waits has room.
+fn fits(calls: &[u8], ends: &[u32], owners: &[u8], output: &[u8], k: Sinks, x: Arguments) -> bool
+    requires { ⌜ (k .waiting ≤ length (now owners)) × (k .waiting ≤ 65536) × (k .output ≤ length (now output)) ⌝ }
+    requires { ⌜ StreamArguments (now calls) (now ends) x ⌝ }
+    ensures { λ r. ⌜ ((streams : Bytes) (u : Streams) (args : List Bytes) → SinksIn streams (now (owners .entry)) (now (output .entry)) k u → ArgumentsIn (now (calls .entry)) (now (ends .entry)) x args → r ≡ leb (length (movedInTurn (turns args) u .output)) (length (now (output .entry)))) ⌝ }
+{
+    let free = output.len() - k.output;
+    if k.waiting <= free {
+        return true;
+    }
+    if k.current != 0 {
+        return true;
+    }
+    let mut seen = [0u8; 10];
+    count_streams(calls, ends, owners, k.waiting, &mut seen, x) <= free
+}
+
+// Stream i goes behind the output, which has room for it.
+fn move_out(streams: &mut [u8], owners: &mut [u8], output: &mut [u8], k: Sinks, i: u8) -> Sinks
+    requires { ⌜ (k .waiting ≤ length (now streams)) × (k .waiting ≤ length (now owners)) × (k .output + ownedCount i (take (k .waiting) (now owners)) ≤ length (now output)) ⌝ }
+    ensures { λ r. ⌜ ((u : Streams) → SinksIn (now (streams .entry)) (now (owners .entry)) (now (output .entry)) k u → k .current ≡ 0 → IsStream i → SinksIn (now (streams .exit)) (now (owners .exit)) (now (output .exit)) r (moved i u)) ⌝ }
 {
     let used = k.waiting;
     let at = k.output;
-    let n = streams::count(owners, used, i);
-    if output.len() - at < n {
-        return Moved {
-            sinks: k,
-            fits: false,
-        };
-    }
-    let end = at + n;
+    let end = at + streams::count(owners, used, i);
     streams::extract(streams, owners, used, i, &mut output[at..end]);
     let waiting = streams::compact(streams, owners, used, i);
-    let sinks = Sinks {
+    Sinks {
         current: k.current,
         waiting,
         output: end,
-    };
-    Moved { sinks, fits: true }
+    }
 }
 
 // Stream i is moved to the current one.
@@ -116,9 +157,9 @@ fn move_one(
     scratch: &mut [u8],
     k: Sinks,
     i: u8,
-) -> Moved
-    requires { ⌜ SomeSinks (now streams) (now owners) (now output) (now scratch) k ⌝ }
-    ensures { λ r. ⌜ ((u : Streams) → SinksIn (now (streams .entry)) (now (owners .entry)) (now (output .entry)) k u → IsStream i → Moves (now (streams .exit)) (now (owners .exit)) (now (output .exit)) r u (moved i u)) ⌝ }
+) -> Sinks
+    requires { ⌜ SomeSinks (now streams) (now owners) (now output) (now scratch) k (moved i) × IsStream i ⌝ }
+    ensures { λ r. ⌜ ((u : Streams) → SinksIn (now (streams .entry)) (now (owners .entry)) (now (output .entry)) k u → SinksIn (now (streams .exit)) (now (owners .exit)) (now (output .exit)) r (moved i u)) ⌝ }
 {
     let current = k.current;
     let used = k.waiting;
@@ -127,21 +168,17 @@ fn move_one(
     }
     if 9 < current {
         let waiting = streams::compact(streams, owners, used, i);
-        let sinks = Sinks {
+        return Sinks {
             current,
             waiting,
             output: k.output,
         };
-        return Moved { sinks, fits: true };
     }
     let to = current as u8;
     if to != i {
         streams::move_stream(streams, owners, used, i, to, scratch);
     }
-    Moved {
-        sinks: k,
-        fits: true,
-    }
+    k
 }
 
 // The same; a stream that was moved before costs no pass.
@@ -153,16 +190,13 @@ fn move_new(
     seen: &mut [u8; 10],
     k: Sinks,
     i: u32,
-) -> Moved
-    requires { ⌜ SomeSinks (now streams) (now owners) (now output) (now scratch) k × IsStream i ⌝ }
-    ensures { λ r. ⌜ ((u : Streams) → SinksIn (now (streams .entry)) (now (owners .entry)) (now (output .entry)) k u → Seen (now (seen .entry)) u → Moves (now (streams .exit)) (now (owners .exit)) (now (output .exit)) r u (moved i u) × Seen (now (seen .exit)) (moved i u)) ⌝ }
+) -> Sinks
+    requires { ⌜ SomeSinks (now streams) (now owners) (now output) (now scratch) k (moved i) × IsStream i ⌝ }
+    ensures { λ r. ⌜ ((u : Streams) → SinksIn (now (streams .entry)) (now (owners .entry)) (now (output .entry)) k u → Seen (now (seen .entry)) u → SinksIn (now (streams .exit)) (now (owners .exit)) (now (output .exit)) r (moved i u) × Seen (now (seen .exit)) (moved i u)) ⌝ }
 {
     let at = i as usize;
     if seen[at] != 0 {
-        return Moved {
-            sinks: k,
-            fits: true,
-        };
+        return k;
     }
     seen[at] = 1;
     move_one(streams, owners, output, scratch, k, i as u8)
@@ -179,28 +213,21 @@ fn move_streams(
     seen: &mut [u8; 10],
     sinks: Sinks,
     x: Arguments,
-) -> Moved
-    requires { ⌜ SomeSinks (now streams) (now owners) (now output) (now scratch) sinks ⌝ }
-    requires { ⌜ SomeArguments (now calls) (now ends) x × ((args : List Bytes) → ArgumentsIn (now calls) (now ends) x args → allNamed args ≡ true) ⌝ }
+) -> Sinks
+    requires { ⌜ StreamArguments (now calls) (now ends) x ⌝ }
+    requires { ⌜ ((args : List Bytes) → ArgumentsIn (now calls) (now ends) x args → SomeSinks (now streams) (now owners) (now output) (now scratch) sinks (movedInTurn (turns args))) ⌝ }
     requires { ⌜ now seen ≡ replicate 10 0 ⌝ }
-    ensures { λ r. ⌜ ((u : Streams) (args : List Bytes) → SinksIn (now (streams .entry)) (now (owners .entry)) (now (output .entry)) sinks u → ArgumentsIn (now (calls .entry)) (now (ends .entry)) x args → Moves (now (streams .exit)) (now (owners .exit)) (now (output .exit)) r u (movedInTurn (turns args) u)) ⌝ }
+    ensures { λ r. ⌜ ((u : Streams) (args : List Bytes) → SinksIn (now (streams .entry)) (now (owners .entry)) (now (output .entry)) sinks u → ArgumentsIn (now (calls .entry)) (now (ends .entry)) x args → SinksIn (now (streams .exit)) (now (owners .exit)) (now (output .exit)) r (movedInTurn (turns args) u)) ⌝ }
 {
     let n = turn_count(x);
     let mut k = sinks;
     let mut j = 0;
     while j < n {
         let i = turn_stream(calls, ends, x, j);
-        let r = move_new(streams, owners, output, scratch, seen, k, i);
-        if !r.fits {
-            return r;
-        }
-        k = r.sinks;
+        k = move_new(streams, owners, output, scratch, seen, k, i);
         j += 1;
     }
-    Moved {
-        sinks: k,
-        fits: true,
-    }
+    k
 }
 
 // divert: another current stream.
@@ -238,8 +265,11 @@ pub(crate) fn undivert(
     if !names_streams(calls, ends, x) {
         return m.refused(Answer::Number);
     }
+    if !fits(calls, ends, owners, output, m.sinks, x) {
+        return m.refused(Answer::Room(7));
+    }
     let mut seen = [0u8; 10];
-    let r = move_streams(
+    let k = move_streams(
         calls,
         ends,
         streams,
@@ -250,10 +280,7 @@ pub(crate) fn undivert(
         m.sinks,
         x,
     );
-    if !r.fits {
-        return m.refused(Answer::Room(7));
-    }
-    m.with_sinks(r.sinks).on()
+    m.with_sinks(k).on()
 }
 
 // The text is used up: streams 1 to 9 go to the output in order.

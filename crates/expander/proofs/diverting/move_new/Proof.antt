@@ -8,7 +8,9 @@ element-copy-out-if1 : tie.Need-element-copy-out-if1
 element-copy-out-if1 c = search needs
 
 returns : tie.Need-returns
-returns c = λ u m s. seen-moves m s (c .before .before .before .before .before .before .args .i) (c .before .before .before .before .before .before .pre .1) (c .if1 .taken)
+returns c =
+    let e = c .before .before .before .before .before .before in
+    λ u m s. seen-moves m s (e .args .i) (e .pre .1) (c .if1 .taken)
 
 element-write-seen : tie.Need-element-write-seen
 element-write-seen c = search needs
@@ -32,7 +34,9 @@ same-length-4 : tie.Need-same-length-4
 same-length-4 c = search needs
 
 returns-2 : tie.Need-returns-2
-returns-2 c = λ u m s. (c .before .before .before .before .before .before .before .before .move-one .ensures u m (c .before .before .before .before .before .before .before .before .before .before .before .before .before .before .before .before .before .before .before .pre .1), seen-more s (c .before .before .before .before .before .before .before .before .before .before .before .before .before .before .before .before .before .before .before .args .i) (c .before .before .before .before .before .before .before .before .before .before .before .before .before .before .before .before .before .before .before .pre .1) (m .waiting .nine))
+returns-2 c =
+    let e = c .before .before .before .before .before .before .before .before .before .before .before .before .before .before .before .before .before .before .before in
+    λ u m s. (c .before .before .before .before .before .before .before .before .move-one .ensures u m, seen-more s (e .args .i) (e .pre .1) (m .waiting .nine))
 
 pub move-new-spec : {M : Type 1} → statement M
 move-new-spec =

@@ -1,0 +1,127 @@
+-- Laws of what undivert would add to the output, counted before anything is moved. Assumes nothing.
+use Prim.Native.Nat.{ℕ, suc, _+_, _-_, _≤_, _<_}
+use mathlib.Core.Path.{_≡_, refl, sym, ap, subst, _∙_}
+use mathlib.Core.Bool.{Bool, true, false}
+use mathlib.Core.List.{List, [], _∷_, _++_}
+use native.Mathlib.Decide.{ℕ-discrete}
+use native.Mathlib.Omega.{arith}
+use borrow.Author.Tests.{le-leb, lt-leb, leb-true, leb-false}
+use lib.Dec.{leb}
+use lib.IntN.{ℤ, pos}
+use lib.ListN.{length, take, drop, getD, set, replicate, length-append}
+use lib.Seq.{getD-set-same, getD-set-other}
+use Rattle.rules.specs.Bytes.{Bytes}
+use Rattle.rules.specs.Words.{signedValue}
+use Rattle.rules.specs.Streams.{Streams, totalLength, moved, movedInTurn}
+use Rattle.expander.specs.declared.sinks.Sinks.{Sinks}
+use Rattle.expander.specs.Streams.{IsStream, ownedCount, discards}
+use Rattle.expander.specs.Sinks.{SinksIn}
+use Rattle.expander.specs.Diverting.{Leaving}
+use Rattle.expander.proofs.ArgumentLaws.{bits-plain}
+use Rattle.expander.proofs.Waiting.{length-of}
+use Rattle.expander.proofs.SinksLaws.{lost-is}
+use Rattle.expander.proofs.Moved.{moved-out, moved-current, turn-on, turns-end}
+use Rattle.expander.proofs.Totals.{used-is}
+use Rattle.expander.proofs.MachineLaws.{front-long}
+use Rattle.expander.proofs.DivertingLaws.{moved-any, moved-nine, turns-sum, none-seen, seen-same, seen-more}
+
+-- ---- one stream
+
+module _ {owners : List ℕ} {used : ℕ} {seen : List ℕ} {u : Streams} (l : Leaving owners used seen u) (i : ℕ) (h : IsStream i) where
+  -- a marked one adds nothing
+  pub counted-before : (getD seen i 0 ≡ 0 → ⊥) → Leaving owners used seen (moved i u) × (length (moved i u .output) ≡ length (u .output) + 0)
+  counted-before f = let e = seen-same (l .marked) i h f in (rw e l, rw e (omega arith))
+
+  pub counted-now : getD seen i 0 ≡ 0 → Leaving owners used (set seen i 1) (moved i u) × (length (moved i u .output) ≡ length (u .output) + ownedCount i (take used owners))
+  counted-now z = (
+    record {
+      out = moved-current i u ∙ l .out;
+      nine = moved-nine i h u (l .nine);
+      marked = seen-more (l .marked) i h (l .nine);
+      owned = λ k j f. others k j f (ℕ-discrete k i);
+    },
+    rw (moved-out i h u (l .out)) (omega (arith, length-append (u .output) (getD (u .waiting) (i - 1) []), l .owned i h z)),
+  )
+    where
+      others : (k : ℕ) → IsStream k → getD (set seen i 1) k 0 ≡ 0 → Dec (k ≡ i) → length (getD (moved i u .waiting) (k - 1) []) ≡ ownedCount k (take used owners)
+      others k j f (yes q) = absurd (omega (arith, sym (getD-set-same seen i 1 0 (omega (arith, h .high, l .marked .ten))) ∙ subst (λ (n : ℕ). getD (set seen i 1) n 0 ≡ 0) q f))
+      others k j f (no q) =
+          rw (moved-out i h u (l .out))
+          (ap length (getD-set-other (u .waiting) (i - 1) (k - 1) [] [] (λ o. q (omega (arith, h .low, j .low)))) ∙ l .owned k j (sym (getD-set-other seen i k 1 0 q) ∙ f))
+
+-- ---- streams in turn: those before j add `sum`
+
+pub record Counting (owners : List ℕ) (used : ℕ) (seen ns : List ℕ) (j sum : ℕ) (u : Streams) : Type 0 where
+  pub held : Streams
+  pub leaving : Leaving owners used seen held
+  pub left : movedInTurn (drop j ns) held ≡ movedInTurn ns u
+  pub long : length (held .output) ≡ length (u .output) + sum
+
+pub counting-begins : {owners : List ℕ} {used : ℕ} {seen : List ℕ} {u : Streams} (ns : List ℕ) → Leaving owners used seen u → Counting owners used seen ns 0 0 u
+counting-begins {u = u} ns l = record { held = u; leaving = l; left = refl; long = omega arith }
+
+module _ {owners : List ℕ} {used : ℕ} {seen ns : List ℕ} {j sum : ℕ} {u : Streams} (t : Counting owners used seen ns j sum u) where
+  pub counting-on :
+      {seen′ : List ℕ} (i n : ℕ) → i ≡ getD ns j 0 → j < length ns
+      → Leaving owners used seen′ (moved i (t .held)) × (length (moved i (t .held) .output) ≡ length (t .held .output) + n) → Counting owners used seen′ ns (j + 1) (sum + n) u
+  counting-on i n e h g =
+      record {
+        held = moved i (t .held);
+        leaving = g .0;
+        left = ap (λ (o : ℕ). movedInTurn (drop (j + 1) ns) (moved o (t .held))) e ∙ turn-on ns j (t .held) (movedInTurn ns u) (t .left) h;
+        long = omega (arith, g .1, t .long);
+      }
+
+  pub counting-ends : length ns ≤ j → length (movedInTurn ns u .output) ≡ length (u .output) + sum
+  counting-ends h = ap (λ (x : Streams). length (x .output)) (sym (turns-end ns j (t .held) (movedInTurn ns u) (t .left) h)) ∙ t .long
+
+-- ---- whether all fits
+
+-- the output stays where it is not the current stream
+turns-still : (ns : List ℕ) → ((k : ℕ) → k < length ns → IsStream (getD ns k 0)) → (u : Streams) → (u .current ≡ pos 0 → ⊥) → movedInTurn ns u .output ≡ u .output
+unfolding movedInTurn
+turns-still [] each u d = refl
+turns-still (i ∷ ns) each u d =
+    turns-still ns (λ k l. each (suc k) (omega arith)) (moved i u) (λ e. d (sym (moved-current i u) ∙ e))
+    ∙ moved-any (λ (x : Streams). x .output ≡ u .output) i (each 0 (omega arith)) u (λ c. refl) (λ j c k q. refl) (λ c. absurd (d c)) refl
+
+module _ {streams : Bytes} {owners : List ℕ} {output : Bytes} {k : Sinks} {u : Streams} (m : SinksIn streams owners output k u) where
+  pub leaving-all : k .current ≡ 0 → Leaving owners (k .waiting) (replicate 10 0) u
+  leaving-all e =
+      record {
+        out = m .current ∙ ap signedValue e ∙ bits-plain 0 (omega arith);
+        nine = m .waiting .nine;
+        marked = none-seen u (replicate 10 0) refl;
+        owned = λ i h f. length-of (m .waiting) i h;
+      }
+
+  elsewhere : (k .current ≡ 0 → ⊥) → u .current ≡ pos 0 → ⊥
+  unfolding discards
+  elsewhere f e = go (leb (k .current) 9) refl
+    where
+      go : (t : Bool) → leb (k .current) 9 ≡ t → ⊥
+      go true q = f (let z : pos (k .current) ≡ pos 0 = sym (bits-plain (k .current) (omega (arith, leb-true (k .current) 9 q))) ∙ sym (m .current) ∙ e in cc)
+      go false q =
+          let z : false ≡ true = ap discards (sym e ∙ m .current) ∙ lost-is (k .current) (leb-false (k .current) 9 q) in
+          let y : _≡_ {A = ℕ} 0 1 = cc in
+          omega arith
+
+  module _ (ns : List ℕ) where
+    -- as was counted
+    pub fits-counted : (n : ℕ) → length (movedInTurn ns u .output) ≡ length (u .output) + n → leb n (length output - k .output) ≡ leb (length (movedInTurn ns u .output)) (length output)
+    fits-counted n e = go (leb n (length output - k .output)) refl
+      where
+        go : (t : Bool) → leb n (length output - k .output) ≡ t → t ≡ leb (length (movedInTurn ns u .output)) (length output)
+        go true q = sym (le-leb (length (movedInTurn ns u .output)) (length output) (omega (arith, e, leb-true n (length output - k .output) q, front-long (m .written), m .written .inside)))
+        go false q = sym (lt-leb (length (movedInTurn ns u .output)) (length output) (omega (arith, e, leb-false n (length output - k .output) q, front-long (m .written), m .written .inside)))
+
+    module _ (each : (k : ℕ) → k < length ns → IsStream (getD ns k 0)) where
+      -- where all that waits does
+      pub fits-all : k .waiting ≤ length output - k .output → true ≡ leb (length (movedInTurn ns u .output)) (length output)
+      fits-all h =
+          sym (le-leb (length (movedInTurn ns u .output)) (length output) (omega (arith, turns-sum ns each u (m .waiting .nine) .1, used-is (m .waiting), front-long (m .written), m .written .inside)))
+
+      -- where the output is not the current stream
+      pub fits-elsewhere : (k .current ≡ 0 → ⊥) → true ≡ leb (length (movedInTurn ns u .output)) (length output)
+      fits-elsewhere f =
+          sym (le-leb (length (movedInTurn ns u .output)) (length output) (omega (arith, ap length (turns-still ns each u (elsewhere f)), front-long (m .written), m .written .inside)))

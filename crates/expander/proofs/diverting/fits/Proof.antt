@@ -1,0 +1,27 @@
+-- `expander::diverting::fits` meets its contract: all that waits fits, nothing goes to the output, or what goes there is counted. Assumes nothing.
+use Rattle.expander.specs.Diverting.{turns}
+use Rattle.expander.proofs.Fitting.{leaving-all, fits-all, fits-elsewhere, fits-counted}
+use Rattle.expander.proofs.Turns.{turn-each}
+use borrow.Author.Needs.{needs}
+use Rattle.expander.proofs.diverting.fits.Statement.{statement}
+use Rattle.expander.proofs.diverting.fits.Tie as tie
+
+sub-free : tie.Need-sub-free
+sub-free c = search needs
+
+returns : tie.Need-returns
+returns c = λ streams u args m h. fits-all m (turns args) (turn-each args (c .before .before .before .before .before .before .before .pre .1 .named args h)) (c .if1 .taken)
+
+returns-2 : tie.Need-returns-2
+returns-2 c = λ streams u args m h. fits-elsewhere m (turns args) (turn-each args (c .before .before .before .before .before .before .before .before .before .pre .1 .named args h)) (c .if2 .taken)
+
+count-streams-requires : tie.Need-count-streams-requires
+count-streams-requires c κs = search needs
+
+returns-3 : tie.Need-returns-3
+returns-3 c =
+    let n = c .count-streams in
+    λ streams u args m h. fits-counted m (turns args) (n .result) (n .ensures u args (leaving-all m (c .before .before .if2 .left)) h)
+
+pub fits-spec : {M : Type 1} → statement M
+fits-spec = tie.close (tie.spec sub-free returns returns-2 count-streams-requires returns-3)
