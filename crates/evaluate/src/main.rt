@@ -1,6 +1,7 @@
 // Reads an expression of eval on standard input, at most 65,536 bytes, and writes what it comes to: a number, or the refusal.
 use libc::STDIN_FILENO;
 use libc::STDOUT_FILENO;
+use rules::Answer;
 use rules::Evaluated;
 
 fn write_signed(x: u32) {
@@ -13,17 +14,19 @@ fn write_signed(x: u32) {
     }
 }
 
+fn write_refusal(answer: Answer) {
+    io::write_all(STDOUT_FILENO, b"refused ");
+    let number = answers::number_of(answer);
+    io::print_decimal(STDOUT_FILENO, number as u64);
+}
+
 fn main() {
     let mut buffer = io::large_buffer();
     let n = io::read_full(STDIN_FILENO, &mut buffer);
     match expression::evaluate(&buffer[..n]) {
         Evaluated::Number(x) => write_signed(x),
-        Evaluated::Divisor => {
-            io::write_all(STDOUT_FILENO, b"refused 9");
-        }
-        Evaluated::Unreadable => {
-            io::write_all(STDOUT_FILENO, b"refused 8");
-        }
+        Evaluated::Divisor => write_refusal(Answer::Divisor),
+        Evaluated::Unreadable => write_refusal(Answer::Expression),
     }
     io::write_all(STDOUT_FILENO, b"\n");
 }
