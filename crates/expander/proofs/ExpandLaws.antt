@@ -1,6 +1,6 @@
 -- What a call of the expander makes of the run: what is lent, what is copied out, and what the five working buffers hold then.
 use Prim.Native.Nat.{ℕ, zero, suc, _≤_}
-use mathlib.Core.Path.{_≡_, refl, sym, ap, ap₂, _∙_}
+use mathlib.Core.Path.{_≡_, refl, sym, ap, _∙_}
 use mathlib.Core.Bool.{Bool, true, false, true≢false}
 use mathlib.Core.List.{List, [], _∷_, _++_}
 use mathlib.Core.Option.{Option, none, some}
@@ -9,7 +9,6 @@ use borrow.Author.Tests.{leb-true}
 use lib.Dec.{eqb, leb}
 use lib.ListN.{length, take, drop, replicate, length-append, length-drop}
 use lib.Seq.{length-take-le, take-append-le}
-use Rattle.rules.specs.declared.Answer.{Answer}
 use Rattle.rules.specs.declared.Answer.the-variants as answer
 use Rattle.rules.specs.declared.Report.{Report}
 use Rattle.rules.specs.Bytes.{Bytes}
@@ -17,7 +16,7 @@ use Rattle.rules.specs.Answers.{answerNumber, isFinished, Ending, done, exit, e
 use Rattle.rules.specs.Source.{sourceOf}
 use Rattle.rules.specs.State.{State, Outcome, next, stop, refused, freshStart, startState}
 use Rattle.rules.specs.Step.{step}
-use Rattle.rules.specs.Run.{Setting, Ended, endedWith, held, overfull, judged, continued, lengths, runFrom, allLendable}
+use Rattle.rules.specs.Run.{Ended, endedWith, held, overfull, judged, continued, lengths, runFrom, allLendable}
 use Rattle.rules.specs.Contract.{Buffers, settingOf, reportOf, errorsOf, outputOf, fronted, zeroedBy, leftBy, runIn, Expanded}
 use Rattle.rules.proofs.Run.{run-lend, run-starts}
 use Rattle.expander.specs.Front.{Front}

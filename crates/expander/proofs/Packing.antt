@@ -178,10 +178,6 @@ module _ {ends : List ℕ} {count : ℕ} {bytes : Bytes} {used : ℕ} {ss : List
         used-in = omega (arith, start-in c le, h .used-in);
       }
 
-pub front-at : {ends : List ℕ} {count : ℕ} {bytes : Bytes} {used : ℕ} {ss : List Bytes} → Packs ends count bytes used ss
-    → (c a : ℕ) → c ≤ count → a ≡ startOf ends c → Packs ends c bytes a (take c ss)
-front-at h c a le e = rw e (front h c le)
-
 -- where string k lies: from a up to e
 pub record Lies (bytes : Bytes) (used a e : ℕ) (x : Bytes) : Type 0 where
   pub ordered : a ≤ e

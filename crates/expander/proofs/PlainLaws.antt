@@ -2,7 +2,7 @@
 use Prim.Native.Nat.{ℕ, _≤_, _<_}
 use mathlib.Core.Path.{_≡_, refl, sym, ap, subst, _∙_}
 use mathlib.Core.Bool.{Bool, true, false, _||_}
-use mathlib.Core.List.{List, [], _∷_}
+use mathlib.Core.List.{List, _∷_}
 use mathlib.Core.Option.{Option, none, some}
 use native.Mathlib.Omega.{arith}
 use lib.Dec.{leb}
@@ -12,15 +12,14 @@ use Rattle.rules.specs.Answers.{deep}
 use Rattle.rules.specs.Bytes.{Bytes}
 use Rattle.rules.specs.Run.{Setting, lengths, held, overfull}
 use Rattle.rules.specs.Source.{Source, ahead, advance}
-use Rattle.rules.specs.State.{Call, State, Outcome, next, stop, refused, withCalls, withSource, taking}
-use Rattle.rules.specs.Step.{step, opened, openCall, commaMet, nextArgument, argumentCount}
+use Rattle.rules.specs.State.{State, Outcome, next, stop, refused, taking}
+use Rattle.rules.specs.Step.{step, opened, commaMet, argumentCount}
 use Rattle.expander.specs.declared.events.Event.{Event}
 use Rattle.expander.specs.declared.events.Plain.{Plain}
 use Rattle.expander.specs.declared.events.Plain.the-variants as plain
 use Rattle.expander.specs.declared.events.Special.{Special}
 use Rattle.expander.specs.declared.machine.Machine.{Machine}
 use Rattle.expander.specs.declared.machine.Turn.{Turn}
-use Rattle.expander.specs.declared.machine.Went.{Went}
 use Rattle.expander.specs.declared.machine.Went.the-variants as went
 use Rattle.expander.specs.declared.source.Position.{Position}
 use Rattle.expander.specs.Events.{PlainWithin, PlainIs, SpecialWithin, SpecialIs, EventWithin, EventIs}

@@ -1,5 +1,5 @@
 -- What the functions that work out results answer: a number to be written, a part of buffer 2, or a length.
-use Prim.Native.Nat.{ℕ, _-_, _≤_}
+use Prim.Native.Nat.{_-_, _≤_}
 use mathlib.Core.Path.{_≡_}
 use mathlib.Core.Bool.{true}
 use mathlib.Core.List.{List}

@@ -1,5 +1,5 @@
 -- The text ahead in its two buffers.
-use Prim.Native.Nat.{ℕ, _≤_}
+use Prim.Native.Nat.{_≤_}
 use mathlib.Core.Path.{_≡_}
 use lib.ListN.{length, drop}
 use Rattle.rules.specs.Bytes.{Bytes}

@@ -4,7 +4,7 @@ use mathlib.Core.List.{List}
 use mathlib.Core.Option.{Option, none, some}
 use Rattle.rules.specs.declared.Answer.{Answer}
 use Rattle.rules.specs.declared.Answer.the-variants as answer
-use Rattle.rules.specs.Answers.{Ending, faultAnswer, endingAnswer}
+use Rattle.rules.specs.Answers.{faultAnswer, endingAnswer}
 use Rattle.rules.specs.State.{State, Outcome, next, stop, refused}
 use Rattle.rules.specs.Run.{held, overfull, Ended, endedWith, runFrom}
 

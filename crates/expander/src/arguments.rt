@@ -15,15 +15,15 @@ ghost use Rattle.numerals.specs.Answers.{decimalOf, naturalOf};
 ghost use Rattle.expander.specs.Arguments.{ArgumentsIn, SomeArguments, ArgumentLinks, SpanIs, bitsWithin};
 
 // The strings from `base` on.
-pub struct Arguments {
-    pub strings: Packed,
-    pub base: usize,
+pub(crate) struct Arguments {
+    pub(crate) strings: Packed,
+    pub(crate) base: usize,
 }
 
 // A part of a buffer.
-pub struct Span {
-    pub start: usize,
-    pub end: usize,
+pub(crate) struct Span {
+    pub(crate) start: usize,
+    pub(crate) end: usize,
 }
 
 // How many there are.

@@ -4,7 +4,7 @@ use crate::packed;
 use crate::packed::Packed;
 ghost use mathlib.Core.Path.{_≡_};
 ghost use mathlib.Core.List.{List, _∷_};
-ghost use Prim.Native.Nat.{ℕ, suc, _+_, _-_, _≤_, _<_};
+ghost use Prim.Native.Nat.{ℕ, _+_, _-_, _≤_, _<_};
 ghost use lib.ListN.{length};
 ghost use Rattle.rules.specs.Bytes.{Bytes};
 ghost use Rattle.rules.specs.State.{Call};
@@ -12,9 +12,9 @@ ghost use Rattle.rules.specs.Step.{openCall, collecting, nextArgument};
 ghost use Rattle.expander.specs.Calls.{CallsIn, SomeCalls, openStrings, bit};
 ghost use Rattle.expander.specs.Filled.{Filled};
 
-pub struct Calls {
-    pub strings: Packed,
-    pub opens: usize,
+pub(crate) struct Calls {
+    pub(crate) strings: Packed,
+    pub(crate) opens: usize,
 }
 
 // A call is opened whose name, n bytes, was written behind the strings.

@@ -2,9 +2,8 @@
 use crate::calls;
 use crate::calls::Calls;
 use crate::fill;
-ghost use mathlib.Core.Path.{_≡_};
 ghost use mathlib.Core.List.{List, [], _∷_, _++_};
-ghost use Prim.Native.Nat.{ℕ, _+_, _≤_, _<_};
+ghost use Prim.Native.Nat.{_+_, _≤_, _<_};
 ghost use lib.ListN.{length, take, drop};
 ghost use Rattle.rules.specs.State.{Call};
 ghost use Rattle.rules.specs.Step.{openCall, collecting};

@@ -19,7 +19,7 @@ ghost use Rattle.expander.specs.Table.{TableIn, SoundDefinitions};
 ghost use Rattle.expander.specs.Results.{Cuts};
 
 // From `start` up to `end`.
-pub enum Cut {
+pub(crate) enum Cut {
     Part { start: usize, end: usize },
     NoNumber,
 }

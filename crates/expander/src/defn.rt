@@ -22,7 +22,7 @@ ghost use Rattle.expander.specs.Defn.{measuredAs, namedResult};
 ghost use Rattle.expander.specs.declared.defn.DefnLength.the-variants as defnLength;
 
 // How long texts are, or that one of the meanings is predefined and has no text.
-pub enum DefnLength {
+pub(crate) enum DefnLength {
     Bytes(usize),
     NoText,
 }

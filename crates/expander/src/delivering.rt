@@ -17,7 +17,7 @@ ghost use Rattle.expander.specs.Machine.{Memory, Means, Gives, Sound, Re
 ghost use Rattle.rules.specs.Step.{delivered, opened, collecting, commaMet};
 
 // n bytes ahead from `start` on go to the current stream; `width` bytes are taken.
-pub(crate) fn emit_token(
+fn emit_token(
     text: &[u8],
     pending: &[u8],
     streams: &mut [u8],
@@ -54,7 +54,7 @@ pub(crate) fn emit_token(
 }
 
 // n bytes ahead from `start` on are collected by the innermost call; `width` bytes are taken.
-pub(crate) fn collect_token(
+fn collect_token(
     text: &[u8],
     pending: &[u8],
     calls: &mut [u8],

@@ -25,7 +25,7 @@ ghost use Rattle.expander.specs.Step.{Classifies, TokenWithin};
 
 // n bytes ahead from `start` on go where text goes, and `width` bytes are taken; a byte goes to the current stream; the innermost call
 // collects a byte, with so many parentheses open then; a blank is skipped; the next argument begins; a call is opened whose name is the first n bytes ahead.
-pub enum Plain {
+pub(crate) enum Plain {
     Deliver {
         start: usize,
         n: usize,
@@ -42,7 +42,7 @@ pub enum Plain {
 }
 
 // Nothing is ahead; the innermost call is closed; the name of n bytes ahead is called without arguments; a quoted text or a comment does not end.
-pub enum Special {
+pub(crate) enum Special {
     End,
     Close,
     Bare { n: usize, meaning: Meaning },
@@ -50,7 +50,7 @@ pub enum Special {
     OpenComment,
 }
 
-pub enum Event {
+pub(crate) enum Event {
     Plain(Plain),
     Special(Special),
 }

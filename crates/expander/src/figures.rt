@@ -16,7 +16,7 @@ ghost use Rattle.expander.specs.Arguments.{ArgumentsIn, SomeArguments};
 ghost use Rattle.expander.specs.Results.{Shows, readResult};
 
 // A number by its bits, with the radix and the least count of digits that it is written with.
-pub enum Figure {
+pub(crate) enum Figure {
     Number { bits: u32, radix: u32, least: u32 },
     NoNumber,
     NoExpression,

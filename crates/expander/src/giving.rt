@@ -37,7 +37,7 @@ ghost use Rattle.expander.specs.Table.{rows};
 ghost use Rattle.expander.specs.Results.{Shows, Cuts, CutInside};
 
 // What is given: the result was written before the text ahead, which begins at a place now; or why not.
-pub enum Given {
+pub(crate) enum Given {
     At(usize),
     Refused(Answer),
 }

@@ -54,7 +54,7 @@ pub(crate) fn list_length(ends: &[u32], x: Arguments, skip: usize, marks: Marks)
 }
 
 // The bytes of a mark, into a buffer at a place; returns the place behind them.
-pub(crate) fn fill_mark(m: Mark, dst: &mut [u8], at: usize) -> usize
+fn fill_mark(m: Mark, dst: &mut [u8], at: usize) -> usize
     requires { ⌜ (m .len ≤ 5) × (at + m .len ≤ length (now dst)) ⌝ }
     ensures { λ r. ⌜ Filled (now (dst .entry)) at (markText m) (now (dst .exit)) × (r ≡ at + m .len) ⌝ }
 {

@@ -11,27 +11,27 @@ ghost use Rattle.expander.specs.declared.machine.Went.the-variants as we
 
 // The marks in force; where the text ahead, the open calls, the definitions and the streams stand; how many bytes wait in the wrap text
 // and are written to the error text.
-pub struct Machine {
-    pub marks: Marks,
-    pub source: Position,
-    pub calls: Calls,
-    pub table: Definitions,
-    pub sinks: Sinks,
-    pub wrap: usize,
-    pub errors: usize,
+pub(crate) struct Machine {
+    pub(crate) marks: Marks,
+    pub(crate) source: Position,
+    pub(crate) calls: Calls,
+    pub(crate) table: Definitions,
+    pub(crate) sinks: Sinks,
+    pub(crate) wrap: usize,
+    pub(crate) errors: usize,
 }
 
 // Whether a run goes on after a step, ends with it, or the step is refused.
-pub enum Went {
+pub(crate) enum Went {
     On,
     Ended(Answer),
     Refused(Answer),
 }
 
 // What a step gives.
-pub struct Turn {
-    pub went: Went,
-    pub machine: Machine,
+pub(crate) struct Turn {
+    pub(crate) went: Went,
+    pub(crate) machine: Machine,
 }
 
 impl Machine {

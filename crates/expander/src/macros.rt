@@ -30,7 +30,7 @@ ghost use Rattle.expander.specs.Macros.{SortIs};
 ghost use Rattle.expander.specs.declared.macros.Sort.the-variants as sort;
 
 // What a macro does: it only gives a result; it gives one by a search, which takes much stack; or it changes other things.
-pub enum Sort {
+pub(crate) enum Sort {
     Result,
     Search,
     Change,

@@ -2,10 +2,9 @@
 use rules::Mark;
 use rules::Marks;
 ghost use mathlib.Core.Path.{_≡_};
-ghost use mathlib.Core.List.{[], _∷_};
 ghost use Prim.Native.Nat.{_≤_};
 ghost use lib.ListN.{length};
-ghost use Rattle.rules.specs.Marks.{isBarred, noneBarred, isMark, isEndMark, newlineMark, defaultMarks, markText, markTexts, withQuotes, withComments};
+ghost use Rattle.rules.specs.Marks.{isBarred, noneBarred, isMark, isEndMark, defaultMarks, markText, markTexts, withQuotes, withComments};
 ghost use Rattle.expander.specs.Tokens.{FullMark, GoodMarks};
 
 // No mark may have the byte.

@@ -8,9 +8,9 @@ ghost use Rattle.rules.specs.Bytes.{Bytes, sameBytes};
 ghost use Rattle.expander.specs.Packed.{Packs, Formed, startOf, lastMore, overlaid, rebased};
 
 // How many strings there are, and how many bytes they have.
-pub struct Packed {
-    pub count: usize,
-    pub used: usize,
+pub(crate) struct Packed {
+    pub(crate) count: usize,
+    pub(crate) used: usize,
 }
 
 // Where string k starts: where the one before it ends.
@@ -44,17 +44,8 @@ pub(crate) fn is_string(bytes: &[u8], ends: &[u32], p: Packed, k: usize, s: &[u8
     ascii::same(s, string(bytes, ends, p, k))
 }
 
-// Strings j and k are the same.
-pub(crate) fn same_strings(bytes: &[u8], ends: &[u32], p: Packed, j: usize, k: usize) -> bool
-    requires { ⌜ Formed (now ends) (p .count) (now bytes) (p .used) ⌝ }
-    requires { ⌜ (j < p .count) × (k < p .count) ⌝ }
-    ensures { λ r. ⌜ ((ss : List Bytes) → Packs (now (ends .entry)) (p .count) (now (bytes .entry)) (p .used) ss → r ≡ sameBytes (getD ss j []) (getD ss k [])) ⌝ }
-{
-    ascii::same(string(bytes, ends, p, j), string(bytes, ends, p, k))
-}
-
 // A new string of no bytes.
-pub(crate) fn push_empty(ends: &mut [u32], p: Packed) -> Packed
+fn push_empty(ends: &mut [u32], p: Packed) -> Packed
     requires { ⌜ (p .count < length (now ends)) × (p .used < 2 ^ 32) ⌝ }
     ensures { λ r. ⌜ ((bytes : Bytes) (ss : List Bytes) → Packs (now (ends .entry)) (p .count) bytes (p .used) ss → Packs (now (ends .exit)) (r .count) bytes (r .used) (ss ++ ([] ∷ []))) ⌝ }
     ensures { λ r. ⌜ (r .count ≡ p .count + 1) × (r .used ≡ p .used) ⌝ }
@@ -67,7 +58,7 @@ pub(crate) fn push_empty(ends: &mut [u32], p: Packed) -> Packed
 }
 
 // The n bytes behind the strings, which the caller has filled, join the last one.
-pub(crate) fn grow_last(ends: &mut [u32], p: Packed, n: usize) -> Packed
+fn grow_last(ends: &mut [u32], p: Packed, n: usize) -> Packed
     requires { ⌜ (0 < p .count) × (p .count ≤ length (now ends)) × (p .used + n < 2 ^ 32) ⌝ }
     ensures { λ r. ⌜ ((before bytes : Bytes) (ss : List Bytes) (s : Bytes) → Packs (now (ends .entry)) (p .count) before (p .used) ss → length s ≡ n → take (p .used + n) bytes ≡ take (p .used) before ++ s → Packs (now (ends .exit)) (r .count) bytes (r .used) (lastMore ss s)) ⌝ }
     ensures { λ r. ⌜ (r .count ≡ p .count) × (r .used ≡ p .used + n) ⌝ }
@@ -78,20 +69,8 @@ pub(crate) fn grow_last(ends: &mut [u32], p: Packed, n: usize) -> Packed
     Packed { count, used: more }
 }
 
-// A byte at the end of the last string.
-pub(crate) fn push_byte(bytes: &mut [u8], ends: &mut [u32], p: Packed, b: u8) -> Packed
-    requires { ⌜ (0 < p .count) × (p .count ≤ length (now ends)) ⌝ }
-    requires { ⌜ (p .used < length (now bytes)) × (length (now bytes) < 2 ^ 32) ⌝ }
-    ensures { λ r. ⌜ ((ss : List Bytes) → Packs (now (ends .entry)) (p .count) (now (bytes .entry)) (p .used) ss → Packs (now (ends .exit)) (r .count) (now (bytes .exit)) (r .used) (lastMore ss (b ∷ []))) ⌝ }
-    ensures { λ r. ⌜ (r .count ≡ p .count) × (r .used ≡ p .used + 1) ⌝ }
-{
-    let used = p.used;
-    bytes[used] = b;
-    grow_last(ends, p, 1)
-}
-
 // A slice at the end of the last string.
-pub(crate) fn push_slice(bytes: &mut [u8], ends: &mut [u32], p: Packed, s: &[u8]) -> Packed
+fn push_slice(bytes: &mut [u8], ends: &mut [u32], p: Packed, s: &[u8]) -> Packed
     requires { ⌜ (0 < p .count) × (p .count ≤ length (now ends)) ⌝ }
     requires { ⌜ (p .used + length (now s) ≤ length (now bytes)) × (length (now bytes) < 2 ^ 32) ⌝ }
     ensures { λ r. ⌜ ((ss : List Bytes) → Packs (now (ends .entry)) (p .count) (now (bytes .entry)) (p .used) ss → Packs (now (ends .exit)) (r .count) (now (bytes .exit)) (r .used) (lastMore ss (now (s .entry)))) ⌝ }
@@ -110,16 +89,6 @@ pub(crate) fn push_string(bytes: &mut [u8], ends: &mut [u32], p: Packed, s: &[u8
 {
     let more = push_empty(ends, p);
     push_slice(bytes, ends, more, s)
-}
-
-// Without the last m strings.
-pub(crate) fn drop_last(ends: &[u32], p: Packed, m: usize) -> Packed
-    requires { ⌜ (m ≤ p .count) × (p .count ≤ length (now ends)) ⌝ }
-    ensures { λ r. ⌜ ((bytes : Bytes) (ss : List Bytes) → Packs (now (ends .entry)) (p .count) bytes (p .used) ss → Packs (now (ends .entry)) (r .count) bytes (r .used) (take (p .count - m) ss)) ⌝ }
-{
-    let left = p.count - m;
-    let used = start(ends, left);
-    Packed { count: left, used }
 }
 
 // Moves the bytes from `from` up to `end` down to the place `to`.

@@ -9,10 +9,10 @@ ghost use Rattle.rules.specs.Streams.{Streams, placed};
 ghost use Rattle.expander.specs.Sinks.{SinksIn, Fits, fullBuffer};
 
 // The bits of the current stream's number, how many bytes wait in streams 1 to 9, and how many are written.
-pub struct Sinks {
-    pub current: u32,
-    pub waiting: usize,
-    pub output: usize,
+pub(crate) struct Sinks {
+    pub(crate) current: u32,
+    pub(crate) waiting: usize,
+    pub(crate) output: usize,
 }
 
 // The number of the buffer that n bytes more to the current stream would overfill, of the lengths of the buffers 4 and 7; 0: they fit.

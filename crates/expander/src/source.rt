@@ -1,14 +1,13 @@
 // Where the text ahead stands: the pending text lies at the end of its buffer, from `from` on; `taken` bytes of the input are taken.
-ghost use mathlib.Core.Path.{_≡_};
-ghost use Prim.Native.Nat.{ℕ, _+_, _-_, _≤_};
+ghost use Prim.Native.Nat.{_+_, _-_, _≤_};
 ghost use lib.ListN.{length};
 ghost use Rattle.rules.specs.Bytes.{Bytes};
 ghost use Rattle.rules.specs.Source.{Source, ahead, advance};
 ghost use Rattle.expander.specs.Source.{SourceIn};
 
-pub struct Position {
-    pub from: usize,
-    pub taken: usize,
+pub(crate) struct Position {
+    pub(crate) from: usize,
+    pub(crate) taken: usize,
 }
 
 // n bytes of the text ahead are taken.

@@ -20,16 +20,16 @@ ghost use Rattle.expander.specs.Machine.{Memory, Means, Gives, Sound, te
 ghost use Rattle.expander.specs.Run.{Running, Stretched};
 
 // Why a stretch of plain steps ends: the run stops here, its budget spent or a step refused; or the next step is special.
-pub enum Stop {
+pub(crate) enum Stop {
     Stopped(Answer),
     Special(Special),
 }
 
 // Where it ends, with so many steps left.
-pub struct Stretch {
-    pub stop: Stop,
-    pub left: u32,
-    pub machine: Machine,
+pub(crate) struct Stretch {
+    pub(crate) stop: Stop,
+    pub(crate) left: u32,
+    pub(crate) machine: Machine,
 }
 
 // One plain step.

@@ -11,22 +11,22 @@ ghost use Rattle.rules.specs.Table.{Definition, Table, predefinedNames, keepsOw
 ghost use Rattle.expander.specs.Table.{NumberAmong, HasNumber, DefinitionsIn, SoundDefinitions, TableIn, placeOf, Finds, Sifted};
 
 // The place of a definition, in order of arrival.
-pub enum Found {
+pub(crate) enum Found {
     At(usize),
     Nowhere,
 }
 
 // What a name means: the text of the definition at a place, or the predefined macro of a number.
-pub enum Meaning {
+pub(crate) enum Meaning {
     Text(usize),
     Predefined(u8),
     Undefined,
 }
 
 // A table: its packed strings and its mask.
-pub struct Definitions {
-    pub packed: Packed,
-    pub own: u32,
+pub(crate) struct Definitions {
+    pub(crate) packed: Packed,
+    pub(crate) own: u32,
 }
 
 // The first byte, or 0.
@@ -88,7 +88,7 @@ fn number_of_one(name: &[u8], known: &[u8], k: u8) -> u8
 }
 
 // The number of a predefined name, else 0.
-pub(crate) fn predefined_number(name: &[u8]) -> u8
+fn predefined_number(name: &[u8]) -> u8
     ensures { λ r. ⌜ HasNumber (now (name .entry)) r ⌝ }
 {
     let first = first_byte(name);
@@ -108,7 +108,7 @@ pub(crate) fn predefined_number(name: &[u8]) -> u8
 }
 
 // The k-th predefined name keeps its own meaning.
-pub(crate) fn keeps_own(own: u32, k: u8) -> bool
+fn keeps_own(own: u32, k: u8) -> bool
     requires { ⌜ (0 < k) × (k ≤ 32) ⌝ }
     ensures { λ r. ⌜ r ≡ keepsOwn k own ⌝ }
 {
@@ -117,7 +117,7 @@ pub(crate) fn keeps_own(own: u32, k: u8) -> bool
 }
 
 // The mask once the name's own meaning is gone.
-pub(crate) fn own_lost(own: u32, name: &[u8]) -> u32
+fn own_lost(own: u32, name: &[u8]) -> u32
     ensures { λ r. ⌜ r ≡ ownLost (now (name .entry)) own ⌝ }
 {
     let k = predefined_number(name);
@@ -252,24 +252,6 @@ pub(crate) fn define_at(
             }
         }
     }
-}
-
-// The same, with the place looked for.
-pub(crate) fn define(
-    bytes: &mut [u8],
-    ends: &mut [u32],
-    p: Packed,
-    own: u32,
-    name: &[u8],
-    body: &[u8],
-) -> Definitions
-    requires { ⌜ SoundDefinitions (now bytes) (now ends) p ⌝ }
-    requires { ⌜ 0 < length (now name) ⌝ }
-    requires { ⌜ ((t : Table) → DefinitionsIn (now bytes) (now ends) p (t .definitions) → tableCost ((defined (now name) (text (now body)) t) .definitions) ≤ length (now bytes)) ⌝ }
-    ensures { λ r. ⌜ ((t : Table) → TableIn (now (bytes .entry)) (now (ends .entry)) p own t → TableIn (now (bytes .exit)) (now (ends .exit)) (r .packed) (r .own) (defined (now (name .entry)) (text (now (body .entry))) t)) ⌝ }
-{
-    let place = newest(bytes, ends, p, name);
-    define_at(bytes, ends, p, own, place, name, body)
 }
 
 // Without a name's newest definition, else without its own meaning.

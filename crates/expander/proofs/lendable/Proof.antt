@@ -1,11 +1,8 @@
 use mathlib.Core.Bool.{true, false}
 use native.Mathlib.Omega.{arith}
 use Rattle.expander.proofs.RunLaws.{lend-stops, lend-goes, lend-all}
-use borrow.Author.Needs.{needs}
 use Rattle.expander.proofs.lendable.Statement.{statement}
 use Rattle.expander.proofs.lendable.Tie as tie
-use Rattle.expander.proofs.lendable.Reads as reads
-use Rattle.expander.proofs.lendable.Lts as lts
 
 returns : tie.Need-returns
 returns c = lend-stops _ _ (omega (arith, c .if1 .taken))
