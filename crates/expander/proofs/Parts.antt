@@ -38,9 +38,11 @@ drop-take (suc m) (suc n) (x ∷ l) =
 pub copied-whole : {s before after : List ℕ} {r : Bool} → Copied s before r after → length s ≡ length before → after ≡ s
 copied-whole {s} {before} c h = rw (eq-eqb (length s) (length before) h) at (c .written)
 
--- a text written into a slice of its length
-pub fitted-whole : {w before after : List ℕ} {r : Bool} → Fitted w before r after → length w ≡ length before → after ≡ w
-fitted-whole {w} {before} f h = f .written ∙ ap₂ _++_ (take-all (length before) w (omega arith)) (drop-of-length-le before {i = length w} (omega arith)) ∙ append-nil w
+-- a text, said otherwise, written into a slice of its length
+pub fitted-whole : {w v before after : List ℕ} {r : Bool} → Fitted w before r after → w ≡ v → length v ≡ length before → after ≡ v
+fitted-whole {w} {v} {before} f e h =
+    let k : length w ≡ length before = ap length e ∙ h in
+    f .written ∙ ap₂ _++_ (take-all (length before) w (omega arith)) (drop-of-length-le before {i = length w} (omega arith)) ∙ append-nil w ∙ e
 
 -- nothing is in it
 pub empty-of : {A : Type 0} (l : List A) → length l ≡ 0 → l ≡ []

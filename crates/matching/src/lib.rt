@@ -1,13 +1,14 @@
 // Where a text first stands in another, and bytes replaced by their partners.
 ghost use mathlib.Core.Path.{_≡_};
+ghost use mathlib.Core.List.{[], _∷_};
+ghost use Prim.Native.Nat.{_<_};
 ghost use lib.ListN.{length};
 ghost use Rattle.rules.specs.Bytes.{Bytes};
 ghost use Rattle.rules.specs.Results.{transliterated};
 ghost use Rattle.matching.specs.Places.{placed};
-ghost use Rattle.matching.specs.Partners.{Partners, Fitted, replaced};
+ghost use Rattle.matching.specs.Partners.{partnerTable, entryFor, replaced, Fitted};
 
 mod borders;
-mod partners;
 
 // Where a text stands in another; too long: it was not looked for.
 pub enum Place {
@@ -36,26 +37,71 @@ pub fn first_place(needle: &[u8], text: &[u8]) -> Place
     Place::TooLong
 }
 
-// A table of what stands for each byte: for a byte of `from` its partner, which stands at the same place of `to`.
+// A table of what stands for each byte: an entry below 256 is that byte, 256 says the byte itself, 257 nothing. For a byte of `from` its partner
+// stands there, the byte at the same place of `to`. They are entered from the last to the first, so that of a repeated byte the first counts.
 pub fn partners_of(from: &[u8], to: &[u8]) -> [u16; 256]
-    ensures { λ r. ⌜ Partners r (now (from .entry)) (now (to .entry)) ⌝ }
+    ensures table { λ r. ⌜ r ≡ partnerTable (now (from .entry)) (now (to .entry)) ⌝ }
+    ensures puts { λ r. ⌜ ((s : Bytes) → replaced r s ≡ transliterated (now (from .entry)) (now (to .entry)) s) ⌝ }
 {
-    partners::table(from, to)
+    let mut table = [256u16; 256];
+    let mut i = from.len();
+    while 0 < i {
+        i -= 1;
+        let b = from[i] as usize;
+        if i < to.len() {
+            table[b] = to[i] as u16;
+        } else {
+            table[b] = 257;
+        }
+    }
+    table
 }
 
-// How long `s` is with its bytes replaced by a table, whatever it holds; by one of partners it is transliterated.
+// How long `s` is with its bytes replaced by a table, whatever it holds; by that of `partners_of` it is transliterated.
 pub fn translit_length(table: &[u16; 256], s: &[u8]) -> usize
-    ensures any { λ r. ⌜ r ≡ length (replaced (now (table .entry)) (now (s .entry))) ⌝ }
-    ensures partners { λ r. ⌜ ((from to : Bytes) → Partners (now (table .entry)) from to → r ≡ length (transliterated from to (now (s .entry)))) ⌝ }
+    ensures { λ r. ⌜ r ≡ length (replaced (now (table .entry)) (now (s .entry))) ⌝ }
 {
-    partners::kept(table, s)
+    let mut n = 0;
+    let mut i = 0;
+    while i < s.len() {
+        let b = s[i] as usize;
+        i += 1;
+        if table[b] < 257 {
+            n += 1;
+        }
+    }
+    n
 }
 
-// Writes `s` with its bytes replaced by a table, whatever it holds, from the front of a slice on, as far as there is room; whether it just fits. By a
-// table of partners it is transliterated.
-pub fn translit(table: &[u16; 256], s: &[u8], out: &mut [u8]) -> bool
-    ensures any { λ r. ⌜ Fitted (replaced (now (table .entry)) (now (s .entry))) (now (out .entry)) r (now (out .exit)) ⌝ }
-    ensures partners { λ r. ⌜ ((from to : Bytes) → Partners (now (table .entry)) from to → Fitted (transliterated from to (now (s .entry))) (now (out .entry)) r (now (out .exit))) ⌝ }
+// What an entry that deletes nothing puts for the byte b.
+fn put(t: u16, b: u8) -> u8
+    requires { ⌜ t < 257 ⌝ }
+    ensures { λ r. ⌜ entryFor b t ≡ r ∷ [] ⌝ }
 {
-    partners::write(table, s, out)
+    if t < 256 {
+        return t as u8;
+    }
+    b
+}
+
+// Writes `s` with its bytes replaced by a table, whatever it holds, from the front of a slice on, as far as there is room; whether it just fits. By the
+// table of `partners_of` it is transliterated.
+pub fn translit(table: &[u16; 256], s: &[u8], out: &mut [u8]) -> bool
+    ensures { λ r. ⌜ Fitted (replaced (now (table .entry)) (now (s .entry))) (now (out .entry)) r (now (out .exit)) ⌝ }
+{
+    let mut j = 0;
+    let mut i = 0;
+    while i < s.len() {
+        let b = s[i];
+        let t = table[b as usize];
+        i += 1;
+        if t < 257 {
+            if j == out.len() {
+                return false;
+            }
+            out[j] = put(t, b);
+            j += 1;
+        }
+    }
+    j == out.len()
 }

@@ -1,6 +1,7 @@
 -- `expander::giving::give_translit` meets its contract: the text is written into the part before the pending text. Assumes nothing.
 use Prim.Native.Nat.{_≤_}
-use mathlib.Core.Path.{refl, sym, _∙_}
+use mathlib.Core.Path.{refl, sym, ap, _∙_}
+use lib.ListN.{length}
 use native.Mathlib.Omega.{arith}
 use Rattle.expander.proofs.Parts.{fitted-whole}
 use Rattle.expander.proofs.GivingLaws.{giving-room, giving-part, gap-long, translit-gives}
@@ -28,7 +29,7 @@ returns : tie.Need-returns
 returns c =
     λ a s b m args r x.
     gives-by (translit-gives s args (c .before .before .before .before .before .before .argument .ensures args x) (c .before .before .before .before .before .argument2 .ensures args x) (c .before .before .before .before .argument3 .ensures args x)) refl
-    (giving-room r _ _ (sym (c .before .translit-length .ensures .1 _ _ (c .before .before .before .partners-of .ensures))) (c .if1 .taken))
+    (giving-room r _ _ (sym (c .before .translit-length .ensures ∙ ap length (c .before .before .before .partners-of .ensures .1 _))) (c .if1 .taken))
 
 sub-translit : tie.Need-sub-translit
 sub-translit c = search needs
@@ -51,12 +52,13 @@ returns-2 c =
     let start = k .before .before .before .before .before .before .before .before .before .args in
     let n = k .translit-length in
     let from = start .p .from in
-    let p = k .before .before .partners-of .ensures in
+    let e = k .before .before .partners-of .ensures .1 _ in
+    let l = sym (n .ensures ∙ ap length e) in
     λ a s b m args r x.
     let fits : n .result ≤ from = omega (arith, c .before .before .before .before .before .if1 .left) in
     gives-by (translit-gives s args (k .before .before .before .before .before .argument .ensures args x) (k .before .before .before .before .argument2 .ensures args x) (k .before .before .before .argument3 .ensures args x)) refl
-    (giving-part r _ _ (sym (n .ensures .1 _ _ p)) fits
-    (fitted-whole (c .before .before .translit .ensures .1 _ _ p) (sym (n .ensures .1 _ _ p) ∙ sym (gap-long (start .pending .now) from (n .result) fits (r .source .from-in)))))
+    (giving-part r _ _ l fits
+    (fitted-whole (c .before .before .translit .ensures) e (l ∙ sym (gap-long (start .pending .now) from (n .result) fits (r .source .from-in)))))
 
 pub give-translit-spec : {M : Type 1} → statement M
 give-translit-spec =

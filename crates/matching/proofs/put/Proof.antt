@@ -1,9 +1,9 @@
--- `matching::partners::put` meets its contract: the entry is a byte, or it keeps the byte. Assumes nothing.
+-- `matching::put` meets its contract: the entry is a byte, or it keeps the byte. Assumes nothing.
 use native.Mathlib.Omega.{arith}
 use Rattle.matching.proofs.Replacing.{entry-byte, entry-same}
 use borrow.Author.Needs.{needs}
-use Rattle.matching.proofs.partners.put.Statement.{statement}
-use Rattle.matching.proofs.partners.put.Tie as tie
+use Rattle.matching.proofs.put.Statement.{statement}
+use Rattle.matching.proofs.put.Tie as tie
 
 cast-result : tie.Need-cast-result
 cast-result c = search needs

@@ -1,10 +1,10 @@
--- `matching::partners::table` meets its contract: the loop keeps that the table has the partners of the bytes from i on. Assumes nothing.
+-- `matching::partners_of` meets its contract: the loop keeps that the table has the entries of the bytes from i on. Assumes nothing.
 use Prim.Native.Nat.{_-_}
 use native.Mathlib.Omega.{arith}
-use Rattle.matching.proofs.Replacing.{Entering, enter-start, enter-byte, enter-none, enter-done}
+use Rattle.matching.proofs.Replacing.{Entering, enter-start, enter-byte, enter-none, enter-done, enter-puts}
 use borrow.Author.Needs.{needs}
-use Rattle.matching.proofs.partners.table.Statement.{statement}
-use Rattle.matching.proofs.partners.table.Tie as tie
+use Rattle.matching.proofs.partners_of.Statement.{statement}
+use Rattle.matching.proofs.partners_of.Tie as tie
 
 abbrev Inv-loop : tie.InvT-loop
 Inv-loop from to table₀ i₀ table i = Entering from to table i
@@ -64,10 +64,10 @@ loop-again-2 c =
     enter-none (l .inv) (c .before .before .loop-test .taken) (c .before .shared-slice-known .given (l .i - 1) .fits) (c .if1 .left)
 
 returns : tie.Need-returns Inv-loop μ-loop
-returns c = enter-done (c .before .loop .inv) (c .loop-test .left)
+returns c = (enter-done (c .before .loop .inv) (c .loop-test .left), enter-puts (c .before .loop .inv) (c .loop-test .left))
 
-pub table-spec : {M : Type 1} → statement M
-table-spec =
+pub partners-of-spec : {M : Type 1} → statement M
+partners-of-spec =
     tie.close
     (tie.spec
     Inv-loop
