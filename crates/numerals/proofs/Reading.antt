@@ -3,7 +3,7 @@ use Prim.Native.Nat.{ℕ, zero, suc, _+_, _-_, _*_, _%_, _^_, _≤_, _<_}
 use native.Mathlib.Omega.{arith}
 use native.Mathlib.Nat.{le-of-eq, mul-le-mul, mul-le-mul-left}
 use native.Mathlib.Numerals.{add-one}
-use mathlib.Core.Path.{_≡_, refl, sym, _∙_}
+use mathlib.Core.Path.{_≡_, refl, sym, ap, _∙_}
 use mathlib.Core.List.{[], _∷_}
 use mathlib.Core.Bool.{Bool, true, false, _&&_}
 use mathlib.Core.Option.{Option, none, some}
@@ -18,7 +18,7 @@ use Rattle.rules.specs.Numerals.{digitWorth, behind, natural, upTo, asSigned, n
 use Rattle.numerals.specs.declared.Natural.{Natural}
 use Rattle.numerals.specs.declared.Natural.the-variants as found
 use Rattle.numerals.specs.declared.Decimal.the-variants as read
-use Rattle.numerals.specs.Answers.{naturalOf, foundIn, decimalOf}
+use Rattle.numerals.specs.Answers.{naturalOf, foundIn, worthOf, decimalOf}
 
 -- a byte of a range
 at-least : (first final x : ℕ) → ranging first final x ≡ true → first ≤ x
@@ -31,22 +31,22 @@ at-least first final x e = go (leb first x) refl e
 
 -- what a byte of each class is worth
 module _ (x : ℕ) where
-  pub digit-worth : isDigit x ≡ true → (48 ≤ x) × (x - 48 ≡ digitWorth x)
-  unfolding isDigit digitWorth
+  pub digit-worth : isDigit x ≡ true → (48 ≤ x) × (x - 48 ≡ worthOf (digitWorth x))
+  unfolding isDigit digitWorth worthOf
   digit-worth e = (at-least 48 57 x e, rw e)
 
   module _ (n : isDigit x ≡ false) where
-    pub lower-worth : isLower x ≡ true → (97 ≤ x) × (x - 87 ≡ digitWorth x)
-    unfolding isLower digitWorth
+    pub lower-worth : isLower x ≡ true → (97 ≤ x) × (x - 87 ≡ worthOf (digitWorth x))
+    unfolding isLower digitWorth worthOf
     lower-worth e = (at-least 97 122 x e, rw (n, e))
 
     module _ (l : isLower x ≡ false) where
-      pub upper-worth : isUpper x ≡ true → (65 ≤ x) × (x - 55 ≡ digitWorth x)
-      unfolding isUpper digitWorth
+      pub upper-worth : isUpper x ≡ true → (65 ≤ x) × (x - 55 ≡ worthOf (digitWorth x))
+      unfolding isUpper digitWorth worthOf
       upper-worth e = (at-least 65 90 x e, rw (n, l, e))
 
-      pub other-worth : isUpper x ≡ false → 36 ≡ digitWorth x
-      unfolding digitWorth
+      pub other-worth : isUpper x ≡ false → 4294967295 ≡ worthOf (digitWorth x)
+      unfolding digitWorth worthOf
       other-worth e = rw (n, l, e)
 
 -- a number on either side of a limit
@@ -76,28 +76,41 @@ found-of (some n) = refl
 pub limited : (l : ℕ) {n : Natural} (o : Option ℕ) → l ≤ 4294967295 → n ≡ naturalOf (upTo 4294967295 o) → upTo l (foundIn n) ≡ upTo l o
 limited l o h e = rw (e, found-of (upTo 4294967295 o)) (narrowed l 4294967295 h o)
 
+-- the first of some bytes: no digit, one of the radix, or one that is worth too much
 module _ (radix v x : ℕ) (xs : Bytes) where
-  digit-on : digitWorth x < radix → behind radix v (x ∷ xs) ≡ behind radix (v * radix + digitWorth x) xs
+  by-worth : (o : Option ℕ) → digitWorth x ≡ o
+      → behind radix v (x ∷ xs) ≡ elim o [ none ↦ none | some d ↦ elim (ltb d radix) [ true ↦ behind radix (v * radix + d) xs | false ↦ none ] ]
   unfolding behind
-  digit-on h = rw (lt-ltb (digitWorth x) radix h, behind)
+  by-worth o e = rw (← e)
 
-  digit-off : radix ≤ digitWorth x → behind radix v (x ∷ xs) ≡ none
-  unfolding behind
-  digit-off h = rw (le-ltb (digitWorth x) radix h, behind)
+  digit-none : digitWorth x ≡ none → behind radix v (x ∷ xs) ≡ none
+  digit-none e = by-worth none e
+
+  module _ (d : ℕ) (e : digitWorth x ≡ some d) where
+    digit-on : d < radix → behind radix v (x ∷ xs) ≡ behind radix (v * radix + d) xs
+    digit-on h = by-worth (some d) e ∙ rw (lt-ltb d radix h)
+
+    digit-off : radix ≤ d → behind radix v (x ∷ xs) ≡ none
+    digit-off h = by-worth (some d) e ∙ rw (le-ltb d radix h)
 
 -- what is beyond the limit stays there
 stays-beyond : (l radix v : ℕ) (xs : Bytes) → l < v → upTo l (behind radix v xs) ≡ none
 unfolding behind upTo
 stays-beyond l radix v [] h = beyond-limit l v h
-stays-beyond l radix v (x ∷ xs) h = go (ltb (digitWorth x) radix) refl (stays-beyond l radix (v * radix + digitWorth x) xs)
+stays-beyond l radix v (x ∷ xs) h = go (digitWorth x) refl (λ d. stays-beyond l radix (v * radix + d) xs)
   where
-    go : (t : Bool) → ltb (digitWorth x) radix ≡ t → (l < v * radix + digitWorth x → upTo l (behind radix (v * radix + digitWorth x) xs) ≡ none)
+    on : (d : ℕ) → digitWorth x ≡ some d → (t : Bool) → ltb d radix ≡ t → (l < v * radix + d → upTo l (behind radix (v * radix + d) xs) ≡ none)
         → upTo l (behind radix v (x ∷ xs)) ≡ none
-    go true e f =
-        let d = ltb-true (digitWorth x) radix e in
+    on d e true t f =
+        let k = ltb-true d radix t in
         let m : v * 1 ≤ v * radix = mul-le-mul-left v (omega arith) in
-        rw (digit-on radix v x xs d) (f (omega arith))
-    go false e f = rw (digit-off radix v x xs (ltb-false (digitWorth x) radix e))
+        rw (digit-on radix v x xs d e k) (f (omega arith))
+    on d e false t f = rw (digit-off radix v x xs d e (ltb-false d radix t))
+
+    go : (o : Option ℕ) → digitWorth x ≡ o → ((d : ℕ) → l < v * radix + d → upTo l (behind radix (v * radix + d) xs) ≡ none)
+        → upTo l (behind radix v (x ∷ xs)) ≡ none
+    go none e f = rw (digit-none radix v x xs e)
+    go (some d) e f = on d e (ltb d radix) refl (f d)
 
 -- a product and a digit fit 64 bits
 pub fits-wide : {v radix d : ℕ} → v < 2 ^ 32 → radix < 2 ^ 32 → d < 2 ^ 32 → v * radix + d < 2 ^ 64
@@ -107,20 +120,41 @@ fits-wide {v} {radix} {d} hv hr hd =
     let m : v * radix ≤ 4294967295 * 4294967295 = mul-le-mul a b in
     omega arith
 
--- one digit d, the worth of x, behind those of v
-module _ (radix v x d : ℕ) (e : d ≡ digitWorth x) where
+worth-none : {o : Option ℕ} → o ≡ none → worthOf o ≡ 4294967295
+unfolding worthOf
+worth-none e = rw e
+
+worth-some : {o : Option ℕ} {n : ℕ} → o ≡ some n → worthOf o ≡ n
+unfolding worthOf
+worth-some e = rw e
+
+-- one byte, worth d, behind the digits of v
+module _ (radix v x d : ℕ) (e : d ≡ worthOf (digitWorth x)) where
   pub no-digit : radix ≤ d → found.NoNumber ≡ naturalOf (upTo 4294967295 (behind radix v (x ∷ [])))
   unfolding naturalOf upTo
-  no-digit h = rw (digit-off radix v x [] (omega arith))
+  no-digit h = rw (none-there (digitWorth x) refl)
+    where
+      none-there : (o : Option ℕ) → digitWorth x ≡ o → behind radix v (x ∷ []) ≡ none
+      none-there none w = digit-none radix v x [] w
+      none-there (some n) w =
+          let f : d ≡ n = e ∙ worth-some w in
+          digit-off radix v x [] n w (omega arith)
 
-  module _ (h : d < radix) where
+  module _ (h : d < radix) (small : radix < 2 ^ 32) where
+    its-worth : digitWorth x ≡ some d
+    its-worth = go (digitWorth x) refl
+      where
+        go : (o : Option ℕ) → digitWorth x ≡ o → digitWorth x ≡ some d
+        go none w = let f : d ≡ 4294967295 = e ∙ worth-none w in absurd (omega arith)
+        go (some n) w = let f : d ≡ n = e ∙ worth-some w in w ∙ ap some (sym f)
+
     pub one-digit : v * radix + d ≤ 4294967295 → found.Number (v * radix + d) ≡ naturalOf (upTo 4294967295 (behind radix v (x ∷ [])))
     unfolding naturalOf behind
-    one-digit k = rw (digit-on radix v x [] (omega arith), ← e, within-limit 4294967295 (v * radix + d) k)
+    one-digit k = rw (digit-on radix v x [] d its-worth h, within-limit 4294967295 (v * radix + d) k)
 
     pub one-beyond : 4294967295 < v * radix + d → found.NoNumber ≡ naturalOf (upTo 4294967295 (behind radix v (x ∷ [])))
     unfolding naturalOf behind
-    one-beyond k = rw (digit-on radix v x [] (omega arith), ← e, beyond-limit 4294967295 (v * radix + d) k)
+    one-beyond k = rw (digit-on radix v x [] d its-worth h, beyond-limit 4294967295 (v * radix + d) k)
 
 -- go on with what was found
 then-on : Option ℕ → (ℕ → Option ℕ) → Option ℕ
@@ -131,22 +165,24 @@ module _ (l radix v x : ℕ) (xs : Bytes) where
   -- what digits write up to a limit: of the first, and then of the others behind it
   by-digits : upTo l (behind radix v (x ∷ xs)) ≡ then-on (upTo l (behind radix v (x ∷ []))) (λ n. upTo l (behind radix n xs))
   unfolding then-on upTo behind
-  by-digits = go (ltb (digitWorth x) radix) refl
+  by-digits = go (digitWorth x) refl
     where
-      n : ℕ
-      n = v * radix + digitWorth x
+      limited-on : (n : ℕ) (t : Bool) → leb n l ≡ t → upTo l (behind radix n xs) ≡ then-on (upTo l (some n)) (λ m. upTo l (behind radix m xs))
+      limited-on n true e = rw (within-limit l n (leb-true n l e))
+      limited-on n false e = rw (beyond-limit l n (leb-false n l e)) (stays-beyond l radix n xs (leb-false n l e))
 
-      on : (t : Bool) → leb n l ≡ t → upTo l (behind radix n xs) ≡ then-on (upTo l (some n)) (λ m. upTo l (behind radix m xs))
-      on true e = rw (within-limit l n (leb-true n l e))
-      on false e = rw (beyond-limit l n (leb-false n l e)) (stays-beyond l radix n xs (leb-false n l e))
+      on : (d : ℕ) → digitWorth x ≡ some d → (t : Bool) → ltb d radix ≡ t
+          → upTo l (behind radix v (x ∷ xs)) ≡ then-on (upTo l (behind radix v (x ∷ []))) (λ m. upTo l (behind radix m xs))
+      on d e true t =
+          let h = ltb-true d radix t in
+          rw (digit-on radix v x xs d e h, digit-on radix v x [] d e h) (limited-on (v * radix + d) (leb (v * radix + d) l) refl)
+      on d e false t =
+          let h = ltb-false d radix t in
+          rw (digit-off radix v x xs d e h, digit-off radix v x [] d e h)
 
-      go : (t : Bool) → ltb (digitWorth x) radix ≡ t → upTo l (behind radix v (x ∷ xs)) ≡ then-on (upTo l (behind radix v (x ∷ []))) (λ m. upTo l (behind radix m xs))
-      go true e =
-          let h = ltb-true (digitWorth x) radix e in
-          rw (digit-on radix v x xs h, digit-on radix v x [] h) (on (leb n l) refl)
-      go false e =
-          let h = ltb-false (digitWorth x) radix e in
-          rw (digit-off radix v x xs h, digit-off radix v x [] h)
+      go : (o : Option ℕ) → digitWorth x ≡ o → upTo l (behind radix v (x ∷ xs)) ≡ then-on (upTo l (behind radix v (x ∷ []))) (λ m. upTo l (behind radix m xs))
+      go none e = rw (digit-none radix v x xs e, digit-none radix v x [] e)
+      go (some d) e = on d e (ltb d radix) refl
 
 -- what the loop of `read_natural` keeps: the whole is what the rest writes behind v
 abbrev pub Reads : ℕ → Bytes → ℕ → ℕ → Type 0

@@ -7,7 +7,7 @@ ghost use lib.IntN.{pos, negℤ, natAbs};
 ghost use lib.ListN.{length, take, replicate};
 ghost use Rattle.rules.specs.Words.{signedValue};
 ghost use Rattle.rules.specs.Numerals.{digitWorth, behind, natural, upTo, asSigned, number, digitByte, digitsIn, zeroFilled, writtenIn, decimal};
-ghost use Rattle.numerals.specs.Answers.{naturalOf, foundIn, decimalOf, isRadix, lengthOf, Written};
+ghost use Rattle.numerals.specs.Answers.{naturalOf, foundIn, worthOf, decimalOf, isRadix, lengthOf, Written};
 
 // One or more digits: the number that they write, where it is below 2 ^ 32.
 pub enum Natural {
@@ -27,8 +27,9 @@ pub enum Length {
     BadRadix,
 }
 
+// What a digit is worth; another byte is worth more than any digit, so that no radix has it.
 fn digit_worth(b: u8) -> u32
-    ensures { λ r. ⌜ r ≡ digitWorth b ⌝ }
+    ensures { λ r. ⌜ r ≡ worthOf (digitWorth b) ⌝ }
 {
     let x = b as u32;
     if ascii::is_digit(b) {
@@ -40,7 +41,7 @@ fn digit_worth(b: u8) -> u32
     if ascii::is_upper(b) {
         return x - 55;
     }
-    36
+    4294967295
 }
 
 // The byte b behind the digits of v.

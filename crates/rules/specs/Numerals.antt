@@ -8,14 +8,19 @@ use lib.IntN.{ℤ, pos, negsuc, negℤ}
 use lib.ListN.{length, replicate}
 use Rattle.rules.specs.Bytes.{Bytes, isDigit, isLower, isUpper}
 
--- what a digit is worth: 0 to 9, then 10 to 35 for the letters, and 36 for a byte that is no digit in any radix
-unfoldable pub digitWorth : ℕ → ℕ
-digitWorth x = cond (isDigit x) (x - 48) (cond (isLower x) (x - 87) (cond (isUpper x) (x - 55) 36))
+-- what a digit is worth: 0 to 9, then 10 to 35 for the letters. Another byte is no digit, whatever the radix
+unfoldable pub digitWorth : ℕ → Option ℕ
+digitWorth x = cond (isDigit x) (some (x - 48)) (cond (isLower x) (some (x - 87)) (cond (isUpper x) (some (x - 55)) none))
 
--- the number that digits write behind the digits of v, if each of them is one of the radix
+-- the number that digits write behind the digits of v, if each of them is worth less than the radix. So radix 0 has no digit, radix 1 only 0, and a
+-- radix above 36 none beyond z
 unfoldable pub behind : ℕ → ℕ → Bytes → Option ℕ
 behind radix v [] = some v
-behind radix v (x ∷ xs) = elim (ltb (digitWorth x) radix) [ true ↦ behind radix (v * radix + digitWorth x) xs | false ↦ none ]
+behind radix v (x ∷ xs) =
+    elim (digitWorth x) [
+      | none ↦ none
+      | some d ↦ elim (ltb d radix) [ true ↦ behind radix (v * radix + d) xs | false ↦ none ]
+    ]
 
 -- one or more digits of a radix
 unfoldable pub natural : ℕ → Bytes → Option ℕ

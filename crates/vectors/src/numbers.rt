@@ -203,6 +203,10 @@ fn naturals() {
     natural(b"0", 1);
     natural(b"0", 0);
     natural(b"_", 36);
+    natural(b"1", 1);
+    natural(b"zZ", 37);
+    natural(b"_", 37);
+    natural(b"1_", 1000);
 }
 
 fn writes() {

@@ -31,12 +31,12 @@ cast-t12 c = search needs
 returns-2 : tie.Need-returns-2
 returns-2 c =
     let a = c .before .before .before .args in
-    one-digit (a .radix) (a .v) (a .b) (c .before .before .digit-worth .result) (c .before .before .digit-worth .ensures) (omega arith) (omega arith)
+    one-digit (a .radix) (a .v) (a .b) (c .before .before .digit-worth .result) (c .before .before .digit-worth .ensures) (omega arith) (search needs) (omega arith)
 
 returns-3 : tie.Need-returns-3
 returns-3 c =
     let a = c .before .before .before .args in
-    one-beyond (a .radix) (a .v) (a .b) (c .before .before .digit-worth .result) (c .before .before .digit-worth .ensures) (omega arith) (omega arith)
+    one-beyond (a .radix) (a .v) (a .b) (c .before .before .digit-worth .result) (c .before .before .digit-worth .ensures) (omega arith) (search needs) (omega arith)
 
 pub one-more-spec : {M : Type 1} → statement M
 one-more-spec =
