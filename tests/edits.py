@@ -1,8 +1,9 @@
 #!/usr/bin/env python3
-"""edits.py [ROOT]: each must-fail edit was refused for a fact, and not because a proof file no longer fits the edited code.
+"""edits.py [ROOT]: each must-fail edit that `rt ci` tried was refused at the promise, and not because a proof file no longer fits the edited code.
 
-Reads the logs that `rt ci` left under target/must-fail (of ROOT, by default this repository). An edit counts as failed where its log is
-missing or has no refusal of a proof, or has a line that says that the code has no need of a name which the proof file answers: such a refusal shows nothing.
+Reads the logs that `rt ci` left under target/must-fail (of ROOT, by default this repository). Where a crate has functions, its edits are held to what
+tests/refused.py says, and each of its public functions has two; the edits of the book's definitions only have to be refused for a fact. An edit fails
+where its log is missing or has no refusal of a proof, or has a line that says that the code has no need of a name which the proof file answers: such a refusal shows nothing.
 Ends with 'N passed, M failed'; exit status 0 only if M is 0.
 """
 import glob
@@ -10,29 +11,42 @@ import os
 import re
 import sys
 
+import refused
+
 HERE = os.path.dirname(os.path.dirname(os.path.abspath(__file__)))
 ROOT = sys.argv[1] if len(sys.argv) > 1 else HERE
 REFUSAL = re.compile(r"^\S+/proofs/\S+\.antt:\d+:\d+: error: |^fn \S+: no proof: ", re.M)
 
 
+def fault_of(edit, folder, functions):
+    """Why an edit does not pass, or None."""
+    log = os.path.join(ROOT, "target", "must-fail", os.path.basename(folder), os.path.basename(edit)[: -len(".edit")], ".log")
+    if not os.path.exists(log):
+        return "it left no log"
+    said = open(log, encoding="utf-8", errors="replace").read()
+    if "logic=not-proved" not in said or not REFUSAL.search(said):
+        return "its log has no refusal of a proof"
+    if not functions:
+        return "refused because the proof file does not fit the edited code" if "has no `Need-" in said else None
+    places, fault = refused.places_of(edit, folder, functions)
+    return fault or refused.fault_of({place[4] for place in places}, refused.refusals(said, folder))[0]
+
+
+def try_crate(folder):
+    """How many edits of a crate pass, and how many do not."""
+    functions = refused.functions_of(folder)
+    edits = sorted(glob.glob(os.path.join(folder, "must-fail", "*.edit")))
+    tried_elsewhere = os.path.exists(os.path.join(ROOT, "tests", "edits", os.path.basename(folder)))
+    missing = [] if tried_elsewhere else refused.too_few(functions, edits)
+    faults = ["%s: %s" % (os.path.basename(edit), fault) for edit in edits if (fault := fault_of(edit, folder, functions))]
+    for fault in missing + faults:
+        print("%s/%s" % (os.path.basename(folder), fault))
+    return len(edits) - len(faults), len(faults) + len(missing)
+
+
 def main():
-    passed = failed = 0
-    for edit in sorted(glob.glob(os.path.join(ROOT, "crates", "*", "must-fail", "*.edit"))):
-        crate = edit.split(os.sep)[-3]
-        label = os.path.basename(edit)[: -len(".edit")]
-        log = os.path.join(ROOT, "target", "must-fail", crate, label, ".log")
-        text = open(log, encoding="utf-8", errors="replace").read() if os.path.exists(log) else None
-        if text is None:
-            print("%s/%s: it left no log" % (crate, label))
-            failed += 1
-        elif "logic=not-proved" not in text or not REFUSAL.search(text):
-            print("%s/%s: its log has no refusal of a proof" % (crate, label))
-            failed += 1
-        elif "has no `Need-" in text:
-            print("%s/%s: refused because the proof file does not fit the edited code" % (crate, label))
-            failed += 1
-        else:
-            passed += 1
+    counts = [try_crate(folder) for folder in sorted(glob.glob(os.path.join(ROOT, "crates", "*")))]
+    passed, failed = sum(p for p, _ in counts), sum(f for _, f in counts)
     print("%d passed, %d failed" % (passed, failed + (passed + failed == 0)))
     sys.exit(1 if failed or not passed else 0)
 

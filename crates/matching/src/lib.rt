@@ -61,7 +61,7 @@ pub fn partners_of(from: &[u8], to: &[u8]) -> [u16; 256]
 pub fn translit_length(table: &[u16; 256], s: &[u8]) -> usize
     ensures { λ r. ⌜ r ≡ length (replaced (now (table .entry)) (now (s .entry))) ⌝ }
 {
-    let mut n = 0;
+    let mut n: usize = 0;
     let mut i = 0;
     while i < s.len() {
         let b = s[i] as usize;

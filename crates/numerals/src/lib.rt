@@ -252,11 +252,11 @@ pub fn write_number(out: &mut [u8], x: u32, radix: u32, least: u32) -> bool
     let Length::Bytes(n) = written_length(x, radix, least) else {
         return false;
     };
-    if n != out.len() {
-        return false;
+    if n == out.len() {
+        fill_text(out, x, radix);
+        return true;
     }
-    fill_text(out, x, radix);
-    true
+    false
 }
 
 // How many bytes `write_decimal` takes for a number.

@@ -20,11 +20,6 @@ returns c =
     let a = c .before .before .before .before .args in
     bad-radix (a .radix) _ (c .before .before .written-length .ensures) (a .out .now) (c .enum-told .given .1)
 
-returns-2 : tie.Need-returns-2
-returns-2 c =
-    let a = c .before .before .before .before .before .before .args in
-    bad-room (a .radix) _ (c .before .before .before .before .written-length .ensures) (a .out .now) (c .before .before .n .given .1) (λ e. omega arith)
-
 fill-text-requires : tie.Need-fill-text-requires
 fill-text-requires c κs =
     let a = c .before .before .before .before .before .before .before .args in
@@ -33,11 +28,16 @@ fill-text-requires c κs =
 same-length : tie.Need-same-length
 same-length c = search needs
 
-returns-3 : tie.Need-returns-3
-returns-3 c =
+returns-2 : tie.Need-returns-2
+returns-2 c =
     let a = c .before .before .before .before .before .before .before .before .before .before .args in
     good-room (a .radix) _ (c .before .before .before .before .before .before .before .before .written-length .ensures) (a .out .now) (c .before .before .fill-text .last .0) (c .before .before .before .before .before .before .n .given .1) (omega arith)
     (c .before .before .fill-text .ensures (a .least))
+
+returns-3 : tie.Need-returns-3
+returns-3 c =
+    let a = c .before .before .before .before .before .before .args in
+    bad-room (a .radix) _ (c .before .before .before .before .written-length .ensures) (a .out .now) (c .before .before .n .given .1) (λ e. omega arith)
 
 pub write-number-spec : {M : Type 1} → statement M
 write-number-spec =
@@ -47,7 +47,7 @@ write-number-spec =
     enum-known-n
     enum-told
     returns
-    returns-2
     fill-text-requires
     same-length
+    returns-2
     returns-3)

@@ -1,0 +1,77 @@
+#!/usr/bin/env python3
+"""contracts.py [CRATE..]: nothing that a public function of the leaves promises can be dropped unseen.
+
+Not part of the gate: it takes minutes. For each public function, in a copy of the tree, its `ensures` lines are removed and its proof is made to fit (each
+`returns` answered by search). Then one of its must-fail edits has to be proved, which makes tests/incremental_edits.py fail. The callers in the crate whose
+proofs break besides are listed. Ends with 'N passed, M failed'; exit status 0 only if M is 0.
+"""
+import glob
+import os
+import re
+import sys
+import tempfile
+
+import incremental_edits as edits
+import refused
+
+LEAVES = ["answers", "ascii", "numerals", "matching", "expression"]
+ENSURES = re.compile(r"^    ensures .*\n", re.M)
+RETURNS = re.compile(r"^(returns(?:-\d+)?)( : tie\.Need-.*\n)(?:.+\n)+", re.M)
+
+
+def without_promise(function, folder):
+    """The files of a function without what it promises: {path: text}."""
+    text = open(function.path, encoding="utf-8").read()
+    head = text.rindex("pub fn ", 0, function.start)
+    code = text[:head] + ENSURES.sub("", text[head : function.start]) + text[function.start :]
+    path = os.path.join(folder, "proofs", function.name, "Proof.antt")
+    proof = RETURNS.sub(lambda m: "%s%s%s c = search needs\n" % (m.group(1), m.group(2), m.group(1)), open(path, encoding="utf-8").read())
+    if code == text:
+        sys.exit("%s has no line 'ensures'" % function.name)
+    return {function.path: code, path: proof}
+
+
+def with_edit(weaker, edit, folder, tree, crate):
+    """The functions whose own proofs are refused with an edit in the weaker code."""
+    kept = {path: open(path, encoding="utf-8").read() for path in weaker}
+    for path, text in weaker.items():
+        open(path, "w", encoding="utf-8").write(text)
+    places, fault = refused.places_of(edit, folder, refused.functions_of(folder))
+    edits.applied(places)
+    status, said = edits.check(tree, crate)
+    for path, text in kept.items():
+        open(path, "w", encoding="utf-8").write(text)
+    if fault or status not in (0, 1) or "logic=" not in said:
+        sys.exit("%s: %s" % (os.path.basename(edit), fault or said[-2000:]))
+    return set(refused.refusals(said, folder))
+
+
+def is_watched(function, own, folder, tree, crate):
+    """Whether the loss of a promise is seen."""
+    for edit in own:
+        broken = with_edit(without_promise(function, folder), edit, folder, tree, crate)
+        if function.name not in broken:
+            others = ", ".join(sorted(broken)) or "none"
+            print("%s::%s without its promise: %s is proved; callers that break: %s" % (crate, function.name, os.path.basename(edit), others), flush=True)
+            return True
+    print("%s::%s without its promise: NOT SEEN, each of its edits is still refused" % (crate, function.name), flush=True)
+    return False
+
+
+def try_crate(crate, tree):
+    folder = os.path.join(tree, "crates", crate)
+    found = sorted(glob.glob(os.path.join(edits.ROOT, "tests", "edits", crate, "*.edit")))
+    public = [f for f in refused.functions_of(folder).values() if f.public]
+    return [is_watched(f, [e for e in found if refused.named_by(e) == f.name], folder, tree, crate) for f in public]
+
+
+def main():
+    with tempfile.TemporaryDirectory() as tree:
+        edits.copy_tree(tree)
+        seen = [watched for crate in sys.argv[1:] or LEAVES for watched in try_crate(crate, tree)]
+    print("%d passed, %d failed" % (seen.count(True), seen.count(False)))
+    sys.exit(0 if all(seen) and seen else 1)
+
+
+if __name__ == "__main__":
+    main()
