@@ -19,29 +19,31 @@ REFUSAL = re.compile(r"^\S+/proofs/\S+\.antt:\d+:\d+: error: |^fn \S+: no proof:
 
 
 def fault_of(edit, folder, functions):
-    """Why an edit does not pass, or None."""
+    """Why an edit does not pass, or None; and where it was refused, in words."""
     log = os.path.join(ROOT, "target", "must-fail", os.path.basename(folder), os.path.basename(edit)[: -len(".edit")], ".log")
     if not os.path.exists(log):
-        return "it left no log"
+        return "it left no log", ""
     said = open(log, encoding="utf-8", errors="replace").read()
     if "logic=not-proved" not in said or not REFUSAL.search(said):
         return "its log has no refusal of a proof"
     if not functions:
-        return "refused because the proof file does not fit the edited code" if "has no `Need-" in said else None
+        return "refused because the proof file does not fit the edited code" if "has no `Need-" in said else None, ""
     places, fault = refused.places_of(edit, folder, functions)
-    return fault or refused.fault_of({place[4] for place in places}, refused.refusals(said, folder))[0]
+    return (fault, "") if fault else refused.fault_of({place[4] for place in places}, refused.refusals(said, folder))
 
 
 def try_crate(folder):
     """How many edits of a crate pass, and how many do not."""
     functions = refused.functions_of(folder)
     edits = sorted(glob.glob(os.path.join(folder, "must-fail", "*.edit")))
-    tried_elsewhere = os.path.exists(os.path.join(ROOT, "tests", "edits", os.path.basename(folder)))
-    missing = [] if tried_elsewhere else refused.too_few(functions, edits)
-    faults = ["%s: %s" % (os.path.basename(edit), fault) for edit in edits if (fault := fault_of(edit, folder, functions))]
-    for fault in missing + faults:
+    tried = {edit: fault_of(edit, folder, functions) for edit in edits}
+    faults = ["%s: %s" % (os.path.basename(edit), fault) for edit, (fault, _) in tried.items() if fault]
+    failed = len(faults)
+    if not os.path.exists(os.path.join(ROOT, "tests", "edits", os.path.basename(folder))):
+        faults += refused.too_few(functions, edits) + refused.unwatched(functions, edits, {edit: where for edit, (_, where) in tried.items()})
+    for fault in faults:
         print("%s/%s" % (os.path.basename(folder), fault))
-    return len(edits) - len(faults), len(faults) + len(missing)
+    return len(edits) - failed, len(faults)
 
 
 def main():

@@ -5,7 +5,7 @@
 form (tests/refused.py), and are tried here in a copy of the tree, as many at once as don't touch the same function:
 each changes bodies only, and a function is proved from its own body and its callees' contracts, so no edit can hide another. A check has to refuse the
 functions of each edit, each in its own proof and at its promise, and none that no edit touches; what rests on one of these is not counted. An edit that was
-refused because the proof file does not fit the edited code fails. So does a public function with fewer than two edits.
+refused because the proof file does not fit the edited code fails. So does a public function with fewer than two edits, or with none that is refused at `returns`.
 
 Where RT_CI_ENDED names a file, `rt ci` runs beside this, and the file will be there when that has ended. Each crate is then taken as soon as `rt ci` has
 proved it, with the modules that were checked for that, so that only what the edits reach is checked here; should the toolchain not know these modules again,
@@ -94,8 +94,8 @@ def applied(places):
     return kept
 
 
-def try_round(edits, places, tree, crate):
-    """How many edits of a round pass, and how many do not."""
+def try_round(edits, places, where, tree, crate):
+    """How many edits of a round pass, and how many do not; notes where each was refused."""
     began = time.time()
     kept = applied([place for edit in edits for place in places[edit]])
     status, said = check(tree, crate)
@@ -107,8 +107,8 @@ def try_round(edits, places, tree, crate):
         return 0, len(edits)
     found, failed = refused.refusals(said, os.path.join(tree, "crates", crate)), 0
     for edit in edits:
-        fault, where = refused.fault_of(changed(places[edit]), found)
-        print("%s/%s: %s" % (crate, os.path.basename(edit), fault or "refused at the promise: " + where), flush=True)
+        fault, where[edit] = refused.fault_of(changed(places[edit]), found)
+        print("%s/%s: %s" % (crate, os.path.basename(edit), fault or "refused at the promise: " + where[edit]), flush=True)
         failed += fault is not None
     touched = set().union(*(changed(places[edit]) for edit in edits))
     others = [name for name in found if not any(refused.is_of(name, f) for f in touched)]
@@ -123,16 +123,18 @@ def try_crate(crate, tree):
     folder = os.path.join(tree, "crates", crate)
     functions = refused.functions_of(folder)
     edits = sorted(glob.glob(os.path.join(ROOT, "tests", "edits", crate, "*.edit")))
-    faults, places = refused.too_few(functions, edits), {}
+    faults, places, where = refused.too_few(functions, edits), {}, {}
     for edit in edits:
         found, fault = refused.places_of(edit, folder, functions)
         if fault:
             faults.append("%s: %s" % (os.path.basename(edit), fault))
         else:
             places[edit] = found
+    rounds = rounds_of({edit: changed(found) for edit, found in places.items()})
+    counts = [try_round(tried, places, where, tree, crate) for tried in rounds]
+    faults += refused.unwatched(functions, edits, where)
     for fault in faults:
         print("%s/%s" % (crate, fault))
-    counts = [try_round(edits, places, tree, crate) for edits in rounds_of({edit: changed(found) for edit, found in places.items()})]
     return sum(p for p, _ in counts), sum(f for _, f in counts) + len(faults) + (not counts)
 
 

@@ -13,9 +13,9 @@ import re
 HEAD = re.compile(r'^(pub |pub\(crate\) )?(?:extern "C" )?fn (\w+)\(', re.M)
 BODY = re.compile(r"^\{$|\) (?:-> [^{}\n]+ )?\{$", re.M)
 CALL = re.compile(r"(?:\b(\w+)::)?\b(\w+)\(")
-ERROR = re.compile(r"^(\S+/proofs/(\S+)\.antt:\d+:\d+): (?:error: )?`([^`\n]+)`(: .*| is not admitted: .*)$", re.M)
+ERROR = re.compile(r"^\S+/proofs/((\S+)\.antt:\d+:\d+): (?:error: (?:`([^`\n]+)`: )?|(?=`([^`\n]+)` is not admitted: ))(.*)$", re.M)
 NO_PROOF = re.compile(r"^fn (\S+): no proof: (.*`search` does not close.*)$", re.M)
-CAUSE = re.compile(r": `([^`]+)` was not admitted \(")
+CAUSE = re.compile(r"`([^`]+)` was not admitted \(")
 PROMISE = re.compile(r"(?:\S+-)?(?:returns|\w+-holds|\w+-again)(?:-\d+)?")
 
 
@@ -120,8 +120,8 @@ def failing_with(declared, after, needs):
 def refusals(said, folder):
     """What a check of the crate refused for a reason of its own: {'MODULE/NAME' or a file of laws: [(place, message, the needs that fail with it)]}."""
     errors, refused = {}, {}
-    for place, name, declared, message in ERROR.findall(said):
-        errors.setdefault(name, []).append((place.rpartition("/proofs/")[2], declared, message))
+    for place, name, declared, unsolved, message in ERROR.findall(said):
+        errors.setdefault(name, []).append((place, declared or unsolved, message))
     for name, found in errors.items():
         needs, after = needs_in(os.path.join(folder, "proofs", name + ".antt")), {}
         for _, declared, message in found:
@@ -143,13 +143,19 @@ def is_of(name, function):
 
 
 def fault_of(changed, refused):
-    """Why an edit of these functions does not pass, or None; and where it was refused."""
+    """Why an edit of these functions does not pass, or None; and where it was refused, in words."""
     own = [e for name, found in refused.items() if any(is_of(name, f) for f in changed) for e in found]
     if not own:
         return "NOT REFUSED: %s is still proved with this edit" % ", ".join(sorted(changed)), ""
-    where = ", ".join(sorted({"%s at %s" % ("/".join(sorted(needs)) or "no need", place.rpartition("/proofs/")[2]) for place, _, needs in own}))
+    where = ", ".join(sorted({"%s at %s" % (" and ".join(sorted(needs)) or "no need", place) for place, _, needs in own}))
     if any("has no `Need-" in message for _, message, _ in own):
         return "refused because the proof file does not fit the edited code", where
     if not all(any(PROMISE.fullmatch(need) for need in needs) for _, _, needs in own):
         return "refused, but not at the promise alone: " + where, where
     return None, where
+
+
+def unwatched(functions, edits, where):
+    """Which public functions have no edit that is refused at a `returns`: an invariant stays in the proof when a promise is dropped."""
+    watched = {named_by(edit) for edit in edits if re.search(r"\breturns\b", where.get(edit, ""))}
+    return ["%s: none of its must-fail edits is refused at `returns`" % f for f in sorted(functions) if functions[f].public and f not in watched]
