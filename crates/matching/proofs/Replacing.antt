@@ -8,7 +8,7 @@ use mathlib.Core.List.{List, [], _∷_, _++_, append-nil}
 use lib.Dec.{ltb, eqb}
 use lib.ListN.{length, take, drop, getD, set, replicate, getD-replicate, drop-of-length-le, length-append, length-set, take-append-drop}
 use lib.Seq.{drop-cons, drop-drop, drop-set-lt, getD-set-same, getD-set-other, take-suc-set, append-snoc, take-all, take-append-seam, length-take-le, ext-getD}
-use borrow.Author.Tests.{ltb-true, ltb-false, lt-ltb, le-ltb, eq-eqb, ne-eqb, eqb-true, eqb-false}
+use borrow.Author.Tests.{ltb-true, ltb-false, lt-ltb, le-ltb, ne-eqb, eqb-true, eqb-false}
 use Rattle.rules.specs.Bytes.{Bytes}
 use Rattle.rules.specs.Results.{partner, transliterated}
 use Rattle.matching.specs.Partners.{isAmong, standing, entryOf, entries, partnerTable, entryFor, putBy, replaced, Fitted}

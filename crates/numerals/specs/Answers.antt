@@ -23,7 +23,7 @@ unfoldable pub foundIn : Natural → Option ℕ
 foundIn natural.NoNumber = none
 foundIn (natural.Number n) = some n
 
--- what a byte is worth, as the code says it: what is no digit is worth as much as no digit of a radix below 2 ^ 32 is
+-- what a byte is worth, as the code says it: what is no digit is worth 4294967295, which is below no radix of 32 bits
 unfoldable pub worthOf : Option ℕ → ℕ
 worthOf none = 4294967295
 worthOf (some d) = d
