@@ -152,10 +152,10 @@ macros-make =
     also tt
 
 call-makes : (m : Meaning) (name : Bytes) (args : List Bytes) (s : State) → Makes (callChanges m args) (s .streams) (performed m name args s)
-unfolding callChanges noChanges performed perform
+unfolding callChanges noChanges performed perform callNothing
 call-makes (text x) name args s = giving-makes _ s
-call-makes (predefined zero) name args s = unfold macros in changecom-makes args s
-call-makes (predefined (suc i)) name args s = simp unary-clauses (one-of macros macroChanges macros-make i args s)
+call-makes (predefined zero) name args s = refuses gone
+call-makes (predefined (suc i)) name args s = one-of macros macroChanges macros-make i args s
 
 -- ---- a step
 

@@ -15,7 +15,7 @@ use Rattle.rules.specs.Contract.{Buffers, settingOf, outputOf, errorsOf,
 use Rattle.rules.proofs.Room.{room-never-shapes-text}
 
 -- the written bytes are those of the run
-written-run : (e : Ended) (b : Buffers) → written (reportOf e) (leftBy e b) ≡ outputOf e ∷ errorsOf e ∷ []
+pub written-run : (e : Ended) (b : Buffers) → written (reportOf e) (leftBy e b) ≡ outputOf e ∷ errorsOf e ∷ []
 unfolding written reportOf leftBy fronted
 written-run e b = rw (take-append-seam (outputOf e) (drop (length (outputOf e)) (b .output)), take-append-seam (errorsOf e) (drop (length (errorsOf e)) (b .errors)))
 

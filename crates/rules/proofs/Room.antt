@@ -10,7 +10,7 @@ use lib.ListN.{length, getD}
 use borrow.Author.Tests.{le-leb, leb-true, leb-false, lt-leb}
 use Rattle.rules.specs.declared.Answer.{Answer}
 use Rattle.rules.specs.declared.Answer.the-variants as answer
-use Rattle.rules.specs.Answers.{answerNumber, isStopped, Ending, endingAnswer, Fault, faultAnswer}
+use Rattle.rules.specs.Answers.{answerNumber, answerDetail, isStopped, Ending, endingAnswer, Fault, faultAnswer}
 use Rattle.rules.specs.Tokens.{later}
 use Rattle.rules.specs.State.{State, Outcome, next, stop, refused, Start, startState}
 use Rattle.rules.specs.Step.{step}
@@ -113,7 +113,7 @@ some-none e = let z : _≡_ {A = ℕ} 0 1 = cc in omega arith
 record Kept (ls ms : List ℕ) (budget budget′ : ℕ) (r t : Ended) : Type 0 where
   same : isStopped (r .answer) ≡ false → t ≡ r
   further : r .steps ≤ t .steps
-  again : isStopped (r .answer) ≡ true → stopper ls budget (r .answer) ≡ stopper ms budget′ (r .answer) → t ≡ r
+  again : isStopped (r .answer) ≡ true → stopper ls budget (answerNumber (r .answer)) (answerDetail (r .answer)) ≡ stopper ms budget′ (answerNumber (r .answer)) (answerDetail (r .answer)) → t ≡ r
 
 kept-refl : {ls ms : List ℕ} {n m : ℕ} (r : Ended) → Kept ls ms n m r r
 kept-refl r = record { same = λ _. refl; further = omega arith; again = λ _ _. refl }
@@ -123,12 +123,12 @@ module _ (ls ms : List ℕ) (budget budget′ : ℕ) where
   room-kept :
       (b k : ℕ) (s : State) (t : Ended) → k ≤ t .steps → (getD ls b 0 ≡ getD ms b 0 → t ≡ endedWith (answer.Room (suc b)) k s)
       → Kept ls ms budget budget′ (endedWith (answer.Room (suc b)) k s) t
-  unfolding endedWith isStopped answerNumber stopper lengthNumbered
+  unfolding endedWith isStopped answerNumber answerDetail stopper lengthNumbered
   room-kept b k s t c f = record { same = λ e. absurd (true≢false e); further = c; again = λ _ e. f e }
 
   -- a run that is spent, beside one that goes at least as far, and no further where the budget is the same
   spent-kept : (k : ℕ) (s : State) (t : Ended) → k ≤ t .steps → (budget ≡ budget′ → t ≡ endedWith answer.Spent k s) → Kept ls ms budget budget′ (endedWith answer.Spent k s) t
-  unfolding endedWith isStopped answerNumber stopper
+  unfolding endedWith isStopped answerNumber answerDetail stopper
   spent-kept k s t c f = record { same = λ e. absurd (true≢false e); further = c; again = λ _ e. f e }
 
   -- room judged under both lengths

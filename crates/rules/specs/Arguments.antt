@@ -1,5 +1,5 @@
 -- Arguments: one by its number, and all put into a defined text.
-use Prim.Native.Nat.{ℕ, suc, _-_}
+use Prim.Native.Nat.{ℕ, zero, suc, _-_}
 use mathlib.Core.Bool.{Bool, true, false, cond}
 use mathlib.Core.List.{List, [], _∷_, _++_}
 use mathlib.Core.Option.{Option, none, some}
@@ -12,11 +12,13 @@ use Rattle.rules.specs.Numerals.{number, decimal}
 
 -- the n-th argument, from 1: 01 "Absent arguments are null"
 unfoldable pub arg : ℕ → List Bytes → Bytes
-arg n args = getD args (n - 1) []
+arg zero args = []
+arg (suc i) args = getD args i []
 
 -- the n-th argument as a number: 01 "Defaults, only when absent"
 unfoldable pub numberOr : ℤ → ℕ → List Bytes → Option ℤ
-numberOr default n args = elim (drop (n - 1) args) [ [] ↦ some default | a ∷ more ↦ number a ]
+numberOr default zero args = some default
+numberOr default (suc i) args = elim (drop i args) [ [] ↦ some default | a ∷ more ↦ number a ]
 
 -- a number from `low` to `high`
 unfoldable pub bounded : ℕ → ℕ → Option ℤ → Option ℕ

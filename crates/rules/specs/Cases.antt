@@ -8,7 +8,7 @@ use Rattle.rules.specs.declared.Report.{Report}
 use Rattle.rules.specs.Bytes.{Bytes, bytesOf, sameBytes}
 use Rattle.rules.specs.Answers.{answerNumber, answerDetail}
 use Rattle.rules.specs.State.{freshStart}
-use Rattle.rules.specs.Run.{Setting, Ended, run}
+use Rattle.rules.specs.Run.{Setting, mostLent, Ended, run}
 use Rattle.rules.specs.Contract.{outputOf, errorsOf}
 
 -- what a worked text says: done with this output; that in so many steps; refused with this number; or number, detail, steps, place and
@@ -49,7 +49,16 @@ firstWrong n (c ∷ cs) = elim (caseHolds c) [ true ↦ firstWrong (suc n) cs | 
 -- 01 "Budget and room are ample unless said"
 unfoldable pub budgeted : ℕ → Setting
 budgeted n =
-    record { pending = 65536; calls = 65536; definitions = 65536; streams = 65536; wrap = 65536; errors = 65536; output = 65536; budget = n }
+    record {
+      pending = mostLent;
+      calls = mostLent;
+      definitions = mostLent;
+      streams = mostLent;
+      wrap = mostLent;
+      errors = mostLent;
+      output = mostLent;
+      budget = n;
+    }
 
 unfoldable pub ample : Setting
 ample = budgeted 16777216

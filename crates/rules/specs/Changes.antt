@@ -84,7 +84,7 @@ undivertChanges args = elim (undivertNumbers args) [ none ↦ [] | some ns ↦ m
 unfoldable pub noChanges : List Bytes → List Change
 noChanges args = []
 
--- those of the macros by their numbers, 1 to 24, in the order of `macros`
+-- those of the macros by their numbers, from 1, in the order of `macros`
 unfoldable pub macroChanges : List (List Bytes → List Change)
 macroChanges =
     noChanges

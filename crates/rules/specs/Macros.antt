@@ -1,5 +1,5 @@
 -- The predefined macros: what a call of each with its arguments makes of the state, from which the call is already taken.
-use Prim.Native.Nat.{ℕ, suc, _-_}
+use Prim.Native.Nat.{ℕ, zero, suc}
 use mathlib.Core.Bool.{Bool, true, false, _&&_}
 use mathlib.Core.List.{List, [], _∷_, _++_, map}
 use mathlib.Core.Option.{Option, none, some}
@@ -137,11 +137,11 @@ unfoldable pub callUndivert : List Bytes → State → Outcome
 callUndivert args s =
     elim (undivertNumbers args) [ none ↦ refused noNumber | some ns ↦ next (changing (map moves ns) s) ]
 
--- no macro has another number than 1 to 24
+-- no macro has another number than those of `predefinedNames`
 unfoldable pub callNothing : List Bytes → State → Outcome
 callNothing args s = refused gone
 
--- the macros by their numbers, 1 to 24, in the order of `predefinedNames`
+-- the macros by their numbers, from 1, in the order of `predefinedNames`
 unfoldable pub macros : List (List Bytes → State → Outcome)
 macros =
     callChangecom
@@ -171,7 +171,8 @@ macros =
     ∷ []
 
 unfoldable pub perform : ℕ → List Bytes → State → Outcome
-perform k args s = (getD macros (k - 1) callNothing) args s
+perform zero args s = callNothing args s
+perform (suc i) args s = (getD macros i callNothing) args s
 
 -- a call of a name by its meaning: a text with the arguments put in, or a predefined macro
 unfoldable pub performed : Meaning → Bytes → List Bytes → State → Outcome

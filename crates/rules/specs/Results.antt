@@ -120,12 +120,14 @@ lenResult args = yields (decimal (pos (length (arg 1 args))))
 unfoldable pub shiftResult : MarkTexts → List Bytes → Result
 shiftResult m args = yields (commas (quotedEach m (drop 1 args)))
 
+-- as many bytes of a text as the first of these arguments says: 01 "only when absent: .. substr length to the end"
+unfoldable pub shortened : List Bytes → Bytes → Result
+shortened [] w = yields w
+shortened (n ∷ more) w = needing (bounded 0 largest (number n)) (λ count. yields (take count w))
+
 -- 01 "a negative substr start or length" is refused 7; 004: what starts behind the end is null
 unfoldable pub substrResult : List Bytes → Result
-substrResult args =
-    needing (bounded 0 largest (number (arg 2 args)))
-    (λ from.
-    needing (bounded 0 largest (numberOr (pos (length (arg 1 args))) 3 args)) (λ count. yields (take count (drop from (arg 1 args)))))
+substrResult args = needing (bounded 0 largest (number (arg 2 args))) (λ from. shortened (drop 2 args) (drop from (arg 1 args)))
 
 -- what stands for a byte: 01 "translit deletes bytes whose partner is missing; of a repeated byte the first counts"
 unfoldable pub partner : Bytes → Bytes → ℕ → Bytes

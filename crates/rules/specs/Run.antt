@@ -79,10 +79,14 @@ unfoldable pub runFrom : List ℕ → ℕ → ℕ → State → Ended
 runFrom ls zero count s = endedWith answer.Spent count s
 runFrom ls (suc left) count s = continued ls (λ t. runFrom ls left (suc count) t) count s (step s)
 
--- no length is above 65,536 bytes
+-- 01 "at most 65,536 bytes", of the text and of each buffer
+abbrev pub mostLent : ℕ
+mostLent = 65536
+
+-- no length is above it
 unfoldable pub allLendable : List ℕ → Bool
 allLendable [] = true
-allLendable (l ∷ ls) = elim (leb l 65536) [ true ↦ allLendable ls | false ↦ false ]
+allLendable (l ∷ ls) = elim (leb l mostLent) [ true ↦ allLendable ls | false ↦ false ]
 
 unfoldable pub admitted : Bool → Start → Setting → Ended
 admitted false b a = endedWith answer.Lend 0 (startState b)

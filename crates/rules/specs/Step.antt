@@ -43,10 +43,17 @@ argumentCount (c ∷ cs) = suc (length (c .finished)) + argumentCount cs
 unfoldable pub openCall : Bytes → Call
 openCall name = record { name = name; finished = []; current = []; depth = 0; collected = false }
 
+-- how many calls may be open, and how many arguments they may have together
+abbrev pub mostCalls : ℕ
+mostCalls = 64
+
+abbrev pub mostArguments : ℕ
+mostArguments = 256
+
 -- refusal 13: "a 65th open call, or a 257th argument over all open calls"
 unfoldable pub opened : Bytes → State → Outcome
 opened name s =
-    elim (leb 64 (length (s .calls)) || leb 256 (argumentCount (s .calls))) [
+    elim (leb mostCalls (length (s .calls)) || leb mostArguments (argumentCount (s .calls))) [
       | true ↦ refused deep
       | false ↦ next (withCalls (openCall name ∷ s .calls) s)
     ]
@@ -70,7 +77,7 @@ unfoldable pub nextArgument : Call → Call
 nextArgument c = record { name = c .name; finished = c .finished ++ (c .current ∷ []); current = []; depth = 0; collected = false }
 
 unfoldable pub commaMet : Call → List Call → State → Outcome
-commaMet c cs s = elim (leb 256 (argumentCount (c ∷ cs))) [ true ↦ refused deep | false ↦ next (withCalls (nextArgument c ∷ cs) s) ]
+commaMet c cs s = elim (leb mostArguments (argumentCount (c ∷ cs))) [ true ↦ refused deep | false ↦ next (withCalls (nextArgument c ∷ cs) s) ]
 
 -- 01 "the right parenthesis at depth zero closes"
 unfoldable pub rightMet : ℕ → Call → List Call → State → Outcome

@@ -1,5 +1,5 @@
 -- The definitions in force: those made by the text, in order of arrival, and the predefined names that keep their own meaning.
-use Prim.Native.Nat.{ℕ, suc, _+_, _-_, _/_, _%_, _^_}
+use Prim.Native.Nat.{ℕ, zero, suc, _+_, _-_, _/_, _%_, _^_}
 use mathlib.Core.Bool.{Bool, true, false, cond}
 use mathlib.Core.List.{List, [], _∷_, _++_}
 use mathlib.Core.Option.{Option, none, some}
@@ -52,8 +52,9 @@ pub record Table : Type 0 where
   pub definitions : List Definition
   pub own : ℕ
 
+-- every predefined name keeps its own meaning
 unfoldable pub freshTable : Table
-freshTable = record { definitions = []; own = 2 ^ 24 - 1 }
+freshTable = record { definitions = []; own = 2 ^ length predefinedNames - 1 }
 
 -- the number of a name in a list of names, from k
 unfoldable pub numberFrom : ℕ → Bytes → List Bytes → Option ℕ
@@ -63,8 +64,10 @@ numberFrom k w (n ∷ ns) = elim (sameBytes w n) [ true ↦ some k | false ↦ n
 unfoldable pub predefinedNumber : Bytes → Option ℕ
 predefinedNumber w = numberFrom 1 w predefinedNames
 
+-- the k-th predefined name, from 1, keeps its own meaning
 unfoldable pub keepsOwn : ℕ → ℕ → Bool
-keepsOwn k own = eqb (own / 2 ^ (k - 1) % 2) 1
+keepsOwn zero own = false
+keepsOwn (suc i) own = eqb (own / 2 ^ i % 2) 1
 
 unfoldable pub ownMeaning : Bytes → ℕ → Option Meaning
 ownMeaning w own = elim (predefinedNumber w) [ none ↦ none | some k ↦ elim (keepsOwn k own) [ true ↦ some (predefined k) | false ↦ none ] ]
@@ -81,7 +84,7 @@ newestPlace w (d ∷ ds) =
 
 unfoldable pub meaningAt : ℕ → List Definition → Option Meaning
 meaningAt i [] = none
-meaningAt ℕ.zero (d ∷ ds) = some (d .meaning)
+meaningAt zero (d ∷ ds) = some (d .meaning)
 meaningAt (suc i) (d ∷ ds) = meaningAt i ds
 
 -- the meaning in force: the newest definition's, else the name's own; none: the name is not defined
