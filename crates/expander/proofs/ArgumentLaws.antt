@@ -27,9 +27,19 @@ use Rattle.expander.specs.declared.arguments.Span.{Span}
 use Rattle.expander.proofs.Packing.{count-is, lies, used-is}
 use Rattle.expander.proofs.Parts.{part-long}
 
+-- the n-th argument, counted from 0
+pub arg-from : (n : ℕ) (args : List Bytes) → 1 ≤ n → arg n args ≡ getD args (n - 1) []
+unfolding arg
+arg-from zero args h = absurd (omega arith)
+arg-from (suc i) args h = ap (λ (j : ℕ). getD args j []) (omega arith)
+
+pub arg-next : (k : ℕ) (args : List Bytes) → arg (k + 1) args ≡ getD args k []
+arg-next k args = arg-from (k + 1) args (omega arith) ∙ ap (λ (j : ℕ). getD args j []) (omega arith)
+
 pub arg-absent : (n : ℕ) (args : List Bytes) → length args ≤ n - 1 → arg n args ≡ []
 unfolding arg
-arg-absent n args le = List·getD-eq-default args [] le
+arg-absent zero args le = refl
+arg-absent (suc i) args le = List·getD-eq-default args [] (omega (arith, le))
 
 short-of : (ws : List Bytes) (i : ℕ) → length (getD ws i []) ≤ length (joined ws)
 unfolding joined
@@ -43,18 +53,17 @@ module _ {bytes : Bytes} {ends : List ℕ} {x : Arguments} {args : List Bytes} (
   arguments-counted = omega (arith, ap length (h .are), length-drop (x .base) (h .strings), count-is (h .packs))
 
   -- the n-th is one of the strings
-  argument-at : (n : ℕ) → arg n args ≡ getD (h .strings) (x .base + (n - 1)) []
-  unfolding arg
-  argument-at n = ap (λ (a : List Bytes). getD a (n - 1) []) (h .are) ∙ getD-drop (x .base) (h .strings) (n - 1) []
+  argument-at : (n : ℕ) → 1 ≤ n → arg n args ≡ getD (h .strings) (x .base + (n - 1)) []
+  argument-at n l = arg-from n args l ∙ ap (λ (a : List Bytes). getD a (n - 1) []) (h .are) ∙ getD-drop (x .base) (h .strings) (n - 1) []
 
   -- where the n-th stands, and where it does not
   pub span-there :
-      (n start end : ℕ) → x .base + (n - 1) < x .strings .count → start ≡ startOf ends (x .base + (n - 1)) → end ≡ startOf ends (x .base + (n - 1) + 1)
+      (n start end : ℕ) → 1 ≤ n → x .base + (n - 1) < x .strings .count → start ≡ startOf ends (x .base + (n - 1)) → end ≡ startOf ends (x .base + (n - 1) + 1)
       → SpanIs bytes (record { start = start; end = end }) (arg n args)
-  span-there n start end lt es ee =
+  span-there n start end first lt es ee =
       let l = lies (h .packs) (x .base + (n - 1)) start end lt es ee in
       record {
-        is = l .is ∙ sym (argument-at n);
+        is = l .is ∙ sym (argument-at n first);
         ordered = l .ordered;
         inside = l .within;
       }
@@ -66,9 +75,9 @@ module _ {bytes : Bytes} {ends : List ℕ} {x : Arguments} {args : List Bytes} (
   pub few-arguments : length args ≤ 320
   few-arguments = omega (arith, arguments-counted, h .few)
 
-  pub argument-short : (n : ℕ) → length (arg n args) ≤ 65536
-  argument-short n =
-      omega (arith, ap length (argument-at n), short-of (h .strings) (x .base + (n - 1)), used-is (h .packs), h .packs .used-in, h .short)
+  pub argument-short : (n : ℕ) → 1 ≤ n → length (arg n args) ≤ 65536
+  argument-short n l =
+      omega (arith, ap length (argument-at n l), short-of (h .strings) (x .base + (n - 1)), used-is (h .packs), h .packs .used-in, h .short)
 
 pub argument-links : {bytes : Bytes} {ends : List ℕ} {x : Arguments} → SomeArguments bytes ends x → ArgumentLinks ends x
 argument-links {bytes} h = record { bytes = bytes; args = h .args; holds = h .holds }
@@ -128,24 +137,26 @@ number-range (x ∷ xs) z e = go (eqb x 45) e
     go false q = limited pos 2147483647 (λ n h. h) (natural 10 (x ∷ xs)) z q
 
 -- the same with a default
+pub or-absent : (d n : ℕ) (args : List Bytes) → length args ≤ n - 1 → numberOr (pos d) n args ≡ some (pos d)
+unfolding numberOr
+or-absent d zero args h = refl
+or-absent d (suc i) args h = rw (drop-of-length-le args {i = i} (omega (arith, h)), numberOr)
+
+pub or-there : (d n : ℕ) (args : List Bytes) → 1 ≤ n → n - 1 < length args → numberOr (pos d) n args ≡ number (arg n args)
+unfolding numberOr arg
+or-there d zero args l h = absurd (omega arith)
+or-there d (suc i) args l h = rw (drop-cons args i [] (omega (arith, h)), numberOr)
+
 module _ (d n : ℕ) (args : List Bytes) where
-  pub or-absent : length args ≤ n - 1 → numberOr (pos d) n args ≡ some (pos d)
-  unfolding numberOr
-  or-absent h = rw (drop-of-length-le args h, numberOr)
-
-  pub or-there : n - 1 < length args → numberOr (pos d) n args ≡ number (arg n args)
-  unfolding numberOr arg
-  or-there h = rw (drop-cons args (n - 1) [] h, numberOr)
-
-  pub number-or-range : (z : ℤ) → d ≤ 2147483647 → numberOr (pos d) n args ≡ some z → Signed z
-  number-or-range z h e = go (leb (length args) (n - 1)) refl
+  pub number-or-range : 1 ≤ n → (z : ℤ) → d ≤ 2147483647 → numberOr (pos d) n args ≡ some z → Signed z
+  number-or-range some-number z h e = go (leb (length args) (n - 1)) refl
     where
       go : (t : Bool) → leb (length args) (n - 1) ≡ t → Signed z
-      go true q = let k : some (pos d) ≡ some z = sym (or-absent (leb-true _ _ q)) ∙ e in let m : pos d ≡ z = cc in subst Signed m h
-      go false q = number-range (arg n args) z (sym (or-there (leb-false _ _ q)) ∙ e)
+      go true q = let k : some (pos d) ≡ some z = sym (or-absent d n args (leb-true _ _ q)) ∙ e in let m : pos d ≡ z = cc in subst Signed m h
+      go false q = number-range (arg n args) z (sym (or-there d n args some-number (leb-false _ _ q)) ∙ e)
 
-  pub number-or-bits : (z : ℤ) → d ≤ 2147483647 → numberOr (pos d) n args ≡ some z → signedValue (wrapped z) ≡ z
-  number-or-bits z h e = signed-bits z (number-or-range z h e)
+  pub number-or-bits : 1 ≤ n → (z : ℤ) → d ≤ 2147483647 → numberOr (pos d) n args ≡ some z → signedValue (wrapped z) ≡ z
+  number-or-bits l z h e = signed-bits z (number-or-range l z h e)
 
 -- a number that is needed, by what was read of it
 module _ {o : Option ℕ} {n : Natural} (e : n ≡ naturalOf o) where

@@ -6,20 +6,22 @@ use mathlib.Core.Path.{_≡_, refl, sym, ap, _∙_}
 use mathlib.Core.Logic.{_⊎_, inl, inr}
 use mathlib.Core.Bool.{Bool, true, false}
 use mathlib.Core.List.{List, [], _∷_}
+use mathlib.Core.Option.{Option, none, some}
 use denote.Enum.Declared.{tagOf}
 use lib.IntN.{pos}
 use lib.ListN.{length, take, drop, getD, length-drop}
-use lib.Seq.{take-nil, drop-drop, getD-drop}
+use lib.Seq.{take-nil, take-all, drop-drop, getD-drop}
 use lib.Dec.{leb}
-use borrow.Author.Tests.{leb-true, leb-false}
+use borrow.Author.Tests.{le-leb, leb-true, leb-false}
 use Rattle.numerals.specs.Answers.{naturalOf}
 use Rattle.numerals.specs.declared.Natural.{Natural}
 use Rattle.numerals.specs.declared.Natural.the-variants as found
 use Rattle.rules.specs.Bytes.{Bytes, sameBytes}
+use Rattle.rules.specs.Answers.{noNumber}
 use Rattle.rules.specs.Numerals.{number}
 use Rattle.rules.specs.Table.{Table, Definition, meaningOf, isDefined}
 use Rattle.rules.specs.Arguments.{arg, numberOr, bounded}
-use Rattle.rules.specs.Results.{Result, yields, needing, ifdefResult, chosen, ifelseResult, substrResult}
+use Rattle.rules.specs.Results.{Result, yields, fails, needing, ifdefResult, chosen, ifelseResult, shortened, substrResult}
 use Rattle.expander.specs.declared.arguments.Arguments.{Arguments}
 use Rattle.expander.specs.declared.arguments.Span.{Span}
 use Rattle.expander.specs.declared.cuts.Cut.{Cut}
@@ -31,7 +33,7 @@ use Rattle.expander.specs.Table.{rows, meaningFor, Finds}
 use Rattle.expander.specs.Results.{cutResult, CutInside, Cuts}
 use Rattle.expander.proofs.table.Meaning.{the-type}
 use Rattle.expander.proofs.Packing.{same-of}
-use Rattle.expander.proofs.ArgumentLaws.{few-arguments, reads-none, reads-some}
+use Rattle.expander.proofs.ArgumentLaws.{arg-from, few-arguments, reads-none, reads-some}
 use Rattle.expander.proofs.Parts.{drop-take}
 
 pub cuts-same : {bytes : Bytes} {v w : Result} {c : Cut} → w ≡ v → Cuts bytes v c → Cuts bytes w c
@@ -118,8 +120,8 @@ choosing-begins bytes ends x = record { low = omega arith; high = omega arith; s
 
 -- argument j of those from k on
 left-at : (args : List Bytes) (k j : ℕ) → 1 ≤ k → getD (drop (k - 1) args) j [] ≡ arg (k + j) args
-unfolding arg
-left-at args k j h = getD-drop (k - 1) args j [] ∙ ap (λ (n : ℕ). getD args n []) (let e : k - 1 + j ≡ k + j - 1 = omega arith in e)
+left-at args k j h =
+    getD-drop (k - 1) args j [] ∙ ap (λ (n : ℕ). getD args n []) (let e : k - 1 + j ≡ k + j - 1 = omega arith in e) ∙ sym (arg-from (k + j) args (omega (arith, h)))
 
 module _ {bytes : Bytes} {ends : List ℕ} {x : Arguments} {k : ℕ} (c : Choosing bytes ends x k) {args : List Bytes} (h : ArgumentsIn bytes ends x args) {have : ℕ} (n : have ≡ length args) where
   left-long : length (drop (k - 1) args) ≡ have - (k - 1)
@@ -214,12 +216,36 @@ pub no-start : (bytes : Bytes) (args : List Bytes) {n : Natural} → n ≡ natur
 unfolding substrResult needing cutResult CutInside
 no-start bytes args e k = record { is = rw (reads-none e k); inside = tt }
 
+-- the length of a part: the text has no more than `size` bytes, which stand for an absent one
+module _ {size : ℕ} (few : size ≤ 2147483647) where
+  size-good : bounded 0 2147483647 (some (pos size)) ≡ some size
+  unfolding bounded
+  size-good = rw (le-leb 0 size (omega arith), le-leb size 2147483647 few, bounded)
+
+  shortened-fails :
+      (rest : List Bytes) (w : Bytes) → bounded 0 2147483647 (elim rest [ [] ↦ some (pos size) | a ∷ more ↦ number a ]) ≡ none → shortened rest w ≡ fails noNumber
+  unfolding shortened needing
+  shortened-fails [] w e = let q : some size ≡ none = sym size-good ∙ e in let z : _≡_ {A = ℕ} 0 1 = cc in absurd (omega arith)
+  shortened-fails (a ∷ more) w e = rw e refl
+
+  shortened-yields :
+      (rest : List Bytes) (w : Bytes) (count : ℕ) → length w ≤ size → bounded 0 2147483647 (elim rest [ [] ↦ some (pos size) | a ∷ more ↦ number a ]) ≡ some count
+      → shortened rest w ≡ yields (take count w)
+  unfolding shortened needing
+  shortened-yields [] w count l e = let r : some size ≡ some count = sym size-good ∙ e in let q : size ≡ count = cc in ap yields (sym (take-all count w (omega (arith, l, q))))
+  shortened-yields (a ∷ more) w count l e = rw e refl
+
 module _ (args : List Bytes) (from : ℕ) {n : Natural} (e : n ≡ naturalOf (bounded 0 2147483647 (number (arg 2 args)))) (k : n ≡ found.Number from)
-    {size : ℕ} (s : size ≡ length (arg 1 args)) {m : Natural} (f : m ≡ naturalOf (bounded 0 2147483647 (numberOr (pos size) 3 args))) where
+    {size : ℕ} (s : size ≡ length (arg 1 args)) (few : size ≤ 2147483647) {m : Natural} (f : m ≡ naturalOf (bounded 0 2147483647 (numberOr (pos size) 3 args))) where
+  from-there : substrResult args ≡ shortened (drop 2 args) (drop from (arg 1 args))
+  unfolding substrResult needing
+  from-there = rw (reads-some e from k)
+
   pub no-count : (bytes : Bytes) → m ≡ found.NoNumber → Cuts bytes (substrResult args) cut.NoNumber
-  unfolding substrResult needing cutResult CutInside
-  no-count bytes l = record { is = rw (reads-some e from k, ← s, reads-none f l); inside = tt }
+  unfolding numberOr cutResult CutInside
+  no-count bytes l = record { is = from-there ∙ shortened-fails few (drop 2 args) (drop from (arg 1 args)) (reads-none f l); inside = tt }
 
   pub start-and-count : (count : ℕ) → m ≡ found.Number count → substrResult args ≡ yields (take count (drop from (arg 1 args)))
-  unfolding substrResult needing
-  start-and-count count l = rw (reads-some e from k, ← s, reads-some f count l)
+  unfolding numberOr
+  start-and-count count l =
+      from-there ∙ shortened-yields few (drop 2 args) (drop from (arg 1 args)) count (omega (arith, length-drop from (arg 1 args), s)) (reads-some f count l)

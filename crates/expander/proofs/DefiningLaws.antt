@@ -23,6 +23,7 @@ use Rattle.expander.specs.declared.packed.Packed.{Packed}
 use Rattle.expander.specs.declared.table.Definitions.{Definitions}
 use Rattle.expander.specs.Machine.{Memory, memory, Means, Gives, tableSet, turned}
 use Rattle.expander.specs.Table.{DefinitionsIn, TableIn}
+use Rattle.expander.proofs.ArgumentLaws.{arg-next}
 use Rattle.expander.proofs.Changing.{cost-used}
 use Rattle.expander.proofs.MachineLaws.{pending-fits, calls-fit, over-table}
 use Rattle.expander.proofs.Parted.{with-table}
@@ -130,11 +131,10 @@ module _ {f : Bytes → Table → Table} {args : List Bytes} {u : Table} {bytes 
   pub turns-on :
       {bytes′ : Bytes} {ends′ : List ℕ} {d′ : Definitions} (w : Bytes) → k < length args → w ≡ arg (k + 1) args
       → ((v : Table) → TableIn bytes ends (d .packed) (d .own) v → TableIn bytes′ ends′ (d′ .packed) (d′ .own) (f w v)) → InTurn f args u bytes′ ends′ d′ (k + 1)
-  unfolding inTurn arg
+  unfolding inTurn
   turns-on w l e g =
-      let n : k + 1 - 1 ≡ k = omega arith in
       let c : drop k args ≡ w ∷ drop (k + 1) args =
-      rw add-one (drop-cons args k [] l ∙ ap (λ (z : Bytes). z ∷ drop (suc k) args) (sym (e ∙ ap (λ (j : ℕ). getD args j []) n))) in
+      rw add-one (drop-cons args k [] l ∙ ap (λ (z : Bytes). z ∷ drop (suc k) args) (sym (e ∙ arg-next k args))) in
       record {
         table = f w (h .table);
         holds = g (h .table) (h .holds);

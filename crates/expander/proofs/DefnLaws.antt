@@ -21,6 +21,7 @@ use Rattle.expander.specs.declared.table.Meaning.{Meaning as Looked}
 use Rattle.expander.specs.declared.table.Meaning.the-variants as looked
 use Rattle.expander.specs.declared.defn.DefnLength.{DefnLength}
 use Rattle.expander.specs.declared.defn.DefnLength.the-variants as defnLength
+use Rattle.expander.proofs.ArgumentLaws.{arg-next}
 use Rattle.expander.proofs.FilledLaws.{filled-front, filled-nothing}
 use Rattle.expander.proofs.Rows.{finds-within}
 
@@ -106,9 +107,8 @@ module _ (m : MarkTexts) (t : Table) where
   -- the arguments from k on
   module _ (args : List Bytes) (k : ℕ) where
     turn : {name : Bytes} → name ≡ arg (k + 1) args → k < length args → defnResult m t (drop k args) ≡ followedBy (namedResult m t name) (defnResult m t (drop (k + 1) args))
-    unfolding arg
     turn {name} e h =
-        let n : name ≡ getD args k [] = e ∙ ap (λ (j : ℕ). getD args j []) (omega arith) in
+        let n : name ≡ getD args k [] = e ∙ arg-next k args in
         ap (defnResult m t) (drop-cons args k [] h ∙ ap (λ (j : ℕ). getD args k [] ∷ drop j args) (sym (add-one k)))
         ∙ defn-cons (getD args k []) (drop (k + 1) args)
         ∙ ap (λ (w : Bytes). followedBy (namedResult m t w) (defnResult m t (drop (k + 1) args))) (sym n)

@@ -325,7 +325,7 @@ module _ {a : Setting} {b : Memory} {m : Machine} {s : State} (r : Means a b m s
       (record {
         waiting = r .sinks .waiting;
         written = r .sinks .written;
-        current = sym (number-or-bits 0 1 args (v .value) (omega arith) (v .is)) ∙ ap signedValue (sym (v .by-bits));
+        current = sym (number-or-bits 0 1 args (omega arith) (v .value) (omega arith) (v .is)) ∙ ap signedValue (sym (v .by-bits));
       })
       refl refl refl)
       (divert-some args s (v .value) (v .is)) refl

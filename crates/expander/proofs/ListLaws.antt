@@ -16,7 +16,7 @@ use Rattle.expander.specs.declared.arguments.Arguments.{Arguments}
 use Rattle.expander.specs.Filled.{Filled}
 use Rattle.expander.specs.Packed.{startOf}
 use Rattle.expander.specs.Arguments.{ArgumentsIn, ShortQuotes}
-use Rattle.expander.proofs.ArgumentLaws.{arguments-counted}
+use Rattle.expander.proofs.ArgumentLaws.{arg-next, arguments-counted}
 use Rattle.expander.proofs.FilledLaws.{filled-long, filled-nothing, filled-then, filled-next, byte-fills}
 use Rattle.expander.proofs.Marks.{mark-length}
 use Rattle.expander.proofs.Packing.{joined-append, used-is, start-is, start-in}
@@ -151,10 +151,7 @@ leftFrom m gap k args = preceded gap (quotedEach m (drop k args))
 
 module _ (m : MarkTexts) (gap : ℕ) (args : List Bytes) (k : ℕ) where
   cut : k < length args → drop k args ≡ arg (k + 1) args ∷ drop (k + 1) args
-  unfolding arg
-  cut lt =
-      let e : k + 1 - 1 ≡ k = omega arith in
-      rw (e, add-one k) (drop-cons args k [] lt)
+  cut lt = rw (arg-next k args, add-one k) (drop-cons args k [] lt)
 
   list-first : k < length args → separated gap (quotedEach m (drop k args)) ≡ quoted m (arg (k + 1) args) ++ leftFrom m gap (k + 1) args
   unfolding quotedEach leftFrom

@@ -1,7 +1,7 @@
 -- Laws of the predefined macros by their numbers.
-use Prim.Native.Nat.{ℕ, suc, _-_, _≤_, _<_}
+use Prim.Native.Nat.{ℕ, zero, suc, _-_, _≤_, _<_}
 use native.Mathlib.Omega.{arith}
-use mathlib.Core.Path.{_≡_, sym, ap, subst}
+use mathlib.Core.Path.{_≡_, refl, sym, ap, subst}
 use mathlib.Core.List.{List}
 use lib.IntN.{ℤ}
 use lib.ListN.{length, getD, List·getD-eq-default}
@@ -45,16 +45,16 @@ sound-less {lent} {made} p h = sound-of (lent (p .sound .others)) (made (p .mach
 
 -- the macro of a number
 pub gives-at :
-    {a : Setting} {before b : Memory} {t : Turn} {k : ℕ} (n : ℕ) → k ≡ n → (args : List Bytes) (s : State) → Gives a before ((getD macros (n - 1) callNothing) args s) b t
+    {a : Setting} {before b : Memory} {t : Turn} {k : ℕ} (n : ℕ) → k ≡ n → (args : List Bytes) (s : State) → Gives a before (perform n args s) b t
     → Gives a before (perform k args s) b t
-unfolding perform
-gives-at n e args s g = gives-as (ap (λ (j : ℕ). (getD macros (j - 1) callNothing) args s) e) g
+gives-at n e args s g = gives-as (ap (λ (j : ℕ). perform j args s) e) g
 
 -- no macro has another number
-performed-none : {k : ℕ} → 24 < k → (args : List Bytes) (s : State) → perform k args s ≡ refused gone
+performed-none : (k : ℕ) → 24 < k → (args : List Bytes) (s : State) → perform k args s ≡ refused gone
 unfolding perform macros callNothing
-performed-none {k} h args s =
-    let l : length macros ≤ k - 1 = omega arith in
+performed-none zero h args s = refl
+performed-none (suc i) h args s =
+    let l : length macros ≤ i = omega (arith, h) in
     ap (λ (f : List Bytes → State → Outcome). f args s) (List·getD-eq-default macros callNothing l)
 
 over : {k : ℕ} (n : ℕ) → n < k → (k ≡ suc n → ⊥) → suc n < k
@@ -90,7 +90,7 @@ module _ {k : ℕ} (r : Resulting k) (h : Changing k) where
 
   pub gives-none :
       {a : Setting} {b : Memory} {m : Machine} {t : Turn} (args : List Bytes) (s : State) → t ≡ turned (went.Refused answer.Gone) m → Gives a b (perform k args s) b t
-  gives-none args s e = gives-as (performed-none past-all args s) (gives-gone e)
+  gives-none args s e = gives-as (performed-none k past-all args s) (gives-gone e)
 
 -- the number of the current stream
 pub shows-current : {x y : ℤ} {f : Figure} → x ≡ y → Shows (divnumResult y) f → Shows (divnumResult x) f

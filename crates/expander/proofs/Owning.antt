@@ -1,5 +1,5 @@
 -- Laws of the mask that says which predefined names keep their own meaning. Assumes nothing.
-use Prim.Native.Nat.{ℕ, _-_, _*_, _/_, _%_, _^_, _≤_}
+use Prim.Native.Nat.{ℕ, zero, suc, _-_, _*_, _/_, _%_, _^_, _≤_}
 use native.Mathlib.Nat.{one-mul, div-eq-of-lt}
 use native.Mathlib.Decide.{decLe}
 use native.Mathlib.Omega.{arith}
@@ -7,6 +7,7 @@ use mathlib.Core.Path.{_≡_, sym, ap, _∙_}
 use mathlib.Core.Bool.{Bool, true, false, cond}
 use mathlib.Core.List.{List}
 use mathlib.Core.Option.{Option, none, some}
+use lib.Dec.{eqb}
 use lib.Pow.{shl-exact}
 use borrow.Author.Tests.{eqb-true}
 use Rattle.rules.specs.Bytes.{Bytes}
@@ -28,6 +29,12 @@ module _ {w : Bytes} {r : ℕ} (h : HasNumber w r) (e : r ≡ 0) where
   pub lost-none : (own : ℕ) → own ≡ ownLost w own
   unfolding ownLost
   lost-none own = rw (no-number, ownLost)
+
+-- the bit of the n-th name
+pub keeps-at : (n own : ℕ) → 1 ≤ n → keepsOwn n own ≡ eqb (own / 2 ^ (n - 1) % 2) 1
+unfolding keepsOwn
+keeps-at zero own h = absurd (omega arith)
+keeps-at (suc i) own h = ap (λ (j : ℕ). eqb (own / 2 ^ j % 2) 1) (omega arith)
 
 -- a name with the number r; b says whether it keeps its own meaning
 module _ {w : Bytes} {r : ℕ} (h : HasNumber w r) (ne : r ≡ 0 → ⊥) (own : ℕ) {b : Bool} (k : b ≡ keepsOwn r own) where
@@ -51,14 +58,13 @@ module _ {w : Bytes} {r : ℕ} (h : HasNumber w r) (ne : r ≡ 0 → ⊥) (own :
   bit-is = shl-exact 1 (r - 1) 32 (omega arith) (omega (arith, h .most)) ∙ one-mul (2 ^ (r - 1))
 
   pub bit-in : b ≡ true → (1 * 2 ^ (r - 1)) % 2 ^ 32 ≤ own
-  unfolding keepsOwn
   bit-in t = rw bit-is (go (decLe (2 ^ (r - 1)) own))
     where
       go : Dec (2 ^ (r - 1) ≤ own) → 2 ^ (r - 1) ≤ own
       go (yes p) = p
       go (no f) =
           let z : own / 2 ^ (r - 1) ≡ 0 = div-eq-of-lt (omega arith) in
-          let o : own / 2 ^ (r - 1) % 2 ≡ 1 = eqb-true _ _ (sym k ∙ t) in
+          let o : own / 2 ^ (r - 1) % 2 ≡ 1 = eqb-true _ _ (sym (keeps-at r own (omega (arith, ne))) ∙ sym k ∙ t) in
           absurd (omega arith)
 
   pub lost-kept : b ≡ true → own - (1 * 2 ^ (r - 1)) % 2 ^ 32 ≡ ownLost w own

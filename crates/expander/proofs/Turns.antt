@@ -22,6 +22,7 @@ use Rattle.expander.specs.declared.arguments.Arguments.{Arguments}
 use Rattle.expander.specs.Arguments.{ArgumentsIn}
 use Rattle.expander.specs.Streams.{IsStream}
 use Rattle.expander.specs.Diverting.{orZero, streamOf, allNamed, streamsOf, turns}
+use Rattle.expander.proofs.ArgumentLaws.{arg-next}
 use Rattle.expander.proofs.ArgumentLaws.{few-arguments, reads-some, reads-none}
 
 -- ---- the streams that arguments name
@@ -81,20 +82,15 @@ all-first a more e q = let z : true ≡ false = sym e ∙ rest-unnamed a more q 
 all-rest : (a : Bytes) (more : List Bytes) → allNamed (a ∷ more) ≡ true → allNamed more ≡ true
 all-rest a more e = sym (rest-named a more (all-first a more e)) ∙ e
 
-one-less : (k : ℕ) → k + 1 - 1 ≡ k
-one-less k = omega arith
-
 module _ (args : List Bytes) (k : ℕ) (e : allNamed (drop k args) ≡ allNamed args) where
   pub named-on : k < length args → (streamOf (arg (k + 1) args) ≡ 0 → ⊥) → allNamed (drop (k + 1) args) ≡ allNamed args
-  unfolding arg
   named-on h f =
-      let g : streamOf (getD args k []) ≡ 0 → ⊥ = λ q. f (rw (one-less k) q) in
+      let g : streamOf (getD args k []) ≡ 0 → ⊥ = λ q. f (ap streamOf (arg-next k args) ∙ q) in
       rw (add-one k) (sym (rest-named (getD args k []) (drop (suc k) args) g) ∙ ap allNamed (sym (drop-cons args k [] h)) ∙ e)
 
   pub named-not : k < length args → streamOf (arg (k + 1) args) ≡ 0 → false ≡ allNamed args
-  unfolding arg
   named-not h q =
-      let g : streamOf (getD args k []) ≡ 0 = rw (one-less k) at q in
+      let g : streamOf (getD args k []) ≡ 0 = ap streamOf (sym (arg-next k args)) ∙ q in
       sym (rest-unnamed (getD args k []) (drop (suc k) args) g) ∙ ap allNamed (sym (drop-cons args k [] h)) ∙ e
 
   pub named-all : length args ≤ k → true ≡ allNamed args
@@ -172,9 +168,9 @@ turn-none [] k e h = sym (nine-at k h)
 turn-none (a ∷ more) k e h = absurd (omega arith)
 
 pub turn-some : (args : List Bytes) (k : ℕ) → (length args ≡ 0 → ⊥) → k < length (turns args) → streamOf (arg (k + 1) args) ≡ getD (turns args) k 0
-unfolding turns arg
+unfolding turns
 turn-some [] k f h = absurd (f refl)
-turn-some (a ∷ more) k f h = rw (one-less k) (sym (streams-at (a ∷ more) k (omega (arith, streams-long (a ∷ more)))))
+turn-some (a ∷ more) k f h = ap streamOf (arg-next k (a ∷ more)) ∙ (sym (streams-at (a ∷ more) k (omega (arith, streams-long (a ∷ more)))))
 
 pub turn-each : (args : List Bytes) → allNamed args ≡ true → (k : ℕ) → k < length (turns args) → IsStream (getD (turns args) k 0)
 unfolding turns

@@ -1,16 +1,60 @@
--- Demand 3 over the contract of `expand`: room never shapes text. Two calls on one text, whatever their buffers held.
+-- Demand 3 of `expand` itself: room never shapes text. It is stated over `Learnt`, which is what a caller learns of a call from the proved
+-- contract of `expand`: a weaker contract breaks it.
 use Prim.Native.Nat.{ℕ}
-use Rattle.rules.specs.declared.Report.{Report}
+use mathlib.Core.Path.{_≡_, subst}
+use borrow.Fn.World.{ArgsD, ResD}
+use borrow.Fn.Kinds.{endedOf}
+use contract.Lifetimes.{Lfts}
+use denote.Ref.{now}
+use denote.Triple.Clauses.{AtExit}
 use Rattle.rules.specs.Bytes.{Bytes}
 use Rattle.rules.specs.Room.{Lendable, NowhereSmaller}
 use Rattle.rules.specs.Contract.{Buffers, settingOf, Expanded, Agree}
 use Rattle.rules.proofs.Contract.{calls-agree}
+use Rattle.expander.proofs.expand.{signature}
+use Rattle.expander.proofs.expand.Kinds as kinds
+use Rattle.expander.proofs.expand.Reads.{Learnt}
 
--- the letter's three sentences, as one statement: `first` and `second` are what `expand` promises of the two calls; under the second
--- setting nothing is smaller, and none of its lengths is above 65,536 bytes
+-- the arguments of a call, and what was lent when it returns
+abbrev Arguments : Lfts 8 → Type 0
+Arguments κs = ArgsD signature κs
+
+abbrev Lasting : Lfts 8 → Type 0
+Lasting κs = AtExit (endedOf 8 kinds.ps kinds.r) κs
+
+abbrev seven : Bytes → Bytes → Bytes → Bytes → Bytes → Bytes → Bytes → Buffers
+seven pending calls definitions streams wrap errors output =
+    record { pending = pending; calls = calls; definitions = definitions; streams = streams; wrap = wrap; errors = errors; output = output }
+
+-- text, budget and buffers of a call, and the buffers after it
+module _ (κs : Lfts 8) where
+  abbrev pub textOf : Arguments κs → Bytes
+  textOf a = now (a .0)
+
+  abbrev pub budgetOf : Arguments κs → ℕ
+  budgetOf a = a .1 .1 .1 .1 .1 .1 .1 .1 .0
+
+  abbrev pub lentTo : Arguments κs → Buffers
+  lentTo a =
+      seven (now (a .1 .0)) (now (a .1 .1 .0)) (now (a .1 .1 .1 .0)) (now (a .1 .1 .1 .1 .0)) (now (a .1 .1 .1 .1 .1 .0)) (now (a .1 .1 .1 .1 .1 .1 .0))
+      (now (a .1 .1 .1 .1 .1 .1 .1 .0))
+
+  abbrev pub leftFrom : Lasting κs → Buffers
+  leftFrom x =
+      seven (now (x .1 .0)) (now (x .1 .1 .0)) (now (x .1 .1 .1 .0)) (now (x .1 .1 .1 .1 .0)) (now (x .1 .1 .1 .1 .1 .0)) (now (x .1 .1 .1 .1 .1 .1 .0))
+      (now (x .1 .1 .1 .1 .1 .1 .1 .0))
+
+-- what a caller learns is `Expanded`
+pub of-expand : (κs : Lfts 8) (a : Arguments κs) (r : ResD signature κs) (x : Lasting κs) → Learnt κs a r x → Expanded (textOf κs a) (budgetOf κs a) (lentTo κs a) (leftFrom κs x) r
+of-expand κs a r x h = h
+
+-- the letter's three sentences, as one statement about two calls of `expand` on one text, whatever their buffers held: in the second
+-- nothing is smaller, and none of its lengths is above 65,536 bytes
 pub room-never-shapes-calls :
-    {text : Bytes} {n m : ℕ} {before after before′ after′ : Buffers} {r t : Report} (first : Expanded text n before after r)
-    (second : Expanded text m before′ after′ t) → Lendable (settingOf before′ m) → NowhereSmaller (settingOf before n) (settingOf before′ m)
-    → Agree (settingOf before n) (settingOf before′ m) r t after after′
-room-never-shapes-calls {text} {n} {m} {before} {after} {before′} {after′} {r} {t} first second lendable wider =
-    calls-agree text n m before after before′ after′ r t lendable wider first second
+    (κs κs′ : Lfts 8) (a : Arguments κs) (a′ : Arguments κs′) (r : ResD signature κs) (r′ : ResD signature κs′) (x : Lasting κs) (x′ : Lasting κs′)
+    → Learnt κs a r x → Learnt κs′ a′ r′ x′ → textOf κs′ a′ ≡ textOf κs a → Lendable (settingOf (lentTo κs′ a′) (budgetOf κs′ a′))
+    → NowhereSmaller (settingOf (lentTo κs a) (budgetOf κs a)) (settingOf (lentTo κs′ a′) (budgetOf κs′ a′))
+    → Agree (settingOf (lentTo κs a) (budgetOf κs a)) (settingOf (lentTo κs′ a′) (budgetOf κs′ a′)) r r′ (leftFrom κs x) (leftFrom κs′ x′)
+room-never-shapes-calls κs κs′ a a′ r r′ x x′ first second same lendable wider =
+    calls-agree (textOf κs a) (budgetOf κs a) (budgetOf κs′ a′) (lentTo κs a) (leftFrom κs x) (lentTo κs′ a′) (leftFrom κs′ x′) r r′ lendable wider (of-expand κs a r x first)
+    (subst (λ (t : Bytes). Expanded t (budgetOf κs′ a′) (lentTo κs′ a′) (leftFrom κs′ x′) r′) same (of-expand κs′ a′ r′ x′ second))

@@ -46,8 +46,11 @@ unfoldable pub isFinished : Answer → Bool
 isFinished a = leb (answerNumber a) 1
 
 -- room or spent: what more room or budget might have let go on
+abbrev pub isStoppedNumber : ℕ → Bool
+isStoppedNumber n = eqb n 3 || eqb n 4
+
 unfoldable pub isStopped : Answer → Bool
-isStopped a = eqb (answerNumber a) 3 || eqb (answerNumber a) 4
+isStopped a = isStoppedNumber (answerNumber a)
 
 -- 01 "The numbers of an answer": number, detail, completed steps and place, and the counts of output and error bytes
 unfoldable pub numbers : Report → List ℕ

@@ -27,7 +27,7 @@ returns-2 c =
     let a = s .args in
     λ args h.
     c .decimal-argument .ensures args h
-    ∙ ap decimalOf (sym (or-there (a .default) (a .n) args (omega (arith, c .before .before .count .ensures (a .bytes .now) (a .ends .now) args h, c .before .if1 .left, s .pre .1))))
+    ∙ ap decimalOf (sym (or-there (a .default) (a .n) args (s .pre .1) (omega (arith, c .before .before .count .ensures (a .bytes .now) (a .ends .now) args h, c .before .if1 .left, s .pre .1))))
 
 pub decimal-or-spec : {M : Type 1} → statement M
 decimal-or-spec = tie.close (tie.spec count-requires returns decimal-argument-requires returns-2)

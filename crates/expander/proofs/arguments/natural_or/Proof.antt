@@ -21,7 +21,7 @@ returns c =
     λ args h.
     c .within .ensures
     ∙ ap (bitsWithin (a .low) (a .high)) (c .before .decimal-or .ensures args h)
-    ∙ within-bits (a .low) (a .high) (numberOr (pos (a .default)) (a .n) args) (s .pre .4) (λ z. number-or-range (a .default) (a .n) args z (s .pre .3))
+    ∙ within-bits (a .low) (a .high) (numberOr (pos (a .default)) (a .n) args) (s .pre .4) (λ z. number-or-range (a .default) (a .n) args (s .pre .1) z (s .pre .3))
 
 pub natural-or-spec : {M : Type 1} → statement M
 natural-or-spec = tie.close (tie.spec decimal-or-requires within-requires returns)

@@ -22,7 +22,7 @@ start-requires-2 c κs = search needs
 returns : tie.Need-returns
 returns c =
     let a = c .before .before .before .before .before .before .args in
-    λ bytes args h. span-there h (a .n) (c .before .start .result) (c .start2 .result) (c .before .before .if1 .taken) (c .before .start .ensures) (c .start2 .ensures)
+    λ bytes args h. span-there h (a .n) (c .before .start .result) (c .start2 .result) (c .before .before .before .before .before .before .pre .1) (c .before .before .if1 .taken) (c .before .start .ensures) (c .start2 .ensures)
 
 returns-2 : tie.Need-returns-2
 returns-2 c =

@@ -53,7 +53,8 @@ returns-2 c =
     let t = m .before .before .before .before in
     let a = t .before .before .before .args in
     λ args h.
-    no-count args (m .from .given .0 .0) (m .before .before .natural-argument .ensures args h) (m .from .given .1) (span-long (t .place-of .ensures (a .bytes .now) args h)) (c .before .before .natural-or .ensures args h) (a .bytes .now) (c .enum-told2 .given .1)
+    let p = t .place-of .ensures (a .bytes .now) args h in
+    no-count args (m .from .given .0 .0) (m .before .before .natural-argument .ensures args h) (m .from .given .1) (span-long p) (omega (arith, p .inside, h .short)) (c .before .before .natural-or .ensures args h) (a .bytes .now) (c .enum-told2 .given .1)
 
 cast-part-of : tie.Need-cast-part-of
 cast-part-of c = search needs
@@ -76,7 +77,7 @@ returns-3 c =
     λ args h.
     let p = t .place-of .ensures (a .bytes .now) args h in
     cuts-same
-    (start-and-count args (m .from .given .0 .0) (m .before .before .natural-argument .ensures args h) (m .from .given .1) (span-long p) (n .before .before .natural-or .ensures args h) (n .count .given .0 .0) (n .count .given .1))
+    (start-and-count args (m .from .given .0 .0) (m .before .before .natural-argument .ensures args h) (m .from .given .1) (span-long p) (omega (arith, p .inside, h .short)) (n .before .before .natural-or .ensures args h) (n .count .given .0 .0) (n .count .given .1))
     (c .part-of .ensures (a .bytes .now) (arg 1 args) p)
 
 pub substr-spec : {M : Type 1} → statement M

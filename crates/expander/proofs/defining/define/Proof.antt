@@ -37,7 +37,7 @@ size-defined-requires c κs =
     let h = s .1 .holds in
     let w = k .before .before .before .argument .ensures (s .1 .args) h in
     let x = k .before .before .argument2 .ensures (s .1 .args) h in
-    (sound (s .0 .means .table .holds), (c .before .before .newest .ensures, omega (arith, ap length w, ap length x, argument-short h 1, argument-short h 2)))
+    (sound (s .0 .means .table .holds), (c .before .before .newest .ensures, omega (arith, ap length w, ap length x, argument-short h 1 (omega arith), argument-short h 2 (omega arith))))
 
 refused-requires-2 : tie.Need-refused-requires-2
 refused-requires-2 c κs = search needs

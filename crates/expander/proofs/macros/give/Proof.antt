@@ -1,7 +1,7 @@
 -- `expander::macros::give` meets its contract. Assumes nothing.
 use mathlib.Core.Path.{refl}
 use Rattle.rules.specs.Results.{decrResult, evalResult, ifdefResult, ifelseResult, incrResult, lenResult, substrResult}
-use Rattle.rules.specs.Macros.{macros, callDecr, callEval, callIfdef, callIfelse, callIncr, callLen, callSubstr}
+use Rattle.rules.specs.Macros.{perform, macros, callDecr, callEval, callIfdef, callIfelse, callIncr, callLen, callSubstr}
 use Rattle.expander.specs.declared.machine.Machine.{Machine}
 use Rattle.expander.specs.Giving.{givenTurn}
 use Rattle.expander.specs.Machine.{Memory, pendingAt, stringsAt, definitionsAt, sourceSet, marksSet, tableSet}
@@ -93,7 +93,7 @@ same-length : tie.Need-same-length
 same-length c = search needs
 
 returns : tie.Need-returns
-unfolding macros callDecr
+unfolding perform macros callDecr
 returns c =
     let q = c .before .before .before .before .before .before .before .before .before .before .before in
     λ a s b m args r x.
@@ -103,7 +103,7 @@ same-length-2 : tie.Need-same-length-2
 same-length-2 c = search needs
 
 returns-2 : tie.Need-returns-2
-unfolding macros
+unfolding perform macros
 returns-2 c =
     let q = c .before .before .before .before .before .before .before .before .before .before in
     λ a s b m args r x. gives-at 5 (c .before .before .before .before .match .keys2) args s (c .before .before .give-defn .ensures a s (lent q b) (made q m) args r x)
@@ -112,7 +112,7 @@ same-length-3 : tie.Need-same-length-3
 same-length-3 c = search needs
 
 returns-3 : tie.Need-returns-3
-unfolding macros callEval
+unfolding perform macros callEval
 returns-3 c =
     let q = c .before .before .before .before .before .before .before .before .before .before .before in
     λ a s b m args r x.
@@ -122,7 +122,7 @@ same-length-4 : tie.Need-same-length-4
 same-length-4 c = search needs
 
 returns-4 : tie.Need-returns-4
-unfolding macros callIfdef
+unfolding perform macros callIfdef
 returns-4 c =
     let q = c .before .before .before .before .before .before .before .before .before .before .before in
     λ a s b m args r x.
@@ -132,7 +132,7 @@ same-length-5 : tie.Need-same-length-5
 same-length-5 c = search needs
 
 returns-5 : tie.Need-returns-5
-unfolding macros callIfelse
+unfolding perform macros callIfelse
 returns-5 c =
     let q = c .before .before .before .before .before .before .before .before .before .before .before in
     λ a s b m args r x.
@@ -142,7 +142,7 @@ same-length-6 : tie.Need-same-length-6
 same-length-6 c = search needs
 
 returns-6 : tie.Need-returns-6
-unfolding macros callIncr
+unfolding perform macros callIncr
 returns-6 c =
     let q = c .before .before .before .before .before .before .before .before .before .before .before in
     λ a s b m args r x.
@@ -152,7 +152,7 @@ same-length-7 : tie.Need-same-length-7
 same-length-7 c = search needs
 
 returns-7 : tie.Need-returns-7
-unfolding macros callLen
+unfolding perform macros callLen
 returns-7 c =
     let q = c .before .before .before .before .before .before .before .before .before .before .before in
     λ a s b m args r x.
@@ -162,7 +162,7 @@ same-length-8 : tie.Need-same-length-8
 same-length-8 c = search needs
 
 returns-8 : tie.Need-returns-8
-unfolding macros
+unfolding perform macros
 returns-8 c =
     let q = c .before .before .before .before .before .before .before .before .before .before in
     λ a s b m args r x. gives-at 20 (c .before .before .before .before .match .keys8) args s (c .before .before .give-shift .ensures a s (lent q b) (made q m) args r x)
@@ -171,7 +171,7 @@ same-length-9 : tie.Need-same-length-9
 same-length-9 c = search needs
 
 returns-9 : tie.Need-returns-9
-unfolding macros callSubstr
+unfolding perform macros callSubstr
 returns-9 c =
     let q = c .before .before .before .before .before .before .before .before .before .before .before in
     λ a s b m args r x.
@@ -181,7 +181,7 @@ same-length-10 : tie.Need-same-length-10
 same-length-10 c = search needs
 
 returns-10 : tie.Need-returns-10
-unfolding macros
+unfolding perform macros
 returns-10 c =
     let q = c .before .before .before .before .before .before .before .before .before .before in
     λ a s b m args r x. gives-at 22 (c .before .before .before .before .match .keys10) args s (c .before .before .give-translit .ensures a s (lent q b) (made q m) args r x)

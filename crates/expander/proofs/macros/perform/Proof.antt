@@ -1,6 +1,6 @@
 -- `expander::macros::perform` meets its contract. Assumes nothing.
 use Rattle.rules.specs.Results.{divnumResult}
-use Rattle.rules.specs.Macros.{macros, callDivnum}
+use Rattle.rules.specs.Macros.{perform, macros, callDivnum}
 use Rattle.expander.specs.Macros.{Resulting, Changing, SortIs}
 use Rattle.expander.specs.Machine.{Memory, textAt, pendingAt, stringsAt, definitionsAt, sinksAt, wrapAt, errorsAt}
 use Rattle.expander.proofs.GivingLaws.{gives-given}
@@ -96,11 +96,11 @@ refused-requires : tie.Need-refused-requires
 refused-requires c κs = search needs
 
 returns : tie.Need-returns
-unfolding macros
+unfolding perform macros
 returns c = λ a s b args m x. gives-at 1 (c .before .match .keys1) args s (c .changecom .ensures a s (lent (c .before .before .before .before .before .before .before .before .before .before .before .before .before .before) b) args m x)
 
 returns-2 : tie.Need-returns-2
-unfolding macros
+unfolding perform macros
 returns-2 c = λ a s b args m x. gives-at 2 (c .before .match .keys2) args s (c .changequote .ensures a s (lent (c .before .before .before .before .before .before .before .before .before .before .before .before .before .before) b) args m x)
 
 same-length : tie.Need-same-length
@@ -110,36 +110,36 @@ same-length-2 : tie.Need-same-length-2
 same-length-2 c = search needs
 
 returns-3 : tie.Need-returns-3
-unfolding macros
+unfolding perform macros
 returns-3 c = λ a s b args m x. gives-at 4 (c .before .before .before .before .before .before .before .match .keys3) args s (c .before .before .before .before .define .ensures a s (lent (c .before .before .before .before .before .before .before .before .before .before .before .before .before .before .before .before .before .before .before .before) b) args m x)
 
 returns-4 : tie.Need-returns-4
-unfolding macros
+unfolding perform macros
 returns-4 c = λ a s b args m x. gives-at 6 (c .before .match .keys4) args s (c .divert .ensures a s (lent (c .before .before .before .before .before .before .before .before .before .before .before .before .before .before) b) args m x)
 
 same-length-3 : tie.Need-same-length-3
 same-length-3 c = search needs
 
 returns-5 : tie.Need-returns-5
-unfolding macros
+unfolding perform macros
 returns-5 c = λ a s b args m x. gives-at 8 (c .before .before .match .keys5) args s (c .dnl .ensures a s (lent (c .before .before .before .before .before .before .before .before .before .before .before .before .before .before .before) b) args m)
 
 same-length-4 : tie.Need-same-length-4
 same-length-4 c = search needs
 
 returns-6 : tie.Need-returns-6
-unfolding macros
+unfolding perform macros
 returns-6 c = λ a s b args m x. gives-at 9 (c .before .before .before .before .match .keys6) args s (c .before .before .errprint .ensures a s (lent (c .before .before .before .before .before .before .before .before .before .before .before .before .before .before .before .before .before) b) args m x)
 
 returns-7 : tie.Need-returns-7
-unfolding macros
+unfolding perform macros
 returns-7 c = λ a s b args m x. gives-at 16 (c .before .match .keys7) args s (c .m4exit .ensures a s (lent (c .before .before .before .before .before .before .before .before .before .before .before .before .before .before) b) args m x)
 
 same-length-5 : tie.Need-same-length-5
 same-length-5 c = search needs
 
 returns-8 : tie.Need-returns-8
-unfolding macros
+unfolding perform macros
 returns-8 c = λ a s b args m x. gives-at 17 (c .before .before .before .before .match .keys8) args s (c .before .before .m4wrap .ensures a s (lent (c .before .before .before .before .before .before .before .before .before .before .before .before .before .before .before .before .before) b) args m x)
 
 same-length-6 : tie.Need-same-length-6
@@ -149,7 +149,7 @@ same-length-7 : tie.Need-same-length-7
 same-length-7 c = search needs
 
 returns-9 : tie.Need-returns-9
-unfolding macros
+unfolding perform macros
 returns-9 c = λ a s b args m x. gives-at 18 (c .before .before .before .before .before .before .before .match .keys9) args s (c .before .before .before .before .popdef .ensures a s (lent (c .before .before .before .before .before .before .before .before .before .before .before .before .before .before .before .before .before .before .before .before) b) args m x)
 
 same-length-8 : tie.Need-same-length-8
@@ -159,7 +159,7 @@ same-length-9 : tie.Need-same-length-9
 same-length-9 c = search needs
 
 returns-10 : tie.Need-returns-10
-unfolding macros
+unfolding perform macros
 returns-10 c = λ a s b args m x. gives-at 19 (c .before .before .before .before .before .before .before .match .keys10) args s (c .before .before .before .before .pushdef .ensures a s (lent (c .before .before .before .before .before .before .before .before .before .before .before .before .before .before .before .before .before .before .before .before) b) args m x)
 
 same-length-10 : tie.Need-same-length-10
@@ -169,7 +169,7 @@ same-length-11 : tie.Need-same-length-11
 same-length-11 c = search needs
 
 returns-11 : tie.Need-returns-11
-unfolding macros
+unfolding perform macros
 returns-11 c = λ a s b args m x. gives-at 23 (c .before .before .before .before .before .before .before .match .keys11) args s (c .before .before .before .before .undefine .ensures a s (lent (c .before .before .before .before .before .before .before .before .before .before .before .before .before .before .before .before .before .before .before .before) b) args m x)
 
 same-length-12 : tie.Need-same-length-12
@@ -185,14 +185,14 @@ same-length-15 : tie.Need-same-length-15
 same-length-15 c = search needs
 
 returns-12 : tie.Need-returns-12
-unfolding macros
+unfolding perform macros
 returns-12 c = λ a s b args m x. gives-at 24 (c .before .before .before .before .before .before .before .before .before .before .before .before .before .match .keys12) args s (c .before .before .before .before .before .before .before .before .undivert .ensures a s (lent (c .before .before .before .before .before .before .before .before .before .before .before .before .before .before .before .before .before .before .before .before .before .before .before .before .before .before) b) args m x)
 
 same-length-16 : tie.Need-same-length-16
 same-length-16 c = search needs
 
 returns-13 : tie.Need-returns-13
-unfolding macros callDivnum
+unfolding perform macros callDivnum
 returns-13 c =
     let p = c .before .before .before .before .before .before .before .before .before .before .before .before .before .before .before .before .before .before .before in
     λ a s b args m x.

@@ -1,7 +1,7 @@
 -- `expander::macros::search` meets its contract. Assumes nothing.
 use mathlib.Core.Path.{refl}
 use Rattle.rules.specs.Results.{indexResult}
-use Rattle.rules.specs.Macros.{macros, callIndex}
+use Rattle.rules.specs.Macros.{perform, macros, callIndex}
 use Rattle.expander.specs.Machine.{stringsAt}
 use Rattle.expander.proofs.MacroLaws.{gives-at, sound-less}
 use borrow.Author.Needs.{needs}
@@ -18,7 +18,7 @@ same-length : tie.Need-same-length
 same-length c = search needs
 
 returns : tie.Need-returns
-unfolding macros callIndex
+unfolding perform macros callIndex
 returns c =
     let q = c .before .before .before .before .before .before .before .before .args in
     λ a s b m args r x.

@@ -1,6 +1,6 @@
 -- `expander::table::keeps_own` meets its contract. Assumes nothing.
-use mathlib.Core.Path.{refl}
-use Rattle.rules.specs.Table.{keepsOwn}
+use mathlib.Core.Path.{sym}
+use Rattle.expander.proofs.Owning.{keeps-at}
 use borrow.Author.Needs.{needs}
 use Rattle.expander.proofs.table.keeps_own.Statement.{statement}
 use Rattle.expander.proofs.table.keeps_own.Tie as tie
@@ -15,8 +15,7 @@ shr-result : tie.Need-shr-result
 shr-result c = search needs
 
 returns : tie.Need-returns
-unfolding keepsOwn
-returns c = refl
+returns c = sym (keeps-at (c .args .k) (c .args .own) (c .pre .0))
 
 pub keeps-own-spec : {M : Type 1} → statement M
 keeps-own-spec = tie.close (tie.spec sub-bit cast-result shr-result returns)
