@@ -1,7 +1,7 @@
 -- Laws of changes to a table and to the strings that it is. Assumes nothing.
 use Prim.Native.Nat.{ℕ, zero, suc, _+_, _*_, _≤_, _<_}
 use native.Mathlib.Omega.{arith}
-use mathlib.Core.Path.{_≡_, refl, sym, ap, _∙_}
+use mathlib.Core.Path.{_≡_, refl, sym, ap, subst, _∙_}
 use mathlib.Core.Bool.{Bool, true, false}
 use mathlib.Core.List.{List, [], _∷_, _++_, append-assoc}
 use mathlib.Core.Option.{Option, none, some}
@@ -222,10 +222,12 @@ module _ {bytes : Bytes} {ends : List ℕ} {p : Packed} {own : ℕ} {t : Table} 
   unfolding popped placeOf
   popped-own e f = rw (e, f, popped) own-less
 
-  pub defined-own : {bytes′ : Bytes} {ends′ : List ℕ} {r : Packed} (x : Bytes) → newestPlace w (t .definitions) ≡ placeOf found.Nowhere → {lost : ℕ} → lost ≡ ownLost w own
-      → ((o : ℕ) (u : Table) → TableIn bytes ends p o u → TableIn bytes′ ends′ r o (pushed w (text x) u)) → TableIn bytes′ ends′ r lost (defined w (text x) t)
+  pub defined-own : {bytes′ : Bytes} {ends′ : List ℕ} {r : Packed} {o : ℕ} (x : Bytes) → newestPlace w (t .definitions) ≡ placeOf found.Nowhere → {lost : ℕ} → lost ≡ ownLost w own
+      → ((u : Table) → TableIn bytes ends p lost u → TableIn bytes′ ends′ r o (pushed w (text x) u)) → TableIn bytes′ ends′ r o (defined w (text x) t)
   unfolding defined placeOf
-  defined-own x e f push = rw (e, f, defined) (push (ownLost w own) _ own-less)
+  defined-own x e f push =
+      let u : Table = record { definitions = t .definitions; own = ownLost w (t .own) } in
+      rw (e, defined) (push u (subst (λ (n : ℕ). TableIn bytes ends p n u) (sym f) own-less))
 
 -- what the definitions cost once a name means another text
 module _ {bytes : Bytes} {ends : List ℕ} {p : Packed} (t : Table) (h : DefinitionsIn bytes ends p (t .definitions)) (w x : Bytes) where

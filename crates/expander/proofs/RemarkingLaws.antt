@@ -168,18 +168,13 @@ module _ (args : List Bytes) (s : State) {b e : Bytes} (f : b ≡ arg 1 args) (g
 module _ {a : Setting} {b : Memory} {m m′ : Machine} {s : State} {t : Turn} (r : Means a b m s) (args : List Bytes) (h : length args ≡ 0) {x : Marks} (k : m′ ≡ marksSet x m) (f : t ≡ turned went.On m′) where
   -- comments are turned off
   pub changecom-none :
-      (none : Mark) → markText none ≡ [] → none .len ≡ 0 → markTexts x ≡ withComments (markText none) (markText (m .marks .«end_comment»)) (markTexts (m .marks))
-      → (GoodMarks (m .marks) → none .len ≤ 5 → FullMark (m .marks .«end_comment») → GoodMarks x) → Gives a b (callChangecom args s) b t
+      markTexts x ≡ withComments [] (markText (m .marks .«end_comment»)) (markTexts (m .marks)) → (GoodMarks (m .marks) → GoodMarks x) → Gives a b (callChangecom args s) b t
   unfolding markTexts
-  changecom-none none n l e g =
-      remarked (withComments [] (s .marks .endComment) (s .marks)) r (changecom-is args s ∙ by-none (commentsOff s) (commenting s) args h)
-      (e ∙ rw (n, r .marks)) (g (r .marks-good) (omega (arith, l)) (r .marks-good .endComment)) k f
+  changecom-none e g =
+      remarked (withComments [] (s .marks .endComment) (s .marks)) r (changecom-is args s ∙ by-none (commentsOff s) (commenting s) args h) (e ∙ rw (r .marks)) (g (r .marks-good)) k f
 
   -- the quote marks are the default ones
   pub changequote-none :
-      {fresh : Marks} → markTexts fresh ≡ defaultMarks → GoodMarks fresh → markTexts x ≡ withQuotes (markText (fresh .«begin_quote»)) (markText (fresh .«end_quote»)) (markTexts (m .marks))
-      → (GoodMarks (m .marks) → FullMark (fresh .«begin_quote») → FullMark (fresh .«end_quote») → GoodMarks x) → Gives a b (callChangequote args s) b t
-  unfolding markTexts
-  changequote-none d q e g =
-      remarked (withQuotes (defaultMarks .beginQuote) (defaultMarks .endQuote) (s .marks)) r (changequote-is args s ∙ by-none (plainQuotes s) (quoting s) args h)
-      (e ∙ ap (λ (z : MarkTexts). withQuotes (z .beginQuote) (z .endQuote) (markTexts (m .marks))) d ∙ rw (r .marks)) (g (r .marks-good) (q .beginQuote) (q .endQuote)) k f
+      markTexts x ≡ withQuotes (defaultMarks .beginQuote) (defaultMarks .endQuote) (markTexts (m .marks)) → (GoodMarks (m .marks) → GoodMarks x) → Gives a b (callChangequote args s) b t
+  changequote-none e g =
+      remarked (withQuotes (defaultMarks .beginQuote) (defaultMarks .endQuote) (s .marks)) r (changequote-is args s ∙ by-none (plainQuotes s) (quoting s) args h) (e ∙ rw (r .marks)) (g (r .marks-good)) k f

@@ -17,69 +17,84 @@ pub(crate) struct Calls {
     pub(crate) opens: usize,
 }
 
-// A call is opened whose name, n bytes, was written behind the strings.
-pub(crate) fn opened(ends: &mut [u32], stack: &mut [u32], x: Calls, n: usize) -> Calls
-    requires { ⌜ SomeCalls (now ends) (now stack) x × (x .opens < 64) × (x .strings .count < x .opens + 256) × (n ≤ 65536) ⌝ }
-    ensures { λ r. ⌜ ((bytes after name : Bytes) (cs : List Call) → CallsIn bytes (now (ends .entry)) (now (stack .entry)) x cs → length name ≡ n → Filled bytes (x .strings .used) name after → CallsIn after (now (ends .exit)) (now (stack .exit)) r (openCall name ∷ cs)) ⌝ }
-{
-    let count = x.strings.count;
-    let opens = x.opens;
-    let used = x.strings.used + n;
-    ends[count] = used as u32;
-    ends[count + 1] = used as u32;
-    let top = 3 * opens;
-    stack[top] = count as u32;
-    stack[top + 1] = 0;
-    stack[top + 2] = 0;
-    let strings = Packed {
-        count: count + 2,
-        used,
-    };
-    Calls {
-        strings,
-        opens: opens + 1,
+impl Calls {
+    // A call is opened whose name, n bytes, was written behind the strings.
+    pub(crate) fn opened(self, ends: &mut [u32], stack: &mut [u32], n: usize) -> Calls
+        requires { ⌜ SomeCalls (now ends) (now stack) self × (self .opens < 64) × (self .strings .count < self .opens + 256) × (n ≤ 65536) ⌝ }
+        ensures { λ r. ⌜ ((bytes after name : Bytes) (cs : List Call) → CallsIn bytes (now (ends .entry)) (now (stack .entry)) self cs → length name ≡ n → Filled bytes (self .strings .used) name after → CallsIn after (now (ends .exit)) (now (stack .exit)) r (openCall name ∷ cs)) ⌝ }
+    {
+        let count = self.strings.count;
+        let opens = self.opens;
+        let used = self.strings.used + n;
+        ends[count] = used as u32;
+        ends[count + 1] = used as u32;
+        let top = 3 * opens;
+        stack[top] = count as u32;
+        stack[top + 1] = 0;
+        stack[top + 2] = 0;
+        let strings = Packed {
+            count: count + 2,
+            used,
+        };
+        Calls {
+            strings,
+            opens: opens + 1,
+        }
     }
-}
 
-// n bytes that were written behind the strings belong to the argument being collected, whose depth is now `depth`.
-pub(crate) fn collected(
-    ends: &mut [u32],
-    stack: &mut [u32],
-    x: Calls,
-    n: usize,
-    depth: u32,
-) -> Calls
-    requires { ⌜ SomeCalls (now ends) (now stack) x × (0 < x .opens) × (n ≤ 65536) ⌝ }
-    ensures { λ r. ⌜ ((bytes after w : Bytes) (c : Call) (cs : List Call) → CallsIn bytes (now (ends .entry)) (now (stack .entry)) x (c ∷ cs) → length w ≡ n → Filled bytes (x .strings .used) w after → depth ≤ length (c .current) + n → CallsIn after (now (ends .exit)) (now (stack .exit)) r (collecting w depth c ∷ cs)) ⌝ }
-{
-    let count = x.strings.count;
-    let opens = x.opens;
-    let used = x.strings.used + n;
-    ends[count - 1] = used as u32;
-    let top = 3 * (opens - 1);
-    stack[top + 1] = depth;
-    stack[top + 2] = 1;
-    let strings = Packed { count, used };
-    Calls { strings, opens }
-}
+    // n bytes that were written behind the strings belong to the argument being collected, whose depth is now `depth`.
+    pub(crate) fn collected(
+        self,
+        ends: &mut [u32],
+        stack: &mut [u32],
+        n: usize,
+        depth: u32,
+    ) -> Calls
+        requires { ⌜ SomeCalls (now ends) (now stack) self × (0 < self .opens) × (n ≤ 65536) ⌝ }
+        ensures { λ r. ⌜ ((bytes after w : Bytes) (c : Call) (cs : List Call) → CallsIn bytes (now (ends .entry)) (now (stack .entry)) self (c ∷ cs) → length w ≡ n → Filled bytes (self .strings .used) w after → depth ≤ length (c .current) + n → CallsIn after (now (ends .exit)) (now (stack .exit)) r (collecting w depth c ∷ cs)) ⌝ }
+    {
+        let count = self.strings.count;
+        let opens = self.opens;
+        let used = self.strings.used + n;
+        ends[count - 1] = used as u32;
+        let top = 3 * (opens - 1);
+        stack[top + 1] = depth;
+        stack[top + 2] = 1;
+        let strings = Packed { count, used };
+        Calls { strings, opens }
+    }
 
-// The next argument begins.
-pub(crate) fn separated(ends: &mut [u32], stack: &mut [u32], x: Calls) -> Calls
-    requires { ⌜ SomeCalls (now ends) (now stack) x × (0 < x .opens) × (x .strings .count < x .opens + 256) ⌝ }
-    ensures { λ r. ⌜ ((bytes : Bytes) (c : Call) (cs : List Call) → CallsIn bytes (now (ends .entry)) (now (stack .entry)) x (c ∷ cs) → CallsIn bytes (now (ends .exit)) (now (stack .exit)) r (nextArgument c ∷ cs)) ⌝ }
-{
-    let count = x.strings.count;
-    let used = x.strings.used;
-    let opens = x.opens;
-    ends[count] = used as u32;
-    let top = 3 * (opens - 1);
-    stack[top + 1] = 0;
-    stack[top + 2] = 0;
-    let strings = Packed {
-        count: count + 1,
-        used,
-    };
-    Calls { strings, opens }
+    // The next argument begins.
+    pub(crate) fn separated(self, ends: &mut [u32], stack: &mut [u32]) -> Calls
+        requires { ⌜ SomeCalls (now ends) (now stack) self × (0 < self .opens) × (self .strings .count < self .opens + 256) ⌝ }
+        ensures { λ r. ⌜ ((bytes : Bytes) (c : Call) (cs : List Call) → CallsIn bytes (now (ends .entry)) (now (stack .entry)) self (c ∷ cs) → CallsIn bytes (now (ends .exit)) (now (stack .exit)) r (nextArgument c ∷ cs)) ⌝ }
+    {
+        let count = self.strings.count;
+        let used = self.strings.used;
+        let opens = self.opens;
+        ends[count] = used as u32;
+        let top = 3 * (opens - 1);
+        stack[top + 1] = 0;
+        stack[top + 2] = 0;
+        let strings = Packed {
+            count: count + 1,
+            used,
+        };
+        Calls { strings, opens }
+    }
+
+    // The innermost call is closed: its strings, from `first` on, go.
+    pub(crate) fn closed(self, ends: &[u32], first: usize) -> Calls
+        requires { ⌜ (0 < self .opens) × (first ≤ length (now ends)) ⌝ }
+        ensures { λ r. ⌜ ((bytes : Bytes) (stack : List ℕ) (c : Call) (cs : List Call) → CallsIn bytes (now (ends .entry)) stack self (c ∷ cs) → first ≡ length (openStrings cs) → CallsIn bytes (now (ends .entry)) stack r cs) ⌝ }
+    {
+        let used = packed::start(ends, first);
+        let strings = Packed { count: first, used };
+        Calls {
+            strings,
+            opens: self.opens - 1,
+        }
+    }
 }
 
 // The number of the innermost call's first string, its name.
@@ -106,17 +121,4 @@ pub(crate) fn has_collected(stack: &[u32], x: Calls) -> u32
 {
     let top = 3 * (x.opens - 1);
     stack[top + 2]
-}
-
-// The innermost call is closed: its strings, from `first` on, go.
-pub(crate) fn closed(ends: &[u32], x: Calls, first: usize) -> Calls
-    requires { ⌜ (0 < x .opens) × (first ≤ length (now ends)) ⌝ }
-    ensures { λ r. ⌜ ((bytes : Bytes) (stack : List ℕ) (c : Call) (cs : List Call) → CallsIn bytes (now (ends .entry)) stack x (c ∷ cs) → first ≡ length (openStrings cs) → CallsIn bytes (now (ends .entry)) stack r cs) ⌝ }
-{
-    let used = packed::start(ends, first);
-    let strings = Packed { count: first, used };
-    Calls {
-        strings,
-        opens: x.opens - 1,
-    }
 }

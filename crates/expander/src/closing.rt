@@ -8,7 +8,6 @@ use crate::machine::Turn;
 use crate::macros;
 use crate::macros::Sort;
 use crate::packed;
-use crate::source;
 use crate::source::Position;
 use crate::table;
 use crate::table::Meaning;
@@ -101,7 +100,7 @@ pub(crate) fn bare(
     let base = strings.count;
     let x = Arguments { strings, base };
     let p = m.source;
-    let to = source::advanced(pending, p, n);
+    let to = p.advanced(pending, n);
     match meaning {
         Meaning::Text(i) => {
             copy_name(text, pending, p, n, scratch);
@@ -198,7 +197,7 @@ pub(crate) fn close(
         base: first + 1,
     };
     let name = packed::string(calls, ends, strings, first);
-    let left = calls::closed(ends, m.calls, first);
+    let left = m.calls.closed(ends, first);
     let to = m.source;
     match table::look_up(definitions, table_ends, m.table.packed, m.table.own, name) {
         Meaning::Text(i) => {

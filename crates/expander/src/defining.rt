@@ -4,7 +4,6 @@ use crate::arguments::Arguments;
 use crate::machine::Machine;
 use crate::machine::Turn;
 use crate::table;
-use crate::table::Definitions;
 use rules::Answer;
 ghost use mathlib.Core.List.{List};
 ghost use Rattle.rules.specs.Bytes.{Bytes};
@@ -33,13 +32,13 @@ pub(crate) fn define(
         return m.refused(Answer::Name);
     }
     let p = m.table.packed;
-    let own = m.table.own;
     let place = table::newest(definitions, table_ends, p, name);
     let size = table::size_defined(definitions, table_ends, p, place, name, body.len());
     if definitions.len() < size {
         return m.refused(Answer::Room(3));
     }
-    let t = table::define_at(definitions, table_ends, p, own, place, name, body);
+    let t = m.table
+        .define_at(definitions, table_ends, place, name, body);
     m.with_table(t).on()
 }
 
@@ -62,13 +61,11 @@ pub(crate) fn pushdef(
         return m.refused(Answer::Name);
     }
     let p = m.table.packed;
-    let own = m.table.own;
     let size = name.len() + body.len();
     if definitions.len() - p.used < size {
         return m.refused(Answer::Room(3));
     }
-    let packed = table::push_definition(definitions, table_ends, p, name, body);
-    let t = Definitions { packed, own };
+    let t = m.table.push(definitions, table_ends, name, body);
     m.with_table(t).on()
 }
 
@@ -91,7 +88,7 @@ pub(crate) fn popdef(
     while k < have {
         k += 1;
         let name = arguments::argument(calls, ends, x, k);
-        t = table::pop(definitions, table_ends, t.packed, t.own, name);
+        t = t.pop(definitions, table_ends, name);
     }
     m.with_table(t).on()
 }
@@ -115,7 +112,7 @@ pub(crate) fn undefine(
     while k < have {
         k += 1;
         let name = arguments::argument(calls, ends, x, k);
-        t = table::undefine(definitions, table_ends, t.packed, t.own, name);
+        t = t.undefine(definitions, table_ends, name);
     }
     m.with_table(t).on()
 }

@@ -1,10 +1,7 @@
 // Tokens that stand for themselves: they go to the current stream, or an open call collects them; and calls are opened.
-use crate::calls;
-use crate::collect;
 use crate::machine::Machine;
 use crate::machine::Turn;
 use crate::sinks;
-use crate::source;
 use rules::Answer;
 ghost use mathlib.Core.Path.{_≡_};
 ghost use mathlib.Core.List.{List, [], _∷_};
@@ -39,7 +36,7 @@ fn emit_token(
     if full != 0 {
         return m.refused(Answer::Room(full));
     }
-    let k = sinks::emit_ahead(
+    let k = m.sinks.emit_ahead(
         &pending[from..],
         &text[taken..],
         start,
@@ -47,9 +44,8 @@ fn emit_token(
         streams,
         owners,
         output,
-        m.sinks,
     );
-    let to = source::advanced(pending, p, width);
+    let to = p.advanced(pending, width);
     m.with_source(to).with_sinks(k).on()
 }
 
@@ -75,7 +71,7 @@ fn collect_token(
     if calls.len() - m.calls.strings.used < n {
         return m.refused(Answer::Room(2));
     }
-    let k = collect::collect_ahead(
+    let k = m.calls.collect_ahead(
         &pending[from..],
         &text[taken..],
         start,
@@ -83,9 +79,8 @@ fn collect_token(
         calls,
         ends,
         stack,
-        m.calls,
     );
-    let to = source::advanced(pending, p, width);
+    let to = p.advanced(pending, width);
     m.with_source(to).with_calls(k).on()
 }
 
@@ -129,7 +124,7 @@ pub(crate) fn emit_byte(
     if full != 0 {
         return m.refused(Answer::Room(full));
     }
-    let k = sinks::emit_byte(streams, owners, output, m.sinks, x);
+    let k = m.sinks.emit_byte(streams, owners, output, x);
     m.with_sinks(k).on()
 }
 
@@ -149,7 +144,7 @@ pub(crate) fn collect_byte(
     if calls.len() <= m.calls.strings.used {
         return m.refused(Answer::Room(2));
     }
-    let k = collect::collect_byte(x, depth, calls, ends, stack, m.calls);
+    let k = m.calls.collect_byte(x, depth, calls, ends, stack);
     m.with_calls(k).on()
 }
 
@@ -180,16 +175,9 @@ pub(crate) fn open_call(
     if calls.len() - m.calls.strings.used < n {
         return m.refused(Answer::Room(2));
     }
-    let k = collect::open_ahead(
-        &pending[from..],
-        &text[taken..],
-        n,
-        calls,
-        ends,
-        stack,
-        m.calls,
-    );
-    let to = source::advanced(pending, p, n + 1);
+    let k = m.calls
+        .open_ahead(&pending[from..], &text[taken..], n, calls, ends, stack);
+    let to = p.advanced(pending, n + 1);
     m.with_source(to).with_calls(k).on()
 }
 
@@ -202,6 +190,6 @@ pub(crate) fn next_argument(calls: &[u8], ends: &mut [u32], stack: &mut [u32], m
     if 256 <= m.calls.strings.count - m.calls.opens {
         return m.refused(Answer::Deep);
     }
-    let k = calls::separated(ends, stack, m.calls);
+    let k = m.calls.separated(ends, stack);
     m.with_calls(k).on()
 }

@@ -239,12 +239,7 @@ pub(crate) fn divert(calls: &[u8], ends: &[u32], m: Machine, x: Arguments) -> Tu
     let Decimal::Number(current) = arguments::decimal_or(calls, ends, x, 1, 0) else {
         return m.refused(Answer::Number);
     };
-    let k = Sinks {
-        current,
-        waiting: m.sinks.waiting,
-        output: m.sinks.output,
-    };
-    m.with_sinks(k).on()
+    m.with_sinks(m.sinks.diverted(current)).on()
 }
 
 // undivert: the streams that the arguments name, or all nine, are moved to the current one.
@@ -295,10 +290,5 @@ pub(crate) fn finish(streams: &[u8], owners: &[u8], output: &mut [u8], m: Machin
     }
     let end = at + n;
     streams::finish(streams, owners, n, &mut output[at..end]);
-    let k = Sinks {
-        current: m.sinks.current,
-        waiting: 0,
-        output: end,
-    };
-    m.with_sinks(k).ended(Answer::Done)
+    m.with_sinks(m.sinks.emptied(end)).ended(Answer::Done)
 }

@@ -1,11 +1,17 @@
 // The by-value part of the standing state, with methods that hand the next one back, and what a step gives.
 use crate::calls::Calls;
+use crate::marking;
 use crate::sinks::Sinks;
 use crate::source::Position;
 use crate::table::Definitions;
 use rules::Answer;
+use rules::Mark;
 use rules::Marks;
 ghost use mathlib.Core.Path.{_≡_};
+ghost use mathlib.Core.List.{[]};
+ghost use Prim.Native.Nat.{_≤_};
+ghost use Rattle.rules.specs.Marks.{defaultMarks, markText, markTexts, withQuotes, withComments};
+ghost use Rattle.expander.specs.Tokens.{FullMark, GoodMarks};
 ghost use Rattle.expander.specs.Machine.{sourceSet, marksSet, callsSet, tableSet, sinksSet, wrapSet, errorsSet, turned};
 ghost use Rattle.expander.specs.declared.machine.Went.the-variants as went;
 
@@ -42,11 +48,55 @@ impl Machine {
         self
     }
 
-    pub(crate) fn with_marks(mut self, marks: Marks) -> Machine
-        ensures { λ r. ⌜ r ≡ marksSet marks self ⌝ }
+    // Other quote marks.
+    pub(crate) fn with_quotes(mut self, begin: Mark, end: Mark) -> Machine
+        ensures { λ r. ⌜ (r ≡ marksSet (r .marks) self) × (markTexts (r .marks) ≡ withQuotes (markText begin) (markText end) (markTexts (self .marks))) × (GoodMarks (self .marks) → FullMark begin → FullMark end → GoodMarks (r .marks)) ⌝ }
     {
+        let begin_comment = self.marks.begin_comment;
+        let end_comment = self.marks.end_comment;
+        let marks = Marks {
+            begin_quote: begin,
+            end_quote: end,
+            begin_comment,
+            end_comment,
+        };
         self.marks = marks;
         self
+    }
+
+    // Other comment marks.
+    pub(crate) fn with_comments(mut self, begin: Mark, end: Mark) -> Machine
+        ensures { λ r. ⌜ (r ≡ marksSet (r .marks) self) × (markTexts (r .marks) ≡ withComments (markText begin) (markText end) (markTexts (self .marks))) × (GoodMarks (self .marks) → begin .len ≤ 5 → FullMark end → GoodMarks (r .marks)) ⌝ }
+    {
+        let begin_quote = self.marks.begin_quote;
+        let end_quote = self.marks.end_quote;
+        let marks = Marks {
+            begin_quote,
+            end_quote,
+            begin_comment: begin,
+            end_comment: end,
+        };
+        self.marks = marks;
+        self
+    }
+
+    // Comments are turned off.
+    pub(crate) fn without_comments(self) -> Machine
+        ensures { λ r. ⌜ (r ≡ marksSet (r .marks) self) × (markTexts (r .marks) ≡ withComments [] (markText (self .marks .«end_comment»)) (markTexts (self .marks))) × (GoodMarks (self .marks) → GoodMarks (r .marks)) ⌝ }
+    {
+        let none = Mark {
+            bytes: [0; 5],
+            len: 0,
+        };
+        self.with_comments(none, self.marks.end_comment)
+    }
+
+    // The quote marks are the default ones.
+    pub(crate) fn with_default_quotes(self) -> Machine
+        ensures { λ r. ⌜ (r ≡ marksSet (r .marks) self) × (markTexts (r .marks) ≡ withQuotes (defaultMarks .beginQuote) (defaultMarks .endQuote) (markTexts (self .marks))) × (GoodMarks (self .marks) → GoodMarks (r .marks)) ⌝ }
+    {
+        let fresh = marking::default_marks();
+        self.with_quotes(fresh.begin_quote, fresh.end_quote)
     }
 
     pub(crate) fn with_calls(mut self, calls: Calls) -> Machine

@@ -124,11 +124,7 @@ pub(crate) fn given(m: Machine, g: Given) -> Turn
 {
     match g {
         Given::Refused(answer) => m.refused(answer),
-        Given::At(from) => {
-            let taken = m.source.taken;
-            let to = Position { from, taken };
-            m.with_source(to).on()
-        }
+        Given::At(from) => m.with_source(m.source.pushed(from)).on(),
     }
 }
 

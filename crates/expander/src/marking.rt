@@ -4,8 +4,8 @@ use rules::Marks;
 ghost use mathlib.Core.Path.{_≡_};
 ghost use Prim.Native.Nat.{_≤_};
 ghost use lib.ListN.{length};
-ghost use Rattle.rules.specs.Marks.{isBarred, noneBarred, isMark, isEndMark, defaultMarks, markText, markTexts, withQuotes, withComments};
-ghost use Rattle.expander.specs.Tokens.{FullMark, GoodMarks};
+ghost use Rattle.rules.specs.Marks.{isBarred, noneBarred, isMark, isEndMark, defaultMarks, markText, markTexts};
+ghost use Rattle.expander.specs.Tokens.{GoodMarks};
 
 // No mark may have the byte.
 fn is_barred(x: u8) -> bool
@@ -73,32 +73,6 @@ pub(crate) fn mark_of(w: &[u8]) -> Mark
     Mark {
         bytes,
         len: w.len() as u8,
-    }
-}
-
-pub(crate) fn with_quotes(m: Marks, begin: Mark, end: Mark) -> Marks
-    ensures { λ r. ⌜ (markTexts r ≡ withQuotes (markText begin) (markText end) (markTexts m)) × (GoodMarks m → FullMark begin → FullMark end → GoodMarks r) ⌝ }
-{
-    let begin_comment = m.begin_comment;
-    let end_comment = m.end_comment;
-    Marks {
-        begin_quote: begin,
-        end_quote: end,
-        begin_comment,
-        end_comment,
-    }
-}
-
-pub(crate) fn with_comments(m: Marks, begin: Mark, end: Mark) -> Marks
-    ensures { λ r. ⌜ (markTexts r ≡ withComments (markText begin) (markText end) (markTexts m)) × (GoodMarks m → begin .len ≤ 5 → FullMark end → GoodMarks r) ⌝ }
-{
-    let begin_quote = m.begin_quote;
-    let end_quote = m.end_quote;
-    Marks {
-        begin_quote,
-        end_quote,
-        begin_comment: begin,
-        end_comment: end,
     }
 }
 

@@ -44,53 +44,6 @@ pub(crate) fn is_string(bytes: &[u8], ends: &[u32], p: Packed, k: usize, s: &[u8
     ascii::same(s, string(bytes, ends, p, k))
 }
 
-// A new string of no bytes.
-fn push_empty(ends: &mut [u32], p: Packed) -> Packed
-    requires { ⌜ (p .count < length (now ends)) × (p .used < 2 ^ 32) ⌝ }
-    ensures { λ r. ⌜ ((bytes : Bytes) (ss : List Bytes) → Packs (now (ends .entry)) (p .count) bytes (p .used) ss → Packs (now (ends .exit)) (r .count) bytes (r .used) (ss ++ ([] ∷ []))) ⌝ }
-    ensures { λ r. ⌜ (r .count ≡ p .count + 1) × (r .used ≡ p .used) ⌝ }
-{
-    let count = p.count;
-    let used = p.used;
-    let more = count + 1;
-    ends[count] = used as u32;
-    Packed { count: more, used }
-}
-
-// The n bytes behind the strings, which the caller has filled, join the last one.
-fn grow_last(ends: &mut [u32], p: Packed, n: usize) -> Packed
-    requires { ⌜ (0 < p .count) × (p .count ≤ length (now ends)) × (p .used + n < 2 ^ 32) ⌝ }
-    ensures { λ r. ⌜ ((before bytes : Bytes) (ss : List Bytes) (s : Bytes) → Packs (now (ends .entry)) (p .count) before (p .used) ss → length s ≡ n → take (p .used + n) bytes ≡ take (p .used) before ++ s → Packs (now (ends .exit)) (r .count) bytes (r .used) (lastMore ss s)) ⌝ }
-    ensures { λ r. ⌜ (r .count ≡ p .count) × (r .used ≡ p .used + n) ⌝ }
-{
-    let count = p.count;
-    let more = p.used + n;
-    ends[count - 1] = more as u32;
-    Packed { count, used: more }
-}
-
-// A slice at the end of the last string.
-fn push_slice(bytes: &mut [u8], ends: &mut [u32], p: Packed, s: &[u8]) -> Packed
-    requires { ⌜ (0 < p .count) × (p .count ≤ length (now ends)) ⌝ }
-    requires { ⌜ (p .used + length (now s) ≤ length (now bytes)) × (length (now bytes) < 2 ^ 32) ⌝ }
-    ensures { λ r. ⌜ ((ss : List Bytes) → Packs (now (ends .entry)) (p .count) (now (bytes .entry)) (p .used) ss → Packs (now (ends .exit)) (r .count) (now (bytes .exit)) (r .used) (lastMore ss (now (s .entry)))) ⌝ }
-    ensures { λ r. ⌜ (r .count ≡ p .count) × (r .used ≡ p .used + length (now (s .entry))) ⌝ }
-{
-    fill::fill_slice(s, bytes, p.used);
-    grow_last(ends, p, s.len())
-}
-
-// A new string.
-pub(crate) fn push_string(bytes: &mut [u8], ends: &mut [u32], p: Packed, s: &[u8]) -> Packed
-    requires { ⌜ p .count < length (now ends) ⌝ }
-    requires { ⌜ (p .used + length (now s) ≤ length (now bytes)) × (length (now bytes) < 2 ^ 32) ⌝ }
-    ensures { λ r. ⌜ ((ss : List Bytes) → Packs (now (ends .entry)) (p .count) (now (bytes .entry)) (p .used) ss → Packs (now (ends .exit)) (r .count) (now (bytes .exit)) (r .used) (ss ++ (now (s .entry) ∷ []))) ⌝ }
-    ensures { λ r. ⌜ (r .count ≡ p .count + 1) × (r .used ≡ p .used + length (now (s .entry))) ⌝ }
-{
-    let more = push_empty(ends, p);
-    push_slice(bytes, ends, more, s)
-}
-
 // Moves the bytes from `from` up to `end` down to the place `to`.
 fn move_down(bytes: &mut [u8], to: usize, from: usize, end: usize)
     requires { ⌜ (to ≤ from) × (from ≤ end) × (end ≤ length (now bytes)) ⌝ }
@@ -147,58 +100,107 @@ fn rebase(ends: &mut [u32], to: usize, from: usize, count: usize, less: usize, m
     }
 }
 
-// Without strings k and k + 1: what stands behind them moves down, and nothing where they are the last.
-pub(crate) fn remove_two(bytes: &mut [u8], ends: &mut [u32], p: Packed, k: usize) -> Packed
-    requires { ⌜ Formed (now ends) (p .count) (now bytes) (p .used) ⌝ }
-    requires { ⌜ (k + 2 ≤ p .count) × (length (now bytes) < 2 ^ 32) ⌝ }
-    ensures { λ r. ⌜ ((ss : List Bytes) → Packs (now (ends .entry)) (p .count) (now (bytes .entry)) (p .used) ss → Packs (now (ends .exit)) (r .count) (now (bytes .exit)) (r .used) (take k ss ++ drop (k + 2) ss)) ⌝ }
-{
-    let count = p.count;
-    let used = p.used;
-    let a = start(ends, k);
-    let e = start(ends, k + 2);
-    let n = e - a;
-    let fewer = count - 2;
-    let less = used - n;
-    move_bytes(bytes, a, e, used);
-    rebase(ends, k, k + 2, count, n, 0);
-    Packed {
-        count: fewer,
-        used: less,
+impl Packed {
+    // A new string of no bytes.
+    fn push_empty(self, ends: &mut [u32]) -> Packed
+        requires { ⌜ (self .count < length (now ends)) × (self .used < 2 ^ 32) ⌝ }
+        ensures { λ r. ⌜ ((bytes : Bytes) (ss : List Bytes) → Packs (now (ends .entry)) (self .count) bytes (self .used) ss → Packs (now (ends .exit)) (r .count) bytes (r .used) (ss ++ ([] ∷ []))) ⌝ }
+        ensures { λ r. ⌜ (r .count ≡ self .count + 1) × (r .used ≡ self .used) ⌝ }
+    {
+        let count = self.count;
+        let used = self.used;
+        let more = count + 1;
+        ends[count] = used as u32;
+        Packed { count: more, used }
     }
-}
 
-// String k gets n bytes in its place, which the caller fills: what stands behind it moves by the difference.
-fn resize(bytes: &mut [u8], ends: &mut [u32], p: Packed, k: usize, n: usize) -> Packed
-    requires { ⌜ Formed (now ends) (p .count) (now bytes) (p .used) ⌝ }
-    requires { ⌜ (k < p .count) × (length (now bytes) < 2 ^ 32) ⌝ }
-    requires { ⌜ ((ss : List Bytes) → Packs (now ends) (p .count) (now bytes) (p .used) ss → p .used + n ≤ length (now bytes) + length (getD ss k [])) ⌝ }
-    ensures { λ r. ⌜ ((ss : List Bytes) (s : Bytes) → Packs (now (ends .entry)) (p .count) (now (bytes .entry)) (p .used) ss → length s ≡ n → Packs (now (ends .exit)) (r .count) (overlaid (startOf (now (ends .entry)) k) s (now (bytes .exit))) (r .used) (set ss k s)) ⌝ }
-{
-    let count = p.count;
-    let used = p.used;
-    let a = start(ends, k);
-    let e = start(ends, k + 1);
-    let old = e - a;
-    if old == n {
-        return p;
+    // The n bytes behind the strings, which the caller has filled, join the last one.
+    fn grow_last(self, ends: &mut [u32], n: usize) -> Packed
+        requires { ⌜ (0 < self .count) × (self .count ≤ length (now ends)) × (self .used + n < 2 ^ 32) ⌝ }
+        ensures { λ r. ⌜ ((before bytes : Bytes) (ss : List Bytes) (s : Bytes) → Packs (now (ends .entry)) (self .count) before (self .used) ss → length s ≡ n → take (self .used + n) bytes ≡ take (self .used) before ++ s → Packs (now (ends .exit)) (r .count) bytes (r .used) (lastMore ss s)) ⌝ }
+        ensures { λ r. ⌜ (r .count ≡ self .count) × (r .used ≡ self .used + n) ⌝ }
+    {
+        let count = self.count;
+        let more = self.used + n;
+        ends[count - 1] = more as u32;
+        Packed { count, used: more }
     }
-    let to = a + n;
-    let sized = used - old + n;
-    move_bytes(bytes, to, e, used);
-    rebase(ends, k, k, count, old, n);
-    Packed { count, used: sized }
-}
 
-// String k becomes s, in its place.
-pub(crate) fn replace(bytes: &mut [u8], ends: &mut [u32], p: Packed, k: usize, s: &[u8]) -> Packed
-    requires { ⌜ Formed (now ends) (p .count) (now bytes) (p .used) ⌝ }
-    requires { ⌜ (k < p .count) × (length (now bytes) < 2 ^ 32) ⌝ }
-    requires { ⌜ ((ss : List Bytes) → Packs (now ends) (p .count) (now bytes) (p .used) ss → p .used + length (now s) ≤ length (now bytes) + length (getD ss k [])) ⌝ }
-    ensures { λ r. ⌜ ((ss : List Bytes) → Packs (now (ends .entry)) (p .count) (now (bytes .entry)) (p .used) ss → Packs (now (ends .exit)) (r .count) (now (bytes .exit)) (r .used) (set ss k (now (s .entry)))) ⌝ }
-{
-    let a = start(ends, k);
-    let sized = resize(bytes, ends, p, k, s.len());
-    fill::fill_slice(s, bytes, a);
-    sized
+    // A slice at the end of the last string.
+    fn push_slice(self, bytes: &mut [u8], ends: &mut [u32], s: &[u8]) -> Packed
+        requires { ⌜ (0 < self .count) × (self .count ≤ length (now ends)) ⌝ }
+        requires { ⌜ (self .used + length (now s) ≤ length (now bytes)) × (length (now bytes) < 2 ^ 32) ⌝ }
+        ensures { λ r. ⌜ ((ss : List Bytes) → Packs (now (ends .entry)) (self .count) (now (bytes .entry)) (self .used) ss → Packs (now (ends .exit)) (r .count) (now (bytes .exit)) (r .used) (lastMore ss (now (s .entry)))) ⌝ }
+        ensures { λ r. ⌜ (r .count ≡ self .count) × (r .used ≡ self .used + length (now (s .entry))) ⌝ }
+    {
+        fill::fill_slice(s, bytes, self.used);
+        self.grow_last(ends, s.len())
+    }
+
+    // A new string.
+    pub(crate) fn push_string(self, bytes: &mut [u8], ends: &mut [u32], s: &[u8]) -> Packed
+        requires { ⌜ self .count < length (now ends) ⌝ }
+        requires { ⌜ (self .used + length (now s) ≤ length (now bytes)) × (length (now bytes) < 2 ^ 32) ⌝ }
+        ensures { λ r. ⌜ ((ss : List Bytes) → Packs (now (ends .entry)) (self .count) (now (bytes .entry)) (self .used) ss → Packs (now (ends .exit)) (r .count) (now (bytes .exit)) (r .used) (ss ++ (now (s .entry) ∷ []))) ⌝ }
+        ensures { λ r. ⌜ (r .count ≡ self .count + 1) × (r .used ≡ self .used + length (now (s .entry))) ⌝ }
+    {
+        let more = self.push_empty(ends);
+        more.push_slice(bytes, ends, s)
+    }
+
+    // Without strings k and k + 1: what stands behind them moves down, and nothing where they are the last.
+    pub(crate) fn remove_two(self, bytes: &mut [u8], ends: &mut [u32], k: usize) -> Packed
+        requires { ⌜ Formed (now ends) (self .count) (now bytes) (self .used) ⌝ }
+        requires { ⌜ (k + 2 ≤ self .count) × (length (now bytes) < 2 ^ 32) ⌝ }
+        ensures { λ r. ⌜ ((ss : List Bytes) → Packs (now (ends .entry)) (self .count) (now (bytes .entry)) (self .used) ss → Packs (now (ends .exit)) (r .count) (now (bytes .exit)) (r .used) (take k ss ++ drop (k + 2) ss)) ⌝ }
+    {
+        let count = self.count;
+        let used = self.used;
+        let a = start(ends, k);
+        let e = start(ends, k + 2);
+        let n = e - a;
+        let fewer = count - 2;
+        let less = used - n;
+        move_bytes(bytes, a, e, used);
+        rebase(ends, k, k + 2, count, n, 0);
+        Packed {
+            count: fewer,
+            used: less,
+        }
+    }
+
+    // String k gets n bytes in its place, which the caller fills: what stands behind it moves by the difference.
+    fn resize(self, bytes: &mut [u8], ends: &mut [u32], k: usize, n: usize) -> Packed
+        requires { ⌜ Formed (now ends) (self .count) (now bytes) (self .used) ⌝ }
+        requires { ⌜ (k < self .count) × (length (now bytes) < 2 ^ 32) ⌝ }
+        requires { ⌜ ((ss : List Bytes) → Packs (now ends) (self .count) (now bytes) (self .used) ss → self .used + n ≤ length (now bytes) + length (getD ss k [])) ⌝ }
+        ensures { λ r. ⌜ ((ss : List Bytes) (s : Bytes) → Packs (now (ends .entry)) (self .count) (now (bytes .entry)) (self .used) ss → length s ≡ n → Packs (now (ends .exit)) (r .count) (overlaid (startOf (now (ends .entry)) k) s (now (bytes .exit))) (r .used) (set ss k s)) ⌝ }
+    {
+        let count = self.count;
+        let used = self.used;
+        let a = start(ends, k);
+        let e = start(ends, k + 1);
+        let old = e - a;
+        if old == n {
+            return self;
+        }
+        let to = a + n;
+        let sized = used - old + n;
+        move_bytes(bytes, to, e, used);
+        rebase(ends, k, k, count, old, n);
+        Packed { count, used: sized }
+    }
+
+    // String k becomes s, in its place.
+    pub(crate) fn replace(self, bytes: &mut [u8], ends: &mut [u32], k: usize, s: &[u8]) -> Packed
+        requires { ⌜ Formed (now ends) (self .count) (now bytes) (self .used) ⌝ }
+        requires { ⌜ (k < self .count) × (length (now bytes) < 2 ^ 32) ⌝ }
+        requires { ⌜ ((ss : List Bytes) → Packs (now ends) (self .count) (now bytes) (self .used) ss → self .used + length (now s) ≤ length (now bytes) + length (getD ss k [])) ⌝ }
+        ensures { λ r. ⌜ ((ss : List Bytes) → Packs (now (ends .entry)) (self .count) (now (bytes .entry)) (self .used) ss → Packs (now (ends .exit)) (r .count) (now (bytes .exit)) (r .used) (set ss k (now (s .entry)))) ⌝ }
+    {
+        let a = start(ends, k);
+        let sized = self.resize(bytes, ends, k, s.len());
+        fill::fill_slice(s, bytes, a);
+        sized
+    }
 }

@@ -46,8 +46,8 @@ fn remarked_comments(m: Machine, begin: &[u8], end: &[u8]) -> Turn
     if !are_marks(begin, end) {
         return m.refused(Answer::Mark);
     }
-    let changed = marking::with_comments(m.marks, marking::mark_of(begin), marking::mark_of(end));
-    m.with_marks(changed).on()
+    m.with_comments(marking::mark_of(begin), marking::mark_of(end))
+        .on()
 }
 
 // New quote marks, if they are good.
@@ -58,8 +58,8 @@ fn remarked_quotes(m: Machine, begin: &[u8], end: &[u8]) -> Turn
     if !are_marks(begin, end) {
         return m.refused(Answer::Mark);
     }
-    let changed = marking::with_quotes(m.marks, marking::mark_of(begin), marking::mark_of(end));
-    m.with_marks(changed).on()
+    m.with_quotes(marking::mark_of(begin), marking::mark_of(end))
+        .on()
 }
 
 // changecom: without arguments comments are turned off; with one, a newline ends them.
@@ -68,12 +68,8 @@ pub(crate) fn changecom(calls: &[u8], ends: &[u32], m: Machine, x: Arguments) ->
     requires { ⌜ SomeArguments (now calls) (now ends) x ⌝ }
     ensures { λ t. ⌜ ((a : Setting) (s : State) (b : Memory) (args : List Bytes) → Means a (stringsAt (now (calls .entry)) (now (ends .entry)) b) m s → ArgumentsIn (now (calls .entry)) (now (ends .entry)) x args → Gives a (stringsAt (now (calls .entry)) (now (ends .entry)) b) (callChangecom args s) (stringsAt (now (calls .entry)) (now (ends .entry)) b) t) ⌝ }
 {
-    let have = arguments::count(x);
-    let marks = m.marks;
-    if have == 0 {
-        let none = marking::mark_of(&calls[..0]);
-        let off = marking::with_comments(marks, none, marks.end_comment);
-        return m.with_marks(off).on();
+    if arguments::count(x) == 0 {
+        return m.without_comments().on();
     }
     let begin = arguments::argument(calls, ends, x, 1);
     let end = end_mark(calls, ends, x, b"\n");
@@ -86,12 +82,8 @@ pub(crate) fn changequote(calls: &[u8], ends: &[u32], m: Machine, x: Arguments) 
     requires { ⌜ SomeArguments (now calls) (now ends) x ⌝ }
     ensures { λ t. ⌜ ((a : Setting) (s : State) (b : Memory) (args : List Bytes) → Means a (stringsAt (now (calls .entry)) (now (ends .entry)) b) m s → ArgumentsIn (now (calls .entry)) (now (ends .entry)) x args → Gives a (stringsAt (now (calls .entry)) (now (ends .entry)) b) (callChangequote args s) (stringsAt (now (calls .entry)) (now (ends .entry)) b) t) ⌝ }
 {
-    let have = arguments::count(x);
-    let marks = m.marks;
-    if have == 0 {
-        let fresh = marking::default_marks();
-        let plain = marking::with_quotes(marks, fresh.begin_quote, fresh.end_quote);
-        return m.with_marks(plain).on();
+    if arguments::count(x) == 0 {
+        return m.with_default_quotes().on();
     }
     let begin = arguments::argument(calls, ends, x, 1);
     let end = end_mark(calls, ends, x, b"\n");

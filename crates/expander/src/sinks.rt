@@ -35,74 +35,98 @@ pub(crate) fn full(k: Sinks, n: usize, streams: usize, output: usize) -> u32
     0
 }
 
-// One byte to the current stream.
-pub(crate) fn emit_byte(
-    streams: &mut [u8],
-    owners: &mut [u8],
-    output: &mut [u8],
-    k: Sinks,
-    b: u8,
-) -> Sinks
-    requires { ⌜ Fits (now streams) (now owners) (now output) k 1 ⌝ }
-    ensures { λ r. ⌜ ((x : Streams) → SinksIn (now (streams .entry)) (now (owners .entry)) (now (output .entry)) k x → SinksIn (now (streams .exit)) (now (owners .exit)) (now (output .exit)) r (placed (x .current) (b ∷ []) x)) ⌝ }
-{
-    let current = k.current;
-    let waiting = k.waiting;
-    let at = k.output;
-    if current == 0 {
-        output[at] = b;
-        return Sinks {
+impl Sinks {
+    // Another current stream.
+    pub(crate) fn diverted(self, current: u32) -> Sinks
+        ensures { λ r. ⌜ r ≡ record { current = current; waiting = self .waiting; output = self .output } ⌝ }
+    {
+        Sinks {
             current,
-            waiting,
-            output: at + 1,
-        };
+            waiting: self.waiting,
+            output: self.output,
+        }
     }
-    if 9 < current {
-        return k;
-    }
-    streams[waiting] = b;
-    owners[waiting] = current as u8;
-    Sinks {
-        current,
-        waiting: waiting + 1,
-        output: at,
-    }
-}
 
-// n bytes ahead, from `start` on, to the current stream.
-pub(crate) fn emit_ahead(
-    front: &[u8],
-    rest: &[u8],
-    start: usize,
-    n: usize,
-    streams: &mut [u8],
-    owners: &mut [u8],
-    output: &mut [u8],
-    k: Sinks,
-) -> Sinks
-    requires { ⌜ Fits (now streams) (now owners) (now output) k n ⌝ }
-    requires { ⌜ start + n ≤ length (now front) + length (now rest) ⌝ }
-    ensures { λ r. ⌜ ((x : Streams) → SinksIn (now (streams .entry)) (now (owners .entry)) (now (output .entry)) k x → SinksIn (now (streams .exit)) (now (owners .exit)) (now (output .exit)) r (placed (x .current) (take n (drop start (now (front .entry) ++ now (rest .entry)))) x)) ⌝ }
-{
-    let current = k.current;
-    let waiting = k.waiting;
-    let at = k.output;
-    if current == 0 {
-        fill::fill_ahead(front, rest, start, n, output, at);
-        return Sinks {
+    // No byte waits in streams 1 to 9, and `output` bytes are written.
+    pub(crate) fn emptied(self, output: usize) -> Sinks
+        ensures { λ r. ⌜ r ≡ record { current = self .current; waiting = 0; output = output } ⌝ }
+    {
+        Sinks {
+            current: self.current,
+            waiting: 0,
+            output,
+        }
+    }
+
+    // One byte to the current stream.
+    pub(crate) fn emit_byte(
+        self,
+        streams: &mut [u8],
+        owners: &mut [u8],
+        output: &mut [u8],
+        b: u8,
+    ) -> Sinks
+        requires { ⌜ Fits (now streams) (now owners) (now output) self 1 ⌝ }
+        ensures { λ r. ⌜ ((x : Streams) → SinksIn (now (streams .entry)) (now (owners .entry)) (now (output .entry)) self x → SinksIn (now (streams .exit)) (now (owners .exit)) (now (output .exit)) r (placed (x .current) (b ∷ []) x)) ⌝ }
+    {
+        let current = self.current;
+        let waiting = self.waiting;
+        let at = self.output;
+        if current == 0 {
+            output[at] = b;
+            return Sinks {
+                current,
+                waiting,
+                output: at + 1,
+            };
+        }
+        if 9 < current {
+            return self;
+        }
+        streams[waiting] = b;
+        owners[waiting] = current as u8;
+        Sinks {
             current,
-            waiting,
-            output: at + n,
-        };
+            waiting: waiting + 1,
+            output: at,
+        }
     }
-    if 9 < current {
-        return k;
-    }
-    fill::fill_ahead(front, rest, start, n, streams, waiting);
-    streams::own(owners, waiting, n, current as u8);
-    Sinks {
-        current,
-        waiting: waiting + n,
-        output: at,
+
+    // n bytes ahead, from `start` on, to the current stream.
+    pub(crate) fn emit_ahead(
+        self,
+        front: &[u8],
+        rest: &[u8],
+        start: usize,
+        n: usize,
+        streams: &mut [u8],
+        owners: &mut [u8],
+        output: &mut [u8],
+    ) -> Sinks
+        requires { ⌜ Fits (now streams) (now owners) (now output) self n ⌝ }
+        requires { ⌜ start + n ≤ length (now front) + length (now rest) ⌝ }
+        ensures { λ r. ⌜ ((x : Streams) → SinksIn (now (streams .entry)) (now (owners .entry)) (now (output .entry)) self x → SinksIn (now (streams .exit)) (now (owners .exit)) (now (output .exit)) r (placed (x .current) (take n (drop start (now (front .entry) ++ now (rest .entry)))) x)) ⌝ }
+    {
+        let current = self.current;
+        let waiting = self.waiting;
+        let at = self.output;
+        if current == 0 {
+            fill::fill_ahead(front, rest, start, n, output, at);
+            return Sinks {
+                current,
+                waiting,
+                output: at + n,
+            };
+        }
+        if 9 < current {
+            return self;
+        }
+        fill::fill_ahead(front, rest, start, n, streams, waiting);
+        streams::own(owners, waiting, n, current as u8);
+        Sinks {
+            current,
+            waiting: waiting + n,
+            output: at,
+        }
     }
 }

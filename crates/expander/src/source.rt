@@ -1,4 +1,5 @@
 // Where the text ahead stands: the pending text lies at the end of its buffer, from `from` on; `taken` bytes of the input are taken.
+ghost use mathlib.Core.Path.{_≡_};
 ghost use Prim.Native.Nat.{_+_, _-_, _≤_};
 ghost use lib.ListN.{length};
 ghost use Rattle.rules.specs.Bytes.{Bytes};
@@ -10,23 +11,35 @@ pub(crate) struct Position {
     pub(crate) taken: usize,
 }
 
-// n bytes of the text ahead are taken.
-pub(crate) fn advanced(pending: &[u8], p: Position, n: usize) -> Position
-    requires { ⌜ (p .from ≤ length (now pending)) × (length (now pending) ≤ 65536) × (p .taken ≤ 65536) × (n ≤ 131072) ⌝ }
-    ensures { λ r. ⌜ ((text : Bytes) (x : Source) → SourceIn text (now (pending .entry)) p x → n ≤ length (ahead x) → SourceIn text (now (pending .entry)) r (advance n x)) ⌝ }
-{
-    let from = p.from;
-    let taken = p.taken;
-    let have = pending.len() - from;
-    if n <= have {
-        return Position {
-            from: from + n,
-            taken,
-        };
+impl Position {
+    // Text was pushed back: the pending text begins at `from`.
+    pub(crate) fn pushed(self, from: usize) -> Position
+        ensures { λ r. ⌜ r ≡ record { from = from; taken = self .taken } ⌝ }
+    {
+        Position {
+            from,
+            taken: self.taken,
+        }
     }
-    let more = n - have;
-    Position {
-        from: pending.len(),
-        taken: taken + more,
+
+    // n bytes of the text ahead are taken.
+    pub(crate) fn advanced(self, pending: &[u8], n: usize) -> Position
+        requires { ⌜ (self .from ≤ length (now pending)) × (length (now pending) ≤ 65536) × (self .taken ≤ 65536) × (n ≤ 131072) ⌝ }
+        ensures { λ r. ⌜ ((text : Bytes) (x : Source) → SourceIn text (now (pending .entry)) self x → n ≤ length (ahead x) → SourceIn text (now (pending .entry)) r (advance n x)) ⌝ }
+    {
+        let from = self.from;
+        let taken = self.taken;
+        let have = pending.len() - from;
+        if n <= have {
+            return Position {
+                from: from + n,
+                taken,
+            };
+        }
+        let more = n - have;
+        Position {
+            from: pending.len(),
+            taken: taken + more,
+        }
     }
 }

@@ -5,8 +5,6 @@ use crate::events::Special;
 use crate::machine::Machine;
 use crate::machine::Turn;
 use crate::pending;
-use crate::source;
-use crate::source::Position;
 use rules::Answer;
 ghost use mathlib.Core.Path.{_≡_};
 ghost use lib.ListN.{length};
@@ -39,10 +37,8 @@ fn at_end(
     if pending.len() < n {
         return m.refused(Answer::Room(1));
     }
-    let taken = m.source.taken;
     let from = pending::push(pending, m.source.from, &wrap[..n]);
-    let to = Position { from, taken };
-    m.with_source(to).with_wrap(0).on()
+    m.with_source(m.source.pushed(from)).with_wrap(0).on()
 }
 
 // One special step.
@@ -73,7 +69,7 @@ pub(crate) fn special_step(
         Special::OpenQuote => m.refused(Answer::Unclosed(1)),
         Special::OpenComment => m.refused(Answer::Unclosed(2)),
         Special::Close => {
-            let to = source::advanced(pending, m.source, 1);
+            let to = m.source.advanced(pending, 1);
             closing::close(
                 text,
                 pending,

@@ -7,7 +7,6 @@ use crate::events::Special;
 use crate::machine::Machine;
 use crate::machine::Turn;
 use crate::machine::Went;
-use crate::source;
 use rules::Answer;
 ghost use mathlib.Core.Path.{_≡_};
 ghost use Prim.Native.Nat.{ℕ};
@@ -65,19 +64,19 @@ fn plain_step(
             width,
         ),
         Plain::Emit(x) => {
-            let to = source::advanced(pending, m.source, 1);
+            let to = m.source.advanced(pending, 1);
             delivering::emit_byte(streams, owners, output, m.with_source(to), x)
         }
         Plain::Collect { byte, depth } => {
-            let to = source::advanced(pending, m.source, 1);
+            let to = m.source.advanced(pending, 1);
             delivering::collect_byte(calls, ends, stack, m.with_source(to), byte, depth)
         }
         Plain::Skip => {
-            let to = source::advanced(pending, m.source, 1);
+            let to = m.source.advanced(pending, 1);
             m.with_source(to).on()
         }
         Plain::Separate => {
-            let to = source::advanced(pending, m.source, 1);
+            let to = m.source.advanced(pending, 1);
             delivering::next_argument(calls, ends, stack, m.with_source(to))
         }
         Plain::Open(n) => delivering::open_call(text, pending, calls, ends, stack, m, n),

@@ -4,7 +4,7 @@ use crate::packed;
 use crate::packed::Packed;
 ghost use mathlib.Core.Path.{_≡_};
 ghost use mathlib.Core.List.{List, [], _∷_};
-ghost use Prim.Native.Nat.{ℕ, _+_, _^_, _≤_, _<_};
+ghost use Prim.Native.Nat.{_+_, _^_, _≤_, _<_};
 ghost use lib.ListN.{length, take, drop, getD};
 ghost use Rattle.rules.specs.Bytes.{Bytes};
 ghost use Rattle.rules.specs.Table.{Definition, Table, predefinedNames, keepsOwn, ownMeaning, ownLost, newestPlace, meaningOf, text, pushed, defined, popped, without, undefined, tableCost};
@@ -176,23 +176,6 @@ pub(crate) fn look_up(bytes: &[u8], ends: &[u32], p: Packed, own: u32, name: &[u
     }
 }
 
-// A new definition, which arrives last.
-pub(crate) fn push_definition(
-    bytes: &mut [u8],
-    ends: &mut [u32],
-    p: Packed,
-    name: &[u8],
-    body: &[u8],
-) -> Packed
-    requires { ⌜ SoundDefinitions (now bytes) (now ends) p ⌝ }
-    requires { ⌜ 0 < length (now name) ⌝ }
-    requires { ⌜ p .used + (length (now name) + length (now body)) ≤ length (now bytes) ⌝ }
-    ensures { λ r. ⌜ ((own : ℕ) (t : Table) → TableIn (now (bytes .entry)) (now (ends .entry)) p own t → TableIn (now (bytes .exit)) (now (ends .exit)) r own (pushed (now (name .entry)) (text (now (body .entry))) t)) ⌝ }
-{
-    let named = packed::push_string(bytes, ends, p, name);
-    packed::push_string(bytes, ends, named, body)
-}
-
 // How many bytes the definitions have once a name, whose newest definition is at `place`, means a text of n bytes.
 pub(crate) fn size_defined(
     bytes: &[u8],
@@ -218,137 +201,141 @@ pub(crate) fn size_defined(
     }
 }
 
-// A name means another text: its newest definition, at `place`, keeps its place, else a new one arrives last.
-pub(crate) fn define_at(
-    bytes: &mut [u8],
-    ends: &mut [u32],
-    p: Packed,
-    own: u32,
-    place: Found,
-    name: &[u8],
-    body: &[u8],
-) -> Definitions
-    requires { ⌜ SoundDefinitions (now bytes) (now ends) p ⌝ }
-    requires { ⌜ ((ds : List Definition) → DefinitionsIn (now bytes) (now ends) p ds → newestPlace (now name) ds ≡ placeOf place) ⌝ }
-    requires { ⌜ 0 < length (now name) ⌝ }
-    requires { ⌜ ((t : Table) → DefinitionsIn (now bytes) (now ends) p (t .definitions) → tableCost ((defined (now name) (text (now body)) t) .definitions) ≤ length (now bytes)) ⌝ }
-    ensures { λ r. ⌜ ((t : Table) → TableIn (now (bytes .entry)) (now (ends .entry)) p own t → TableIn (now (bytes .exit)) (now (ends .exit)) (r .packed) (r .own) (defined (now (name .entry)) (text (now (body .entry))) t)) ⌝ }
-{
-    match place {
-        Found::At(i) => {
-            let k = 2 * i + 1;
-            let replaced = packed::replace(bytes, ends, p, k, body);
-            Definitions {
-                packed: replaced,
-                own,
+impl Packed {
+    // A pass comes to a definition, whose name ends at `middle`: it is put behind those kept, unless it is of the name.
+    fn sift(
+        self,
+        bytes: &mut [u8],
+        ends: &mut [u32],
+        from: usize,
+        middle: usize,
+        end: usize,
+        name: &[u8],
+    ) -> Packed
+        requires { ⌜ (self .used ≤ from) × (from ≤ middle) × (middle ≤ end) × (end ≤ length (now bytes)) ⌝ }
+        requires { ⌜ (self .count + 2 ≤ length (now ends)) × (length (now bytes) < 2 ^ 32) ⌝ }
+        ensures { λ r. ⌜ Sifted (now (name .entry)) (now (bytes .entry)) (now (ends .entry)) self from middle end (now (bytes .exit)) (now (ends .exit)) r ⌝ }
+    {
+        if ascii::same(name, &bytes[from..middle]) {
+            return self;
+        }
+        let at = self.count;
+        let next = at + 1;
+        let count = at + 2;
+        let to = self.used;
+        let name_end = to + (middle - from);
+        let text_end = to + (end - from);
+        packed::move_bytes(bytes, to, from, end);
+        ends[at] = name_end as u32;
+        ends[next] = text_end as u32;
+        Packed {
+            count,
+            used: text_end,
+        }
+    }
+
+    // Without the definitions of a name: one pass, in which what is kept moves down.
+    fn drop_named(self, bytes: &mut [u8], ends: &mut [u32], name: &[u8]) -> Packed
+        requires { ⌜ SoundDefinitions (now bytes) (now ends) self ⌝ }
+        ensures { λ r. ⌜ ((ds : List Definition) → DefinitionsIn (now (bytes .entry)) (now (ends .entry)) self ds → DefinitionsIn (now (bytes .exit)) (now (ends .exit)) r (without (now (name .entry)) ds)) ⌝ }
+    {
+        let count = self.count;
+        let mut kept = Packed { count: 0, used: 0 };
+        let mut k = 0;
+        let mut from = 0;
+        while k < count {
+            let next = k + 1;
+            let middle = ends[k] as usize;
+            let end = ends[next] as usize;
+            kept = kept.sift(bytes, ends, from, middle, end, name);
+            k += 2;
+            from = end;
+        }
+        kept
+    }
+}
+
+impl Definitions {
+    // A new definition, which arrives last.
+    pub(crate) fn push(
+        self,
+        bytes: &mut [u8],
+        ends: &mut [u32],
+        name: &[u8],
+        body: &[u8],
+    ) -> Definitions
+        requires { ⌜ SoundDefinitions (now bytes) (now ends) (self .packed) ⌝ }
+        requires { ⌜ 0 < length (now name) ⌝ }
+        requires { ⌜ self .packed .used + (length (now name) + length (now body)) ≤ length (now bytes) ⌝ }
+        ensures { λ r. ⌜ ((t : Table) → TableIn (now (bytes .entry)) (now (ends .entry)) (self .packed) (self .own) t → TableIn (now (bytes .exit)) (now (ends .exit)) (r .packed) (r .own) (pushed (now (name .entry)) (text (now (body .entry))) t)) ⌝ }
+    {
+        let named = self.packed.push_string(bytes, ends, name);
+        let packed = named.push_string(bytes, ends, body);
+        Definitions {
+            packed,
+            own: self.own,
+        }
+    }
+
+    // A name means another text: its newest definition, at `place`, keeps its place, else a new one arrives last.
+    pub(crate) fn define_at(
+        self,
+        bytes: &mut [u8],
+        ends: &mut [u32],
+        place: Found,
+        name: &[u8],
+        body: &[u8],
+    ) -> Definitions
+        requires { ⌜ SoundDefinitions (now bytes) (now ends) (self .packed) ⌝ }
+        requires { ⌜ ((ds : List Definition) → DefinitionsIn (now bytes) (now ends) (self .packed) ds → newestPlace (now name) ds ≡ placeOf place) ⌝ }
+        requires { ⌜ 0 < length (now name) ⌝ }
+        requires { ⌜ ((t : Table) → DefinitionsIn (now bytes) (now ends) (self .packed) (t .definitions) → tableCost ((defined (now name) (text (now body)) t) .definitions) ≤ length (now bytes)) ⌝ }
+        ensures { λ r. ⌜ ((t : Table) → TableIn (now (bytes .entry)) (now (ends .entry)) (self .packed) (self .own) t → TableIn (now (bytes .exit)) (now (ends .exit)) (r .packed) (r .own) (defined (now (name .entry)) (text (now (body .entry))) t)) ⌝ }
+    {
+        let own = self.own;
+        match place {
+            Found::At(i) => {
+                let k = 2 * i + 1;
+                let packed = self.packed.replace(bytes, ends, k, body);
+                Definitions { packed, own }
+            }
+            Found::Nowhere => {
+                let packed = self.packed;
+                let lost = own_lost(own, name);
+                let less = Definitions { packed, own: lost };
+                less.push(bytes, ends, name, body)
             }
         }
-        Found::Nowhere => {
-            let lost = own_lost(own, name);
-            let more = push_definition(bytes, ends, p, name, body);
-            Definitions {
-                packed: more,
-                own: lost,
+    }
+
+    // Without a name's newest definition, else without its own meaning.
+    pub(crate) fn pop(self, bytes: &mut [u8], ends: &mut [u32], name: &[u8]) -> Definitions
+        requires { ⌜ SoundDefinitions (now bytes) (now ends) (self .packed) ⌝ }
+        ensures { λ r. ⌜ ((t : Table) → TableIn (now (bytes .entry)) (now (ends .entry)) (self .packed) (self .own) t → TableIn (now (bytes .exit)) (now (ends .exit)) (r .packed) (r .own) (popped (now (name .entry)) t)) ⌝ }
+    {
+        let own = self.own;
+        let place = newest(bytes, ends, self.packed, name);
+        match place {
+            Found::At(i) => {
+                let k = 2 * i;
+                let packed = self.packed.remove_two(bytes, ends, k);
+                Definitions { packed, own }
+            }
+            Found::Nowhere => {
+                let packed = self.packed;
+                let lost = own_lost(own, name);
+                Definitions { packed, own: lost }
             }
         }
     }
-}
 
-// Without a name's newest definition, else without its own meaning.
-pub(crate) fn pop(
-    bytes: &mut [u8],
-    ends: &mut [u32],
-    p: Packed,
-    own: u32,
-    name: &[u8],
-) -> Definitions
-    requires { ⌜ SoundDefinitions (now bytes) (now ends) p ⌝ }
-    ensures { λ r. ⌜ ((t : Table) → TableIn (now (bytes .entry)) (now (ends .entry)) p own t → TableIn (now (bytes .exit)) (now (ends .exit)) (r .packed) (r .own) (popped (now (name .entry)) t)) ⌝ }
-{
-    let place = newest(bytes, ends, p, name);
-    match place {
-        Found::At(i) => {
-            let k = 2 * i;
-            let fewer = packed::remove_two(bytes, ends, p, k);
-            Definitions { packed: fewer, own }
-        }
-        Found::Nowhere => {
-            let lost = own_lost(own, name);
-            Definitions {
-                packed: p,
-                own: lost,
-            }
-        }
-    }
-}
-
-// A pass comes to a definition, whose name ends at `middle`: it is put behind those kept, unless it is of the name.
-fn sift(
-    bytes: &mut [u8],
-    ends: &mut [u32],
-    kept: Packed,
-    from: usize,
-    middle: usize,
-    end: usize,
-    name: &[u8],
-) -> Packed
-    requires { ⌜ (kept .used ≤ from) × (from ≤ middle) × (middle ≤ end) × (end ≤ length (now bytes)) ⌝ }
-    requires { ⌜ (kept .count + 2 ≤ length (now ends)) × (length (now bytes) < 2 ^ 32) ⌝ }
-    ensures { λ r. ⌜ Sifted (now (name .entry)) (now (bytes .entry)) (now (ends .entry)) kept from middle end (now (bytes .exit)) (now (ends .exit)) r ⌝ }
-{
-    if ascii::same(name, &bytes[from..middle]) {
-        return kept;
-    }
-    let at = kept.count;
-    let next = at + 1;
-    let count = at + 2;
-    let to = kept.used;
-    let name_end = to + (middle - from);
-    let text_end = to + (end - from);
-    packed::move_bytes(bytes, to, from, end);
-    ends[at] = name_end as u32;
-    ends[next] = text_end as u32;
-    Packed {
-        count,
-        used: text_end,
-    }
-}
-
-// Without the definitions of a name: one pass, in which what is kept moves down.
-fn drop_named(bytes: &mut [u8], ends: &mut [u32], p: Packed, name: &[u8]) -> Packed
-    requires { ⌜ SoundDefinitions (now bytes) (now ends) p ⌝ }
-    ensures { λ r. ⌜ ((ds : List Definition) → DefinitionsIn (now (bytes .entry)) (now (ends .entry)) p ds → DefinitionsIn (now (bytes .exit)) (now (ends .exit)) r (without (now (name .entry)) ds)) ⌝ }
-{
-    let count = p.count;
-    let mut kept = Packed { count: 0, used: 0 };
-    let mut k = 0;
-    let mut from = 0;
-    while k < count {
-        let next = k + 1;
-        let middle = ends[k] as usize;
-        let end = ends[next] as usize;
-        kept = sift(bytes, ends, kept, from, middle, end, name);
-        k += 2;
-        from = end;
-    }
-    kept
-}
-
-// Without all definitions of a name and without its own meaning.
-pub(crate) fn undefine(
-    bytes: &mut [u8],
-    ends: &mut [u32],
-    p: Packed,
-    own: u32,
-    name: &[u8],
-) -> Definitions
-    requires { ⌜ SoundDefinitions (now bytes) (now ends) p ⌝ }
-    ensures { λ r. ⌜ ((t : Table) → TableIn (now (bytes .entry)) (now (ends .entry)) p own t → TableIn (now (bytes .exit)) (now (ends .exit)) (r .packed) (r .own) (undefined (now (name .entry)) t)) ⌝ }
-{
-    let fewer = drop_named(bytes, ends, p, name);
-    let lost = own_lost(own, name);
-    Definitions {
-        packed: fewer,
-        own: lost,
+    // Without all definitions of a name and without its own meaning.
+    pub(crate) fn undefine(self, bytes: &mut [u8], ends: &mut [u32], name: &[u8]) -> Definitions
+        requires { ⌜ SoundDefinitions (now bytes) (now ends) (self .packed) ⌝ }
+        ensures { λ r. ⌜ ((t : Table) → TableIn (now (bytes .entry)) (now (ends .entry)) (self .packed) (self .own) t → TableIn (now (bytes .exit)) (now (ends .exit)) (r .packed) (r .own) (undefined (now (name .entry)) t)) ⌝ }
+    {
+        let packed = self.packed.drop_named(bytes, ends, name);
+        let own = own_lost(self.own, name);
+        Definitions { packed, own }
     }
 }

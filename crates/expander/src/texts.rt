@@ -6,8 +6,6 @@ use crate::fill;
 use crate::lists;
 use crate::machine::Machine;
 use crate::machine::Turn;
-use crate::sinks::Sinks;
-use crate::source;
 use numerals::Natural;
 use rules::Answer;
 ghost use mathlib.Core.List.{List};
@@ -27,7 +25,7 @@ pub(crate) fn dnl(text: &[u8], pending: &[u8], m: Machine) -> Turn
     let from = p.from;
     let taken = p.taken;
     let n = ahead::line_length(&pending[from..], &text[taken..]);
-    let to = source::advanced(pending, p, n);
+    let to = p.advanced(pending, n);
     m.with_source(to).on()
 }
 
@@ -79,10 +77,6 @@ pub(crate) fn m4exit(calls: &[u8], ends: &[u32], m: Machine, x: Arguments) -> Tu
     let Natural::Number(code) = arguments::natural_or(calls, ends, x, 1, 0, 0, 255) else {
         return m.refused(Answer::Number);
     };
-    let k = Sinks {
-        current: m.sinks.current,
-        waiting: 0,
-        output: m.sinks.output,
-    };
+    let k = m.sinks.emptied(m.sinks.output);
     m.with_sinks(k).with_wrap(0).ended(Answer::Exit(code))
 }

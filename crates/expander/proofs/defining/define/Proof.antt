@@ -86,7 +86,7 @@ returns-3 c =
     let x = k .before .before .argument2 in
     let d = c .before .before .before .before .before .before .define-at in
     λ a s b args r h.
-    named r args defined (define-is args s) (w .ensures args h) (k .before .is-name .ensures) (x .ensures args h) (k .if1 .left) (d .ensures (s .table) (r .table)) (d .kept .0) (d .kept .1 .0)
+    named r args defined (define-is args s) (w .ensures args h) (k .before .is-name .ensures) (x .ensures args h) (k .if1 .left) (d .ensures (s .table) (r .table)) (d .kept .1 .0) (d .kept .1 .1 .0)
     (c .before .with-table .ensures) (c .on .ensures)
 
 pub define-spec : {M : Type 1} → statement M

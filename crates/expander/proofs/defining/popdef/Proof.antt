@@ -62,8 +62,8 @@ loop-again c =
     let i = l .before .loop in
     let w = c .before .before .before .before .before .before .before .argument in
     let d = c .before .before .before .before .pop in (
-      d .kept .0 ∙ i .inv .0,
-      d .kept .1 .0 ∙ i .inv .1,
+      d .kept .1 .0 ∙ i .inv .0,
+      d .kept .1 .1 .0 ∙ i .inv .1,
       λ args u h k. turns-on (i .inv .2 args u h k) (w .result .now) (omega (arith, l .loop-test .taken, have-is l args h)) (w .ensures args h) (d .ensures),
     )
 

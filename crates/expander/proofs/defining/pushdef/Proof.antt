@@ -43,8 +43,8 @@ returns-2 c =
     overfilled r args pushed (pushdef-is args s) (w .ensures args h) (k .before .is-name .ensures) (x .ensures args h) (k .if1 .left)
     (omega (arith, z, c .before .if2 .taken, r .table .holds .packs .used-in)) (c .refused2 .ensures)
 
-push-definition-requires : tie.Need-push-definition-requires
-push-definition-requires c κs =
+push-requires : tie.Need-push-requires
+push-requires c κs =
     let k = c .before .before .before .before .before in
     let h = k .before .before .before .before .before .before .before .before .pre .0 .means .table .holds in
     let l = name-long (k .before .before .before .argument .result .now) (k .before .is-name .ensures) (k .if1 .left) in
@@ -67,10 +67,10 @@ returns-3 c =
     let k = c .before .before .before .before .before .before .before .before .before .before .before .before in
     let w = k .before .before .before .argument in
     let x = k .before .before .argument2 in
-    let d = c .before .before .before .before .before .before .push-definition in
+    let d = c .before .before .before .before .before .before .push in
     λ a s b args r h.
     named r args pushed (pushdef-is args s) (w .ensures args h) (k .before .is-name .ensures) (x .ensures args h) (k .if1 .left)
-    (d .ensures (k .before .before .before .before .before .before .before .before .args .m .table .own) (s .table) (r .table)) (d .kept .0) (d .kept .1 .0)
+    (d .ensures (s .table) (r .table)) (d .kept .1 .0) (d .kept .1 .1 .0)
     (c .before .with-table .ensures) (c .on .ensures)
 
 pub pushdef-spec : {M : Type 1} → statement M
@@ -86,7 +86,7 @@ pushdef-spec =
     sub-if2
     refused-requires-2
     returns-2
-    push-definition-requires
+    push-requires
     with-table-requires
     on-requires
     same-length

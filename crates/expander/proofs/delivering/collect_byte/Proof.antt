@@ -44,7 +44,7 @@ returns-2 : tie.Need-returns-2
 returns-2 c =
     let e = c .before .before .before .before .before .before .before .before .before .before .before .before .before .before .before .before .before in
     let k = c .before .before .before .before .before .before .before .before .collect-byte in
-    let l = k .kept .1 .1 in
+    let l = k .kept .1 .1 .1 in
     λ a s b x xs r q h.
     gives-by refl (c .on .ensures ∙ ap (turned went.On) (c .before .with-calls .ensures))
     (calls-changed r (l .0) (l .1 .0) (l .1 .1 .0) (collecting (e .args .x ∷ []) (e .args .depth) x ∷ xs) (k .ensures x xs (top-call r q) h))

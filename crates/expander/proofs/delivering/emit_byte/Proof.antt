@@ -41,7 +41,7 @@ returns-2 c =
     let k = c .before .before .before .before .before .before .before .before .emit-byte in
     λ a s b r.
     gives-by refl (c .on .ensures ∙ ap (turned went.On) (c .before .with-sinks .ensures))
-    (byte-emitted r (k .kept .0) (k .kept .1 .0) (k .kept .1 .1 .0) (c .before .before .before .before .before .before .before .before .before .before .before .before .before .before .before .before .before .args .x) (k .ensures (s .streams) (r .sinks)))
+    (byte-emitted r (k .kept .1 .0) (k .kept .1 .1 .0) (k .kept .1 .1 .1 .0) (c .before .before .before .before .before .before .before .before .before .before .before .before .before .before .before .before .before .args .x) (k .ensures (s .streams) (r .sinks)))
 
 pub emit-byte-spec : {M : Type 1} → statement M
 emit-byte-spec =

@@ -57,7 +57,7 @@ on-requires : tie.Need-on-requires
 on-requires c κs = search needs
 
 same-length : tie.Need-same-length
-same-length c = c .before .before .before .before .before .before .before .before .before .before .emit-ahead .kept .1 .1 .1 .1 .0
+same-length c = c .before .before .before .before .before .before .before .before .before .before .emit-ahead .kept .1 .1 .1 .1 .1 .0
 
 same-length-2 : tie.Need-same-length-2
 same-length-2 c = search needs
@@ -69,7 +69,7 @@ returns-2 : tie.Need-returns-2
 returns-2 c =
     let e = c .before .before .before .before .before .before .before .before .before .before .before .before .before .before .before .before .before .before .before .before .before .before .before .before in
     let k = c .before .before .before .before .before .before .before .before .before .before .emit-ahead in
-    let l = k .kept .1 .1 .1 .1 in
+    let l = k .kept .1 .1 .1 .1 .1 in
     let p = c .before .before .before .advanced in
     λ a s b r.
     gives-by refl (c .on .ensures ∙ ap (turned went.On) (c .before .with-sinks .ensures ∙ ap (sinksSet (k .result)) (c .before .before .with-source .ensures)))

@@ -40,7 +40,7 @@ returns-2 c =
     let k = c .before .before .before .before .before .before .separated in
     λ a s b x xs r q.
     gives-by refl (c .on .ensures ∙ ap (turned went.On) (c .before .with-calls .ensures))
-    (comma-next r x xs q (c .before .before .before .before .before .before .before .before .before .if1 .left) (k .ensures (c .before .before .before .before .before .before .before .before .before .before .before .before .before .before .args .calls .now) x xs (top-call r q)) (k .kept .0) (k .kept .1 .0))
+    (comma-next r x xs q (c .before .before .before .before .before .before .before .before .before .if1 .left) (k .ensures (c .before .before .before .before .before .before .before .before .before .before .before .before .before .before .args .calls .now) x xs (top-call r q)) (k .kept .1 .0) (k .kept .1 .1 .0))
 
 pub next-argument-spec : {M : Type 1} → statement M
 next-argument-spec =

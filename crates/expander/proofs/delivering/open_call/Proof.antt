@@ -85,7 +85,7 @@ on-requires : tie.Need-on-requires
 on-requires c κs = search needs
 
 same-length : tie.Need-same-length
-same-length c = c .before .before .before .before .before .before .before .before .before .before .open-ahead .kept .1 .1 .1 .0
+same-length c = c .before .before .before .before .before .before .before .before .before .before .open-ahead .kept .1 .1 .1 .1 .0
 
 same-length-2 : tie.Need-same-length-2
 same-length-2 c = search needs
@@ -97,7 +97,7 @@ returns-4 : tie.Need-returns-4
 returns-4 c =
     let e = c .before .before .before .before .before .before .before .before .before .before .before .before .before .before .before .before .before .before .before .before .before .before .before .before .before .before .before in
     let k = c .before .before .before .before .before .before .before .before .before .before .open-ahead in
-    let l = k .kept .1 .1 .1 in
+    let l = k .kept .1 .1 .1 .1 in
     let p = c .before .before .before .advanced in
     λ a s b r.
     gives-by refl (c .on .ensures ∙ ap (turned went.On) (c .before .with-calls .ensures ∙ ap (callsSet (k .result)) (c .before .before .with-source .ensures)))

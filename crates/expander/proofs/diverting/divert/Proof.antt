@@ -1,7 +1,8 @@
 -- `expander::diverting::divert` meets its contract: no number, or another current stream. Assumes nothing.
 use mathlib.Core.Path.{refl, sym, ap, _∙_}
 use Rattle.expander.specs.declared.machine.Went.the-variants as went
-use Rattle.expander.specs.Machine.{turned}
+use Rattle.expander.specs.declared.sinks.Sinks.{Sinks}
+use Rattle.expander.specs.Machine.{turned, sinksSet}
 use Rattle.expander.proofs.DivertingLaws.{divert-unread, divert-read}
 use Rattle.expander.proofs.TurnLaws.{gives-by}
 use borrow.Author.Needs.{needs}
@@ -24,6 +25,9 @@ returns : tie.Need-returns
 returns c =
     λ a s b args r h. gives-by refl (c .refused .ensures) (divert-unread r args (sym (c .before .before .before .decimal-or .ensures args h) ∙ c .before .enum-told .given .1))
 
+diverted-requires : tie.Need-diverted-requires
+diverted-requires c κs = search needs
+
 with-sinks-requires : tie.Need-with-sinks-requires
 with-sinks-requires c κs = search needs
 
@@ -33,7 +37,7 @@ on-requires c κs = search needs
 returns-2 : tie.Need-returns-2
 returns-2 c =
     λ a s b args r h.
-    gives-by refl (c .on .ensures ∙ ap (turned went.On) (c .before .with-sinks .ensures)) (divert-read r args _ (sym (c .before .before .before .before .before .decimal-or .ensures args h) ∙ c .before .before .before .current .given .1))
+    gives-by refl (c .on .ensures ∙ ap (turned went.On) (c .before .with-sinks .ensures ∙ ap (λ (k : Sinks). sinksSet k (c .before .before .before .before .before .before .before .before .before .args .m)) (c .before .before .diverted .ensures))) (divert-read r args _ (sym (c .before .before .before .before .before .before .decimal-or .ensures args h) ∙ c .before .before .before .before .current .given .1))
 
 pub divert-spec : {M : Type 1} → statement M
 divert-spec =
@@ -44,6 +48,7 @@ divert-spec =
     enum-told
     refused-requires
     returns
+    diverted-requires
     with-sinks-requires
     on-requires
     returns-2)

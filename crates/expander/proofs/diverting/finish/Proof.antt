@@ -2,7 +2,8 @@
 use mathlib.Core.Path.{refl, ap, _∙_}
 use Rattle.rules.specs.declared.Answer.the-variants as answer
 use Rattle.expander.specs.declared.machine.Went.the-variants as went
-use Rattle.expander.specs.Machine.{turned}
+use Rattle.expander.specs.declared.sinks.Sinks.{Sinks}
+use Rattle.expander.specs.Machine.{turned, sinksSet}
 use Rattle.expander.proofs.DivertingLaws.{finish-full, finish-ends}
 use Rattle.expander.proofs.TurnLaws.{gives-by}
 use borrow.Author.Needs.{needs}
@@ -33,6 +34,9 @@ part-finish-end c = search needs
 finish-requires : tie.Need-finish-requires
 finish-requires c κs = search needs
 
+emptied-requires : tie.Need-emptied-requires
+emptied-requires c κs = search needs
+
 with-sinks-requires : tie.Need-with-sinks-requires
 with-sinks-requires c κs = search needs
 
@@ -44,10 +48,10 @@ same-length c = search needs
 
 returns-2 : tie.Need-returns-2
 returns-2 c =
-    let f = c .before .before .before .before .finish in
+    let f = c .before .before .before .before .before .finish in
     λ a s b r.
-    gives-by refl (c .ended .ensures ∙ ap (turned (went.Ended answer.Done)) (c .before .with-sinks .ensures))
-    (finish-ends r (f .last .1 .1 .1 .0) (f .ensures (s .streams .waiting) (r .sinks .waiting)) (c .before .before .before .before .before .before .if1 .left))
+    gives-by refl (c .ended .ensures ∙ ap (turned (went.Ended answer.Done)) (c .before .with-sinks .ensures ∙ ap (λ (k : Sinks). sinksSet k (c .before .before .before .before .before .before .before .before .before .before .before .args .m)) (c .before .before .emptied .ensures)))
+    (finish-ends r (f .last .1 .1 .1 .0) (f .ensures (s .streams .waiting) (r .sinks .waiting)) (c .before .before .before .before .before .before .before .if1 .left))
 
 pub finish-spec : {M : Type 1} → statement M
 finish-spec =
@@ -61,6 +65,7 @@ finish-spec =
     part-finish-start
     part-finish-end
     finish-requires
+    emptied-requires
     with-sinks-requires
     ended-requires
     same-length

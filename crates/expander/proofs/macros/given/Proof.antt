@@ -4,7 +4,8 @@ use Rattle.expander.specs.declared.giving.Given.{Given}
 use Rattle.expander.specs.declared.machine.Machine.{Machine}
 use Rattle.expander.specs.declared.machine.Went.the-variants as went
 use Rattle.expander.specs.Giving.{givenTurn}
-use Rattle.expander.specs.Machine.{turned}
+use Rattle.expander.specs.declared.source.Position.{Position}
+use Rattle.expander.specs.Machine.{sourceSet, turned}
 use borrow.Author.Needs.{needs}
 use Rattle.expander.proofs.macros.given.Statement.{statement}
 use Rattle.expander.proofs.macros.given.Tie as tie
@@ -17,6 +18,9 @@ refused-requires c κs = search needs
 
 enum-known-g-2 : tie.Need-enum-known-g-2
 enum-known-g-2 c = search needs
+
+pushed-requires : tie.Need-pushed-requires
+pushed-requires c κs = search needs
 
 with-source-requires : tie.Need-with-source-requires
 with-source-requires c κs = search needs
@@ -31,8 +35,8 @@ returns c = let s = c .before .before .before .before .args in c .refused .ensur
 returns-2 : tie.Need-returns-2
 unfolding givenTurn
 returns-2 c =
-    let s = c .before .before .before .before .before .args in
-    c .on .ensures ∙ ap (λ (m : Machine). turned went.On m) (c .before .with-source .ensures) ∙ ap (λ (g : Given). givenTurn (s .m) g) (sym (c .before .before .before .g2 .given .1))
+    let s = c .before .before .before .before .before .before .args in
+    c .on .ensures ∙ ap (λ (m : Machine). turned went.On m) (c .before .with-source .ensures ∙ ap (λ (p : Position). sourceSet p (s .m)) (c .before .before .pushed .ensures)) ∙ ap (λ (g : Given). givenTurn (s .m) g) (sym (c .before .before .before .before .g2 .given .1))
 
 pub given-spec : {M : Type 1} → statement M
 given-spec =
@@ -41,6 +45,7 @@ given-spec =
     enum-known-g
     refused-requires
     enum-known-g-2
+    pushed-requires
     with-source-requires
     on-requires
     returns

@@ -12,28 +12,19 @@ use Rattle.expander.proofs.remarking.changecom.Tie as tie
 count-requires : tie.Need-count-requires
 count-requires c κs = search needs
 
-slice-aggregate-mark-of : tie.Need-slice-aggregate-mark-of
-slice-aggregate-mark-of c = search needs
-
-mark-of-requires : tie.Need-mark-of-requires
-mark-of-requires c κs = search needs
-
-with-comments-requires : tie.Need-with-comments-requires
-with-comments-requires c κs = search needs
-
-with-marks-requires : tie.Need-with-marks-requires
-with-marks-requires c κs = search needs
+without-comments-requires : tie.Need-without-comments-requires
+without-comments-requires c κs = search needs
 
 on-requires : tie.Need-on-requires
 on-requires c κs = search needs
 
 returns : tie.Need-returns
 returns c =
-    let p = c .before .before .before .before .before .before .before .before .before .before .args in
+    let p = c .before .before .before .before .before .before .args in
+    let e = c .before .without-comments .ensures in
     λ a s b args r h.
-    let n : length args ≡ 0 = omega (arith, c .before .before .before .before .before .if1 .taken, c .before .before .before .before .before .before .before .count .ensures (p .calls .now) (p .ends .now) args h) in
-    changecom-none r args n (c .before .with-marks .ensures) (c .on .ensures) (c .before .before .before .mark-of .result) (c .before .before .before .mark-of .ensures .0)
-    (c .before .before .before .mark-of .ensures .1) (c .before .before .with-comments .ensures .0) (c .before .before .with-comments .ensures .1)
+    let n : length args ≡ 0 = omega (arith, c .before .before .if1 .taken, c .before .before .before .count .ensures (p .calls .now) (p .ends .now) args h) in
+    changecom-none r args n (e .0) (c .on .ensures) (e .1) (e .2)
 
 argument-requires : tie.Need-argument-requires
 argument-requires c κs = search needs
@@ -49,9 +40,9 @@ remarked-comments-requires c κs = search needs
 
 returns-2 : tie.Need-returns-2
 returns-2 c =
-    let p = c .before .before .before .before .before .before .before .before .before .args in
+    let p = c .before .before .before .before .before .before .before .before .args in
     λ a s b args r h.
-    let n = c .before .before .before .before .before .before .count .ensures (p .calls .now) (p .ends .now) args h in
+    let n = c .before .before .before .before .before .count .ensures (p .calls .now) (p .ends .now) args h in
     gives-by (changecom-some args s (c .before .before .before .argument .ensures args h) (c .before .end-mark .ensures args h) (λ e. c .before .before .before .before .if1 .left (n ∙ e)))
     refl (c .remarked-comments .ensures a s (stringsAt (p .calls .now) (p .ends .now) b) r)
 
@@ -60,10 +51,7 @@ changecom-spec =
     tie.close
     (tie.spec
     count-requires
-    slice-aggregate-mark-of
-    mark-of-requires
-    with-comments-requires
-    with-marks-requires
+    without-comments-requires
     on-requires
     returns
     argument-requires

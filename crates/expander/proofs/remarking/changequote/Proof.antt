@@ -12,25 +12,19 @@ use Rattle.expander.proofs.remarking.changequote.Tie as tie
 count-requires : tie.Need-count-requires
 count-requires c κs = search needs
 
-default-marks-requires : tie.Need-default-marks-requires
-default-marks-requires c κs = search needs
-
-with-quotes-requires : tie.Need-with-quotes-requires
-with-quotes-requires c κs = search needs
-
-with-marks-requires : tie.Need-with-marks-requires
-with-marks-requires c κs = search needs
+with-default-quotes-requires : tie.Need-with-default-quotes-requires
+with-default-quotes-requires c κs = search needs
 
 on-requires : tie.Need-on-requires
 on-requires c κs = search needs
 
 returns : tie.Need-returns
 returns c =
-    let p = c .before .before .before .before .before .before .before .before .before .args in
+    let p = c .before .before .before .before .before .before .args in
+    let e = c .before .with-default-quotes .ensures in
     λ a s b args r h.
-    let n : length args ≡ 0 = omega (arith, c .before .before .before .before .if1 .taken, c .before .before .before .before .before .before .count .ensures (p .calls .now) (p .ends .now) args h) in
-    changequote-none r args n (c .before .with-marks .ensures) (c .on .ensures) (c .before .before .before .default-marks .ensures .0) (c .before .before .before .default-marks .ensures .1)
-    (c .before .before .with-quotes .ensures .0) (c .before .before .with-quotes .ensures .1)
+    let n : length args ≡ 0 = omega (arith, c .before .before .if1 .taken, c .before .before .before .count .ensures (p .calls .now) (p .ends .now) args h) in
+    changequote-none r args n (e .0) (c .on .ensures) (e .1) (e .2)
 
 argument-requires : tie.Need-argument-requires
 argument-requires c κs = search needs
@@ -46,9 +40,9 @@ remarked-quotes-requires c κs = search needs
 
 returns-2 : tie.Need-returns-2
 returns-2 c =
-    let p = c .before .before .before .before .before .before .before .before .before .args in
+    let p = c .before .before .before .before .before .before .before .before .args in
     λ a s b args r h.
-    let n = c .before .before .before .before .before .before .count .ensures (p .calls .now) (p .ends .now) args h in
+    let n = c .before .before .before .before .before .count .ensures (p .calls .now) (p .ends .now) args h in
     gives-by (changequote-some args s (c .before .before .before .argument .ensures args h) (c .before .end-mark .ensures args h) (λ e. c .before .before .before .before .if1 .left (n ∙ e)))
     refl (c .remarked-quotes .ensures a s (stringsAt (p .calls .now) (p .ends .now) b) r)
 
@@ -57,9 +51,7 @@ changequote-spec =
     tie.close
     (tie.spec
     count-requires
-    default-marks-requires
-    with-quotes-requires
-    with-marks-requires
+    with-default-quotes-requires
     on-requires
     returns
     argument-requires

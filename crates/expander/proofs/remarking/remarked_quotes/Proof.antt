@@ -30,23 +30,20 @@ mark-of-requires-2 c κs = sized (c .before) .end .most
 with-quotes-requires : tie.Need-with-quotes-requires
 with-quotes-requires c κs = search needs
 
-with-marks-requires : tie.Need-with-marks-requires
-with-marks-requires c κs = search needs
-
 on-requires : tie.Need-on-requires
 on-requires c κs = search needs
 
 returns-2 : tie.Need-returns-2
 returns-2 c =
-    let k = c .before .before .before .before .before in
+    let k = c .before .before .before .before in
     let p = k .before .before .before .before .args in
-    let v = c .before .before .before .before .mark-of in
-    let w = c .before .before .before .mark-of2 in
-    let x = c .before .before .with-quotes .ensures in
+    let v = c .before .before .before .mark-of in
+    let w = c .before .before .mark-of2 in
+    let x = c .before .with-quotes .ensures in
     let z = sized k in
     λ a s b r.
-    well-marked withQuotes (p .begin .now) (p .end .now) s (k .before .are-marks .ensures) (k .if1 .left) r (v .result) (w .result) (v .ensures .0) (w .ensures .0) (x .0)
-    (x .1 (r .marks-good) (made-full (z .begin) (v .ensures .1)) (made-full (z .end) (w .ensures .1))) (c .before .with-marks .ensures) (c .on .ensures)
+    well-marked withQuotes (p .begin .now) (p .end .now) s (k .before .are-marks .ensures) (k .if1 .left) r (v .result) (w .result) (v .ensures .0) (w .ensures .0) (x .1)
+    (x .2 (r .marks-good) (made-full (z .begin) (v .ensures .1)) (made-full (z .end) (w .ensures .1))) (x .0) (c .on .ensures)
 
 pub remarked-quotes-spec : {M : Type 1} → statement M
 remarked-quotes-spec =
@@ -58,6 +55,5 @@ remarked-quotes-spec =
     mark-of-requires
     mark-of-requires-2
     with-quotes-requires
-    with-marks-requires
     on-requires
     returns-2)

@@ -3,7 +3,8 @@ use native.Mathlib.Omega.{arith}
 use mathlib.Core.Path.{refl, sym, ap, _∙_}
 use lib.Seq.{length-take-le}
 use Rattle.expander.specs.declared.machine.Went.the-variants as went
-use Rattle.expander.specs.Machine.{pendingAt, wrapAt, wrapSet, turned}
+use Rattle.expander.specs.declared.source.Position.{Position}
+use Rattle.expander.specs.Machine.{pendingAt, wrapAt, sourceSet, wrapSet, turned}
 use Rattle.expander.proofs.StepLaws.{lends, by, turns, end-refused, end-finished, end-full, end-pending}
 use borrow.Author.Needs.{needs}
 use Rattle.expander.proofs.step.at_end.Statement.{statement}
@@ -51,6 +52,9 @@ push-requires c κs =
     let h = length-take-le (q .args .m .wrap) (q .args .wrap .now) (q .pre .0 .means .wrap .inside) in
     (omega (arith, h, q .pre .1, p .if3 .left), omega (arith, q .pre .1))
 
+pushed-requires : tie.Need-pushed-requires
+pushed-requires c κs = search needs
+
 with-source-requires : tie.Need-with-source-requires
 with-source-requires c κs = search needs
 
@@ -66,11 +70,12 @@ same-length-2 c = search needs
 returns-4 : tie.Need-returns-4
 returns-4 c =
     let p = c .before .before in
-    let q = p .before .before .before in
+    let w = p .before in
+    let q = w .before .before .before in
     let u = q .before .before .before .before in
     let v = u .before in
     let k = q .push in
-    λ a s b r. turns (c .on .ensures ∙ ap (turned went.On) (c .before .with-wrap .ensures ∙ ap (wrapSet 0) (p .with-source .ensures)))
+    λ a s b r. turns (c .on .ensures ∙ ap (turned went.On) (c .before .with-wrap .ensures ∙ ap (wrapSet 0) (p .with-source .ensures ∙ ap (λ (x : Position). sourceSet x (v .before .before .before .before .before .before .before .args .m)) (w .pushed .ensures))))
     (end-pending r (v .if1 .left) (u .if2 .left) _ (k .result) (omega (arith, k .kept)) (omega (arith, k .kept, k .ensures .0, r .source .from-in)) (k .ensures .1))
 
 pub at-end-spec : {M : Type 1} → statement M
@@ -86,6 +91,7 @@ at-end-spec =
     returns-3
     slice-aggregate-push
     push-requires
+    pushed-requires
     with-source-requires
     with-wrap-requires
     on-requires

@@ -9,14 +9,6 @@ use Rattle.expander.proofs.TurnLaws.{turned-refused}
 use borrow.Author.Needs.{needs}
 use Rattle.expander.proofs.step.special_step.Statement.{statement}
 use Rattle.expander.proofs.step.special_step.Tie as tie
-use Rattle.expander.proofs.step.special_step.Reads as reads
-use Rattle.expander.proofs.step.special_step.Lts as lts
-use Rattle.expander.proofs.closing.bare.Reads as bare-reads
-use Rattle.expander.proofs.closing.close.Reads as close-reads
-use Rattle.expander.proofs.machine.Machine.refused.Reads as refused-reads
-use Rattle.expander.proofs.machine.Machine.with_source.Reads as with-source-reads
-use Rattle.expander.proofs.source.advanced.Reads as advanced-reads
-use Rattle.expander.proofs.step.at_end.Reads as at-end-reads
 
 -- the memory lent
 abbrev lent : tie.Start → Memory → Memory

@@ -8,16 +8,6 @@ use Rattle.expander.proofs.TurnLaws.{turned-on}
 use borrow.Author.Needs.{needs}
 use Rattle.expander.proofs.stretch.plain_step.Statement.{statement}
 use Rattle.expander.proofs.stretch.plain_step.Tie as tie
-use Rattle.expander.proofs.stretch.plain_step.Reads as reads
-use Rattle.expander.proofs.stretch.plain_step.Lts as lts
-use Rattle.expander.proofs.delivering.collect_byte.Reads as collect-byte-reads
-use Rattle.expander.proofs.delivering.deliver.Reads as deliver-reads
-use Rattle.expander.proofs.delivering.emit_byte.Reads as emit-byte-reads
-use Rattle.expander.proofs.delivering.next_argument.Reads as next-argument-reads
-use Rattle.expander.proofs.delivering.open_call.Reads as open-call-reads
-use Rattle.expander.proofs.machine.Machine.on.Reads as on-reads
-use Rattle.expander.proofs.machine.Machine.with_source.Reads as with-source-reads
-use Rattle.expander.proofs.source.advanced.Reads as advanced-reads
 
 enum-known-p : tie.Need-enum-known-p
 enum-known-p c = search needs

@@ -1,4 +1,7 @@
 -- `expander::texts::m4exit` meets its contract. Assumes nothing.
+use mathlib.Core.Path.{ap, _∙_}
+use Rattle.expander.specs.declared.sinks.Sinks.{Sinks}
+use Rattle.expander.specs.Machine.{sinksSet}
 use Rattle.expander.proofs.TextLaws.{exit-refused, exited}
 use borrow.Author.Needs.{needs}
 use Rattle.expander.proofs.texts.m4exit.Statement.{statement}
@@ -20,6 +23,9 @@ returns : tie.Need-returns
 returns c =
     λ a s b args r h. exit-refused r args (c .before .before .before .natural-or .ensures args h) (c .before .enum-told .given .1) (c .refused .ensures)
 
+emptied-requires : tie.Need-emptied-requires
+emptied-requires c κs = search needs
+
 with-sinks-requires : tie.Need-with-sinks-requires
 with-sinks-requires c κs = search needs
 
@@ -31,9 +37,9 @@ ended-requires c κs = search needs
 
 returns-2 : tie.Need-returns-2
 returns-2 c =
-    let k = c .before .before .before .before .code .given in
+    let k = c .before .before .before .before .before .code .given in
     λ a s b args r h.
-    exited r args (c .before .before .before .before .before .before .natural-or .ensures args h) (k .0 .0) (k .1) (c .before .before .with-sinks .ensures) (c .before .with-wrap .ensures) (c .ended .ensures)
+    exited r args (c .before .before .before .before .before .before .before .natural-or .ensures args h) (k .0 .0) (k .1) (c .before .before .with-sinks .ensures ∙ ap (λ (k : Sinks). sinksSet k (c .before .before .before .before .before .before .before .before .before .before .args .m)) (c .before .before .before .emptied .ensures)) (c .before .with-wrap .ensures) (c .ended .ensures)
 
 pub m4exit-spec : {M : Type 1} → statement M
 m4exit-spec =
@@ -44,6 +50,7 @@ m4exit-spec =
     enum-told
     refused-requires
     returns
+    emptied-requires
     with-sinks-requires
     with-wrap-requires
     ended-requires

@@ -1,0 +1,84 @@
+-- `expander::packed::Packed::remove_two` meets its contract: the law `removed-two`, with what `start` returned for a and e. Assumes nothing.
+use Prim.Native.Nat.{_+_}
+use native.Mathlib.Omega.{arith}
+use Rattle.expander.proofs.Splicing.{Spans, spans, rebasable, removed-two}
+use borrow.Author.Needs.{needs}
+use Rattle.expander.proofs.packed.Packed.remove_two.Statement.{statement}
+use Rattle.expander.proofs.packed.Packed.remove_two.Tie as tie
+
+start-requires : tie.Need-start-requires
+start-requires c κs = search needs
+
+add-start : tie.Need-add-start
+add-start c = search needs
+
+start-requires-2 : tie.Need-start-requires-2
+start-requires-2 c κs = search needs
+
+abbrev entry : tie.After-start2 → tie.Start
+entry c = c .before .before .before .before .before .before
+
+-- after both calls of `start`: where the two strings lie
+at : (c : tie.After-start2) → Spans (entry c .args .bytes .now) (entry c .args .self .used) (c .before .before .start .result) (c .start2 .result)
+at c =
+    let s = entry c in
+    spans (s .pre .0 .packs) (s .args .k) (s .args .k + 2) (c .before .before .start .result) (c .start2 .result) (omega arith) (omega (arith, s .pre))
+    (c .before .before .start .ensures) (c .start2 .ensures)
+
+sub-n : tie.Need-sub-n
+sub-n c = at c .ordered
+
+sub-fewer : tie.Need-sub-fewer
+sub-fewer c = search needs
+
+sub-less : tie.Need-sub-less
+sub-less c = omega (arith, at c .inside)
+
+move-bytes-requires : tie.Need-move-bytes-requires
+move-bytes-requires c κs = (at (c .before) .inside, at (c .before) .all, omega (arith, at (c .before) .ordered, at (c .before) .inside, at (c .before) .all))
+
+add-rebase : tie.Need-add-rebase
+add-rebase c = search needs
+
+rebase-requires : tie.Need-rebase-requires
+rebase-requires c κs =
+    let s2 = c .before .before .before .before .before in
+    let s = entry s2 in
+    let a = s .args in
+    let f = s .pre .0 .packs in (
+      (omega (arith, s .pre), omega (arith, s .pre), omega (arith, f .count-in)),
+      λ j lj jc.
+          rebasable f (a .k) (a .k + 2) (s2 .before .before .start .result) (s2 .start2 .result) 0 (omega arith) (omega (arith, s .pre)) (s2 .before .before .start .ensures)
+          (s2 .start2 .ensures) (omega (arith, s .pre, at s2 .all)) j (omega arith) jc,
+    )
+
+same-length : tie.Need-same-length
+same-length c = search needs
+
+same-length-2 : tie.Need-same-length-2
+same-length-2 c = search needs
+
+returns : tie.Need-returns
+returns c =
+    let s2 = c .before .before .before .before .before .before .before .before in
+    let s = entry s2 in
+    λ ss h.
+    removed-two h (s .args .k) (s2 .before .before .start .result) (s2 .start2 .result) (omega (arith, s .pre)) (s2 .before .before .start .ensures) (s2 .start2 .ensures)
+    (c .before .before .rebase .ensures) (c .before .before .before .before .before .before .move-bytes .ensures)
+
+pub remove-two-spec : {M : Type 1} → statement M
+remove-two-spec =
+    tie.close
+    (tie.spec
+    start-requires
+    add-start
+    start-requires-2
+    sub-n
+    sub-fewer
+    sub-less
+    move-bytes-requires
+    add-rebase
+    rebase-requires
+    same-length
+    same-length-2
+    returns)
