@@ -1,4 +1,6 @@
 // Tokens that stand for themselves: they go to the current stream, or an open call collects them; and calls are opened.
+use crate::limits::MOST_ARGUMENTS;
+use crate::limits::MOST_CALLS;
 use crate::machine::Machine;
 use crate::machine::Turn;
 use crate::sinks;
@@ -166,10 +168,10 @@ pub(crate) fn open_call(
     let from = p.from;
     let taken = p.taken;
     let opens = m.calls.opens;
-    if 64 <= opens {
+    if MOST_CALLS <= opens {
         return m.refused(Answer::Deep);
     }
-    if 256 <= m.calls.strings.count - opens {
+    if MOST_ARGUMENTS <= m.calls.strings.count - opens {
         return m.refused(Answer::Deep);
     }
     if calls.len() - m.calls.strings.used < n {
@@ -187,7 +189,7 @@ pub(crate) fn next_argument(calls: &[u8], ends: &mut [u32], stack: &mut [u32], m
     requires { ⌜ 0 < m .calls .opens ⌝ }
     ensures { λ t. ⌜ ((a : Setting) (s : State) (b : Memory) (c : Call) (cs : List Call) → Means a (callsAt (now (calls .entry)) (now (ends .entry)) (now (stack .entry)) b) m s → s .calls ≡ c ∷ cs → Gives a (callsAt (now (calls .entry)) (now (ends .entry)) (now (stack .entry)) b) (commaMet c cs s) (callsAt (now (calls .entry)) (now (ends .exit)) (now (stack .exit)) b) t) ⌝ }
 {
-    if 256 <= m.calls.strings.count - m.calls.opens {
+    if MOST_ARGUMENTS <= m.calls.strings.count - m.calls.opens {
         return m.refused(Answer::Deep);
     }
     let k = m.calls.separated(ends, stack);

@@ -14,6 +14,7 @@ mod events;
 mod figures;
 mod fill;
 mod giving;
+mod limits;
 mod lists;
 mod machine;
 mod macros;
@@ -33,6 +34,10 @@ mod table;
 mod texts;
 mod tokens;
 
+use crate::limits::CALL_ENDS;
+use crate::limits::MOST_LENT;
+use crate::limits::STACK;
+use crate::limits::TABLE_ENDS;
 use rules::Answer;
 use rules::Report;
 ghost use mathlib.Core.Path.{_≡_};
@@ -108,13 +113,13 @@ fn work(
     requires { ⌜ Lent (length (now text)) (length (now pending)) (length (now calls)) (length (now definitions)) (length (now streams)) (length (now wrap)) (length (now errors)) (length (now output)) ⌝ }
     ensures { λ r. ⌜ Wrote (runFrom (lengths (settingOf (record { pending = now (pending .entry); calls = now (calls .entry); definitions = now (definitions .entry); streams = now (streams .entry); wrap = now (wrap .entry); errors = now (errors .entry); output = now (output .entry) }) budget)) budget 0 (startState (freshStart (now (text .entry))))) (now (errors .entry)) (now (output .entry)) (now (errors .exit)) (now (output .exit)) r ⌝ }
 {
-    let mut ends = [0u32; 320];
-    let mut stack = [0u32; 192];
-    let mut table_ends = [0u32; 131072];
-    let mut owners = [0u8; 65536];
-    let mut error_text = [0u8; 65536];
-    let mut output_text = [0u8; 65536];
-    let mut scratch = [0u8; 65536];
+    let mut ends = [0u32; CALL_ENDS];
+    let mut stack = [0u32; STACK];
+    let mut table_ends = [0u32; TABLE_ENDS];
+    let mut owners = [0u8; MOST_LENT];
+    let mut error_text = [0u8; MOST_LENT];
+    let mut output_text = [0u8; MOST_LENT];
+    let mut scratch = [0u8; MOST_LENT];
     copied(
         text,
         pending,
@@ -150,28 +155,28 @@ fn clear_five(a: &mut [u8], b: &mut [u8], c: &mut [u8], d: &mut [u8], e: &mut [u
 fn lendable(t: usize, a: usize, b: usize, c: usize, d: usize, e: usize, f: usize, g: usize) -> bool
     ensures { λ r. ⌜ r ≡ allLendable (t ∷ a ∷ b ∷ c ∷ d ∷ e ∷ f ∷ g ∷ []) ⌝ }
 {
-    if 65536 < t {
+    if MOST_LENT < t {
         return false;
     }
-    if 65536 < a {
+    if MOST_LENT < a {
         return false;
     }
-    if 65536 < b {
+    if MOST_LENT < b {
         return false;
     }
-    if 65536 < c {
+    if MOST_LENT < c {
         return false;
     }
-    if 65536 < d {
+    if MOST_LENT < d {
         return false;
     }
-    if 65536 < e {
+    if MOST_LENT < e {
         return false;
     }
-    if 65536 < f {
+    if MOST_LENT < f {
         return false;
     }
-    if 65536 < g {
+    if MOST_LENT < g {
         return false;
     }
     true

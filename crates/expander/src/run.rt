@@ -1,5 +1,6 @@
 // A run: steps until one ends the run or is refused, or the budget is spent.
 use crate::calls::Calls;
+use crate::limits::ALL_OWN;
 use crate::machine::Machine;
 use crate::machine::Went;
 use crate::marking;
@@ -39,7 +40,7 @@ fn start(from: usize) -> Machine
         },
         table: Definitions {
             packed: none,
-            own: 16777215,
+            own: ALL_OWN,
         },
         sinks: Sinks {
             current: 0,

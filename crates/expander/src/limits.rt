@@ -1,0 +1,22 @@
+// The bounds of a run, and the lengths of the links that follow from them.
+
+// Bytes of the text, and of a buffer that is lent.
+pub(crate) const MOST_LENT: usize = 65536;
+
+// Open calls, and arguments over all of them.
+pub(crate) const MOST_CALLS: usize = 64;
+
+pub(crate) const MOST_ARGUMENTS: usize = 256;
+
+// The ends of an open call's strings, its name and its arguments, and three words for each call.
+pub(crate) const CALL_ENDS: usize = MOST_CALLS + MOST_ARGUMENTS;
+
+pub(crate) const STACK: usize = 3 * MOST_CALLS;
+
+// The ends of name and text for each definition, which has a byte at least.
+pub(crate) const TABLE_ENDS: usize = 2 * MOST_LENT;
+
+// The predefined macros, and the mask in which each keeps its own meaning.
+const MACROS: u32 = 24;
+
+pub(crate) const ALL_OWN: u32 = (1 << MACROS) - 1;
