@@ -14,6 +14,7 @@ use Rattle.rules.specs.Bytes.{Bytes}
 use Rattle.rules.specs.Arguments.{arg}
 use Rattle.expander.specs.declared.arguments.Arguments.{Arguments}
 use Rattle.expander.specs.declared.arguments.Span.{Span}
+use Rattle.expander.specs.Limits.{mostLent, callEndsLength}
 use Rattle.expander.specs.Packed.{Packs}
 
 -- the packed strings from `base` on are the arguments
@@ -22,8 +23,8 @@ pub record ArgumentsIn (bytes : Bytes) (ends : List ℕ) (x : Arguments) (args :
   pub packs : Packs ends (x .strings .count) bytes (x .strings .used) strings
   pub are : args ≡ drop (x .base) strings
   pub base-in : x .base ≤ x .strings .count
-  pub few : x .strings .count ≤ 320
-  pub short : length bytes ≤ 65536
+  pub few : x .strings .count ≤ callEndsLength
+  pub short : length bytes ≤ mostLent
 
 -- there are some: what functions ask
 pub record SomeArguments (bytes : Bytes) (ends : List ℕ) (x : Arguments) : Type 0 where

@@ -7,6 +7,7 @@ use lib.ListN.{length, getD}
 use Rattle.rules.specs.Bytes.{Bytes}
 use Rattle.rules.specs.State.{Call}
 use Rattle.expander.specs.declared.calls.Calls.{Calls}
+use Rattle.expander.specs.Limits.{mostLent, mostCalls, mostArguments, callEndsLength, stackLength}
 use Rattle.expander.specs.Packed.{Packs}
 
 -- the strings of a call: its name, the finished arguments, the one being collected
@@ -36,26 +37,26 @@ pub record CallsIn (bytes : Bytes) (ends stack : List ℕ) (x : Calls) (cs : Lis
   pub strings : Packs ends (x .strings .count) bytes (x .strings .used) (openStrings cs)
   pub open-is : length cs ≡ x .opens
   pub stacked : Stacked stack cs
-  pub open-few : x .opens ≤ 64
-  pub args-few : x .strings .count ≤ x .opens + 256
+  pub open-few : x .opens ≤ mostCalls
+  pub args-few : x .strings .count ≤ x .opens + mostArguments
 
 -- the links are as long as they should be
 pub record CallLinks (ends stack : List ℕ) : Type 0 where
-  pub ends-long : length ends ≡ 320
-  pub stack-long : length stack ≡ 192
+  pub ends-long : length ends ≡ callEndsLength
+  pub stack-long : length stack ≡ stackLength
 
 -- some calls are open in some buffer: what a function asks that has the links alone
 pub record SomeCalls (ends stack : List ℕ) (x : Calls) : Type 0 where
   pub bytes : Bytes
   pub calls : List Call
   pub are : CallsIn bytes ends stack x calls
-  pub short : length bytes ≤ 65536
+  pub short : length bytes ≤ mostLent
   pub links : CallLinks ends stack
 
 -- some calls are open, and n bytes more fit behind their strings
 pub record CallRoom (bytes : Bytes) (ends stack : List ℕ) (x : Calls) (n : ℕ) : Type 0 where
   pub calls : List Call
   pub are : CallsIn bytes ends stack x calls
-  pub short : length bytes ≤ 65536
+  pub short : length bytes ≤ mostLent
   pub links : CallLinks ends stack
   pub fits : x .strings .used + n ≤ length bytes

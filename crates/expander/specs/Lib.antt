@@ -8,6 +8,7 @@ pub mod Events
 pub mod Filled
 pub mod Front
 pub mod Giving
+pub mod Limits
 pub mod Machine
 pub mod Macros
 pub mod Packed

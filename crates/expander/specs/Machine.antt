@@ -16,6 +16,7 @@ use Rattle.expander.specs.declared.table.Definitions.{Definitions}
 use Rattle.expander.specs.declared.machine.Turn.{Turn}
 use Rattle.expander.specs.declared.machine.Went.{Went}
 use Rattle.expander.specs.declared.machine.Went.the-variants as went
+use Rattle.expander.specs.Limits.{mostLent, callEndsLength, stackLength, tableEndsLength}
 use Rattle.expander.specs.Source.{SourceIn}
 use Rattle.expander.specs.Calls.{CallsIn}
 use Rattle.expander.specs.Table.{TableIn}
@@ -97,25 +98,25 @@ errorsAt errors b =
 
 -- how much is lent, and how long the links are
 pub record Limits (a : Setting) (b : Memory) : Type 0 where
-  pub text : length (b .text) ≤ 65536
+  pub text : length (b .text) ≤ mostLent
   pub pending : a .pending ≡ length (b .pending)
-  pub pending-most : length (b .pending) ≤ 65536
+  pub pending-most : length (b .pending) ≤ mostLent
   pub calls : a .calls ≡ length (b .calls)
-  pub calls-most : length (b .calls) ≤ 65536
+  pub calls-most : length (b .calls) ≤ mostLent
   pub definitions : a .definitions ≡ length (b .definitions)
-  pub definitions-most : length (b .definitions) ≤ 65536
+  pub definitions-most : length (b .definitions) ≤ mostLent
   pub streams : a .streams ≡ length (b .streams)
-  pub streams-most : length (b .streams) ≤ 65536
+  pub streams-most : length (b .streams) ≤ mostLent
   pub wrap : a .wrap ≡ length (b .wrap)
-  pub wrap-most : length (b .wrap) ≤ 65536
+  pub wrap-most : length (b .wrap) ≤ mostLent
   pub errors : a .errors ≡ length (b .errors)
-  pub errors-most : length (b .errors) ≤ 65536
+  pub errors-most : length (b .errors) ≤ mostLent
   pub output : a .output ≡ length (b .output)
-  pub output-most : length (b .output) ≤ 65536
-  pub call-ends : length (b .callEnds) ≡ 320
-  pub stack : length (b .stack) ≡ 192
-  pub table-ends : length (b .tableEnds) ≡ 131072
-  pub owners : length (b .owners) ≡ 65536
+  pub output-most : length (b .output) ≤ mostLent
+  pub call-ends : length (b .callEnds) ≡ callEndsLength
+  pub stack : length (b .stack) ≡ stackLength
+  pub table-ends : length (b .tableEnds) ≡ tableEndsLength
+  pub owners : length (b .owners) ≡ mostLent
 
 pub record Means (a : Setting) (b : Memory) (m : Machine) (s : State) : Type 0 where
   pub source : SourceIn (b .text) (b .pending) (m .source) (s .source)

@@ -17,6 +17,7 @@ use Rattle.expander.specs.declared.events.Special.{Special}
 use Rattle.expander.specs.declared.stretch.Stop.{Stop}
 use Rattle.expander.specs.declared.stretch.Stop.the-variants as stop
 use Rattle.expander.specs.declared.stretch.Stretch.{Stretch}
+use Rattle.expander.specs.Limits.{mostLent, callEndsLength, stackLength, tableEndsLength}
 use Rattle.expander.specs.Events.{SpecialWithin, SpecialIs}
 use Rattle.expander.specs.Front.{Front}
 use Rattle.expander.specs.Machine.{Memory, Limits, Means}
@@ -85,21 +86,21 @@ pub record Wrote (e : Ended) (errors output errors′ output′ : Bytes) (r : Re
 
 -- no length is above 65,536
 pub record Lent (text pending calls definitions streams wrap errors output : ℕ) : Type 0 where
-  pub text-in : text ≤ 65536
-  pub pending-in : pending ≤ 65536
-  pub calls-in : calls ≤ 65536
-  pub definitions-in : definitions ≤ 65536
-  pub streams-in : streams ≤ 65536
-  pub wrap-in : wrap ≤ 65536
-  pub errors-in : errors ≤ 65536
-  pub output-in : output ≤ 65536
+  pub text-in : text ≤ mostLent
+  pub pending-in : pending ≤ mostLent
+  pub calls-in : calls ≤ mostLent
+  pub definitions-in : definitions ≤ mostLent
+  pub streams-in : streams ≤ mostLent
+  pub wrap-in : wrap ≤ mostLent
+  pub errors-in : errors ≤ mostLent
+  pub output-in : output ≤ mostLent
 
 -- how long the links are
 pub record LinkLengths (ends stack tableEnds owners : List ℕ) : Type 0 where
-  pub ends-are : length ends ≡ 320
-  pub stack-are : length stack ≡ 192
-  pub table-ends-are : length tableEnds ≡ 131072
-  pub owners-are : length owners ≡ 65536
+  pub ends-are : length ends ≡ callEndsLength
+  pub stack-are : length stack ≡ stackLength
+  pub table-ends-are : length tableEnds ≡ tableEndsLength
+  pub owners-are : length owners ≡ mostLent
 
 -- a buffer that is all zero
 pub record Zeroed (before after : Bytes) : Type 0 where

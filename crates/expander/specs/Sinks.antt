@@ -9,6 +9,7 @@ use Rattle.rules.specs.Bytes.{Bytes}
 use Rattle.rules.specs.Words.{signedValue}
 use Rattle.rules.specs.Streams.{Streams}
 use Rattle.expander.specs.declared.sinks.Sinks.{Sinks}
+use Rattle.expander.specs.Limits.{mostLent}
 use Rattle.expander.specs.Front.{Front}
 use Rattle.expander.specs.Streams.{StreamsIn}
 
@@ -27,6 +28,6 @@ pub record Fits (streams : Bytes) (owners : List ℕ) (output : Bytes) (k : Sink
   pub waiting-in : k .waiting ≤ length streams
   pub output-in : k .output ≤ length output
   pub none-full : fullBuffer (k .current) n (length streams - k .waiting) (length output - k .output) ≡ 0
-  pub owners-long : length owners ≡ 65536
-  pub streams-short : length streams ≤ 65536
-  pub output-short : length output ≤ 65536
+  pub owners-long : length owners ≡ mostLent
+  pub streams-short : length streams ≤ mostLent
+  pub output-short : length output ≤ mostLent

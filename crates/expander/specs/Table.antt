@@ -7,6 +7,7 @@ use mathlib.Core.Option.{Option, none, some}
 use lib.ListN.{length, take, drop, getD}
 use Rattle.rules.specs.Bytes.{Bytes, sameBytes}
 use Rattle.rules.specs.Table.{Meaning, text, predefined, Definition, Table, numberFrom, predefinedNumber}
+use Rattle.expander.specs.Limits.{mostLent, macroCount, tableEndsLength}
 use Rattle.expander.specs.Packed.{Packs}
 use Rattle.expander.specs.declared.packed.Packed.{Packed}
 use Rattle.expander.specs.declared.table.Found.{Found}
@@ -22,12 +23,12 @@ numbered (suc k) = some (suc k)
 -- r is the number of a name among names that are numbered from k
 pub record NumberAmong (k : ℕ) (w : Bytes) (names : List Bytes) (r : ℕ) : Type 0 where
   pub is : numberFrom k w names ≡ numbered r
-  pub most : r ≤ 24
+  pub most : r ≤ macroCount
 
 -- r is the number of a name among the predefined ones
 pub record HasNumber (w : Bytes) (r : ℕ) : Type 0 where
   pub is : predefinedNumber w ≡ numbered r
-  pub most : r ≤ 24
+  pub most : r ≤ macroCount
 
 -- the text of a meaning; a predefined one has none
 unfoldable pub meaningText : Meaning → Bytes
@@ -48,8 +49,8 @@ Plain (d ∷ ds) = (0 < length (d .name)) × (d .meaning ≡ text (meaningText (
 pub record DefinitionsIn (bytes : Bytes) (ends : List ℕ) (p : Packed) (ds : List Definition) : Type 0 where
   pub packs : Packs ends (p .count) bytes (p .used) (rows ds)
   pub plain : Plain ds
-  pub bytes-most : length bytes ≤ 65536
-  pub ends-are : length ends ≡ 131072
+  pub bytes-most : length bytes ≤ mostLent
+  pub ends-are : length ends ≡ tableEndsLength
 
 -- they hold some: what functions ask
 pub record SoundDefinitions (bytes : Bytes) (ends : List ℕ) (p : Packed) : Type 0 where
@@ -60,7 +61,7 @@ pub record SoundDefinitions (bytes : Bytes) (ends : List ℕ) (p : Packed) : Typ
 pub record TableIn (bytes : Bytes) (ends : List ℕ) (p : Packed) (own : ℕ) (t : Table) : Type 0 where
   pub holds : DefinitionsIn bytes ends p (t .definitions)
   pub own-is : t .own ≡ own
-  pub own-few : own < 2 ^ 24
+  pub own-few : own < 2 ^ macroCount
 
 -- the place that a search found
 unfoldable pub placeOf : Found → Option ℕ

@@ -13,6 +13,7 @@ ghost use Rattle.rules.specs.Arguments.{arg, numberOr, bounded};
 ghost use Rattle.rules.specs.Numerals.{number};
 ghost use Rattle.numerals.specs.Answers.{decimalOf, naturalOf};
 ghost use Rattle.expander.specs.Arguments.{ArgumentsIn, SomeArguments, ArgumentLinks, SpanIs, bitsWithin};
+ghost use Rattle.expander.specs.Limits.{mostLent};
 
 // The strings from `base` on.
 pub(crate) struct Arguments {
@@ -36,7 +37,7 @@ pub(crate) fn count(x: Arguments) -> usize
 
 // Where the n-th argument stands, from 1. An absent one is null.
 pub(crate) fn place_of(ends: &[u32], x: Arguments, n: usize) -> Span
-    requires { ⌜ ArgumentLinks (now ends) x × (1 ≤ n) × (n ≤ 65536) ⌝ }
+    requires { ⌜ ArgumentLinks (now ends) x × (1 ≤ n) × (n ≤ mostLent) ⌝ }
     ensures { λ r. ⌜ ((bytes : Bytes) (args : List Bytes) → ArgumentsIn bytes (now (ends .entry)) x args → SpanIs bytes r (arg n args)) ⌝ }
 {
     let k = x.base + (n - 1);
@@ -50,7 +51,7 @@ pub(crate) fn place_of(ends: &[u32], x: Arguments, n: usize) -> Span
 
 // The n-th argument, from 1.
 pub(crate) fn argument<'a>(bytes: &'a [u8], ends: &[u32], x: Arguments, n: usize) -> &'a [u8]
-    requires { ⌜ SomeArguments (now bytes) (now ends) x × (1 ≤ n) × (n ≤ 65536) ⌝ }
+    requires { ⌜ SomeArguments (now bytes) (now ends) x × (1 ≤ n) × (n ≤ mostLent) ⌝ }
     ensures { λ r. ⌜ ((args : List Bytes) → ArgumentsIn (now (bytes .entry)) (now (ends .entry)) x args → now r ≡ arg n args) ⌝ }
 {
     let at = place_of(ends, x, n);
@@ -61,7 +62,7 @@ pub(crate) fn argument<'a>(bytes: &'a [u8], ends: &[u32], x: Arguments, n: usize
 
 // The n-th argument as a number.
 pub(crate) fn decimal_argument(bytes: &[u8], ends: &[u32], x: Arguments, n: usize) -> Decimal
-    requires { ⌜ SomeArguments (now bytes) (now ends) x × (1 ≤ n) × (n ≤ 65536) ⌝ }
+    requires { ⌜ SomeArguments (now bytes) (now ends) x × (1 ≤ n) × (n ≤ mostLent) ⌝ }
     ensures { λ r. ⌜ ((args : List Bytes) → ArgumentsIn (now (bytes .entry)) (now (ends .entry)) x args → r ≡ decimalOf (number (arg n args))) ⌝ }
 {
     numerals::read_number(argument(bytes, ends, x, n))
@@ -75,7 +76,7 @@ pub(crate) fn decimal_or(
     n: usize,
     default: u32,
 ) -> Decimal
-    requires { ⌜ SomeArguments (now bytes) (now ends) x × (1 ≤ n) × (n ≤ 65536) × (default ≤ 2147483647) ⌝ }
+    requires { ⌜ SomeArguments (now bytes) (now ends) x × (1 ≤ n) × (n ≤ mostLent) × (default ≤ 2147483647) ⌝ }
     ensures { λ r. ⌜ ((args : List Bytes) → ArgumentsIn (now (bytes .entry)) (now (ends .entry)) x args → r ≡ decimalOf (numberOr (pos default) n args)) ⌝ }
 {
     if count(x) < n {
@@ -109,7 +110,7 @@ pub(crate) fn natural_argument(
     low: u32,
     high: u32,
 ) -> Natural
-    requires { ⌜ SomeArguments (now bytes) (now ends) x × (1 ≤ n) × (n ≤ 65536) × (high ≤ 2147483647) ⌝ }
+    requires { ⌜ SomeArguments (now bytes) (now ends) x × (1 ≤ n) × (n ≤ mostLent) × (high ≤ 2147483647) ⌝ }
     ensures { λ r. ⌜ ((args : List Bytes) → ArgumentsIn (now (bytes .entry)) (now (ends .entry)) x args → r ≡ naturalOf (bounded low high (number (arg n args)))) ⌝ }
 {
     within(decimal_argument(bytes, ends, x, n), low, high)
@@ -125,7 +126,7 @@ pub(crate) fn natural_or(
     low: u32,
     high: u32,
 ) -> Natural
-    requires { ⌜ SomeArguments (now bytes) (now ends) x × (1 ≤ n) × (n ≤ 65536) × (default ≤ 2147483647) × (high ≤ 2147483647) ⌝ }
+    requires { ⌜ SomeArguments (now bytes) (now ends) x × (1 ≤ n) × (n ≤ mostLent) × (default ≤ 2147483647) × (high ≤ 2147483647) ⌝ }
     ensures { λ r. ⌜ ((args : List Bytes) → ArgumentsIn (now (bytes .entry)) (now (ends .entry)) x args → r ≡ naturalOf (bounded low high (numberOr (pos default) n args))) ⌝ }
 {
     within(decimal_or(bytes, ends, x, n, default), low, high)

@@ -11,6 +11,7 @@ ghost use Rattle.rules.specs.State.{Call};
 ghost use Rattle.rules.specs.Step.{openCall, collecting, nextArgument};
 ghost use Rattle.expander.specs.Calls.{CallsIn, SomeCalls, openStrings, bit};
 ghost use Rattle.expander.specs.Filled.{Filled};
+ghost use Rattle.expander.specs.Limits.{mostLent, mostCalls, mostArguments, stackLength};
 
 pub(crate) struct Calls {
     pub(crate) strings: Packed,
@@ -20,7 +21,7 @@ pub(crate) struct Calls {
 impl Calls {
     // A call is opened whose name, n bytes, was written behind the strings.
     pub(crate) fn opened(self, ends: &mut [u32], stack: &mut [u32], n: usize) -> Calls
-        requires { ⌜ SomeCalls (now ends) (now stack) self × (self .opens < 64) × (self .strings .count < self .opens + 256) × (n ≤ 65536) ⌝ }
+        requires { ⌜ SomeCalls (now ends) (now stack) self × (self .opens < mostCalls) × (self .strings .count < self .opens + mostArguments) × (n ≤ mostLent) ⌝ }
         ensures { λ r. ⌜ ((bytes after name : Bytes) (cs : List Call) → CallsIn bytes (now (ends .entry)) (now (stack .entry)) self cs → length name ≡ n → Filled bytes (self .strings .used) name after → CallsIn after (now (ends .exit)) (now (stack .exit)) r (openCall name ∷ cs)) ⌝ }
     {
         let count = self.strings.count;
@@ -50,7 +51,7 @@ impl Calls {
         n: usize,
         depth: u32,
     ) -> Calls
-        requires { ⌜ SomeCalls (now ends) (now stack) self × (0 < self .opens) × (n ≤ 65536) ⌝ }
+        requires { ⌜ SomeCalls (now ends) (now stack) self × (0 < self .opens) × (n ≤ mostLent) ⌝ }
         ensures { λ r. ⌜ ((bytes after w : Bytes) (c : Call) (cs : List Call) → CallsIn bytes (now (ends .entry)) (now (stack .entry)) self (c ∷ cs) → length w ≡ n → Filled bytes (self .strings .used) w after → depth ≤ length (c .current) + n → CallsIn after (now (ends .exit)) (now (stack .exit)) r (collecting w depth c ∷ cs)) ⌝ }
     {
         let count = self.strings.count;
@@ -66,7 +67,7 @@ impl Calls {
 
     // The next argument begins.
     pub(crate) fn separated(self, ends: &mut [u32], stack: &mut [u32]) -> Calls
-        requires { ⌜ SomeCalls (now ends) (now stack) self × (0 < self .opens) × (self .strings .count < self .opens + 256) ⌝ }
+        requires { ⌜ SomeCalls (now ends) (now stack) self × (0 < self .opens) × (self .strings .count < self .opens + mostArguments) ⌝ }
         ensures { λ r. ⌜ ((bytes : Bytes) (c : Call) (cs : List Call) → CallsIn bytes (now (ends .entry)) (now (stack .entry)) self (c ∷ cs) → CallsIn bytes (now (ends .exit)) (now (stack .exit)) r (nextArgument c ∷ cs)) ⌝ }
     {
         let count = self.strings.count;
@@ -99,7 +100,7 @@ impl Calls {
 
 // The number of the innermost call's first string, its name.
 pub(crate) fn first_string(stack: &[u32], x: Calls) -> usize
-    requires { ⌜ (0 < x .opens) × (x .opens ≤ 64) × (length (now stack) ≡ 192) ⌝ }
+    requires { ⌜ (0 < x .opens) × (x .opens ≤ mostCalls) × (length (now stack) ≡ stackLength) ⌝ }
     ensures { λ r. ⌜ ((bytes : Bytes) (ends : List ℕ) (c : Call) (cs : List Call) → CallsIn bytes ends (now (stack .entry)) x (c ∷ cs) → r ≡ length (openStrings cs)) ⌝ }
 {
     let top = 3 * (x.opens - 1);
@@ -107,7 +108,7 @@ pub(crate) fn first_string(stack: &[u32], x: Calls) -> usize
 }
 
 pub(crate) fn depth(stack: &[u32], x: Calls) -> u32
-    requires { ⌜ (0 < x .opens) × (x .opens ≤ 64) × (length (now stack) ≡ 192) ⌝ }
+    requires { ⌜ (0 < x .opens) × (x .opens ≤ mostCalls) × (length (now stack) ≡ stackLength) ⌝ }
     ensures { λ r. ⌜ ((bytes : Bytes) (ends : List ℕ) (c : Call) (cs : List Call) → CallsIn bytes ends (now (stack .entry)) x (c ∷ cs) → r ≡ c .depth) ⌝ }
 {
     let top = 3 * (x.opens - 1);
@@ -116,7 +117,7 @@ pub(crate) fn depth(stack: &[u32], x: Calls) -> u32
 
 // 1 where the argument collected a token, else 0.
 pub(crate) fn has_collected(stack: &[u32], x: Calls) -> u32
-    requires { ⌜ (0 < x .opens) × (x .opens ≤ 64) × (length (now stack) ≡ 192) ⌝ }
+    requires { ⌜ (0 < x .opens) × (x .opens ≤ mostCalls) × (length (now stack) ≡ stackLength) ⌝ }
     ensures { λ r. ⌜ ((bytes : Bytes) (ends : List ℕ) (c : Call) (cs : List Call) → CallsIn bytes ends (now (stack .entry)) x (c ∷ cs) → r ≡ bit (c .collected)) ⌝ }
 {
     let top = 3 * (x.opens - 1);

@@ -8,6 +8,7 @@ ghost use lib.ListN.{length, take, drop};
 ghost use Rattle.rules.specs.State.{Call};
 ghost use Rattle.rules.specs.Step.{openCall, collecting};
 ghost use Rattle.expander.specs.Calls.{CallsIn, CallRoom};
+ghost use Rattle.expander.specs.Limits.{mostCalls, mostArguments};
 
 impl Calls {
     // A call is opened whose name is the first n bytes ahead.
@@ -21,7 +22,7 @@ impl Calls {
         stack: &mut [u32],
     ) -> Calls
         requires { ⌜ CallRoom (now bytes) (now ends) (now stack) self n × (n ≤ length (now front) + length (now rest)) ⌝ }
-        requires { ⌜ (self .opens < 64) × (self .strings .count < self .opens + 256) ⌝ }
+        requires { ⌜ (self .opens < mostCalls) × (self .strings .count < self .opens + mostArguments) ⌝ }
         ensures { λ r. ⌜ ((cs : List Call) → CallsIn (now (bytes .entry)) (now (ends .entry)) (now (stack .entry)) self cs → CallsIn (now (bytes .exit)) (now (ends .exit)) (now (stack .exit)) r (openCall (take n (now (front .entry) ++ now (rest .entry))) ∷ cs)) ⌝ }
     {
         let at = self.strings.used;

@@ -17,6 +17,7 @@ ghost use Rattle.rules.specs.Results.{ifdefResult, ifelseResult, substrResult, 
 ghost use Rattle.expander.specs.Arguments.{ArgumentsIn, SomeArguments, ArgumentLinks, SpanIs};
 ghost use Rattle.expander.specs.Table.{TableIn, SoundDefinitions};
 ghost use Rattle.expander.specs.Results.{Cuts};
+ghost use Rattle.expander.specs.Limits.{mostLent};
 
 // From `start` up to `end`.
 pub(crate) enum Cut {
@@ -26,7 +27,7 @@ pub(crate) enum Cut {
 
 // The whole n-th argument.
 fn whole(ends: &[u32], x: Arguments, n: usize) -> Cut
-    requires { ⌜ ArgumentLinks (now ends) x × (1 ≤ n) × (n ≤ 65536) ⌝ }
+    requires { ⌜ ArgumentLinks (now ends) x × (1 ≤ n) × (n ≤ mostLent) ⌝ }
     ensures { λ r. ⌜ ((bytes : Bytes) (args : List Bytes) → ArgumentsIn bytes (now (ends .entry)) x args → Cuts bytes (yields (arg n args)) r) ⌝ }
 {
     let p = arguments::place_of(ends, x, n);
@@ -56,7 +57,7 @@ pub(crate) fn ifdef(
 
 // Whether the k-th argument and the next are the same.
 fn alike(bytes: &[u8], ends: &[u32], x: Arguments, k: usize) -> bool
-    requires { ⌜ SomeArguments (now bytes) (now ends) x × (1 ≤ k) × (k < 65536) ⌝ }
+    requires { ⌜ SomeArguments (now bytes) (now ends) x × (1 ≤ k) × (k < mostLent) ⌝ }
     ensures { λ r. ⌜ ((args : List Bytes) → ArgumentsIn (now (bytes .entry)) (now (ends .entry)) x args → r ≡ sameBytes (arg k args) (arg (k + 1) args)) ⌝ }
 {
     let left = arguments::argument(bytes, ends, x, k);

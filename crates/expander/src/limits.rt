@@ -1,4 +1,4 @@
-// The bounds of a run, and the lengths of the links that follow from them.
+// The bounds of a run, and the lengths of the links that follow from them. The contracts have them from specs/Limits.antt.
 
 // Bytes of the text, and of a buffer that is lent.
 pub(crate) const MOST_LENT: usize = 65536;

@@ -15,6 +15,7 @@ ghost use Rattle.rules.specs.Marks.{markText, markTexts, quoted};
 ghost use Rattle.rules.specs.Arguments.{arg, separated, quotedEach};
 ghost use Rattle.expander.specs.Arguments.{ArgumentsIn, SomeArguments, ArgumentLinks, ShortQuotes};
 ghost use Rattle.expander.specs.Filled.{Filled};
+ghost use Rattle.expander.specs.Limits.{mostLent};
 
 // Marks of no bytes.
 pub(crate) fn bare_marks() -> Marks
@@ -34,7 +35,7 @@ pub(crate) fn bare_marks() -> Marks
 
 // How long the arguments behind the first `skip` are, joined.
 pub(crate) fn list_length(ends: &[u32], x: Arguments, skip: usize, marks: Marks) -> usize
-    requires { ⌜ ArgumentLinks (now ends) x × ShortQuotes marks × (skip ≤ 65536) ⌝ }
+    requires { ⌜ ArgumentLinks (now ends) x × ShortQuotes marks × (skip ≤ mostLent) ⌝ }
     ensures { λ r. ⌜ ((bytes : Bytes) (args : List Bytes) (gap : ℕ) → ArgumentsIn bytes (now (ends .entry)) x args → r ≡ length (separated gap (quotedEach (markTexts marks) (drop skip args)))) × (r ≤ 131072) ⌝ }
 {
     let have = arguments::count(x);
@@ -89,7 +90,7 @@ fn fill_next(
     dst: &mut [u8],
     at: usize,
 ) -> usize
-    requires { ⌜ SomeArguments (now bytes) (now ends) x × ShortQuotes marks × (1 ≤ n) × (n ≤ 65536) ⌝ }
+    requires { ⌜ SomeArguments (now bytes) (now ends) x × ShortQuotes marks × (1 ≤ n) × (n ≤ mostLent) ⌝ }
     requires { ⌜ ((args : List Bytes) → ArgumentsIn (now bytes) (now ends) x args → at + length (gap ∷ quoted (markTexts marks) (arg n args)) ≤ length (now dst)) ⌝ }
     ensures { λ r. ⌜ ((args : List Bytes) → ArgumentsIn (now (bytes .entry)) (now (ends .entry)) x args → Filled (now (dst .entry)) at (gap ∷ quoted (markTexts marks) (arg n args)) (now (dst .exit)) × (r ≡ at + length (gap ∷ quoted (markTexts marks) (arg n args)))) ⌝ }
 {
@@ -109,7 +110,7 @@ pub(crate) fn fill_list(
     dst: &mut [u8],
     at: usize,
 )
-    requires { ⌜ SomeArguments (now bytes) (now ends) x × ShortQuotes marks × (skip ≤ 65536) ⌝ }
+    requires { ⌜ SomeArguments (now bytes) (now ends) x × ShortQuotes marks × (skip ≤ mostLent) ⌝ }
     requires { ⌜ ((args : List Bytes) → ArgumentsIn (now bytes) (now ends) x args → at + length (separated gap (quotedEach (markTexts marks) (drop skip args))) ≤ length (now dst)) ⌝ }
     ensures { λ _. ⌜ ((args : List Bytes) → ArgumentsIn (now (bytes .entry)) (now (ends .entry)) x args → Filled (now (dst .entry)) at (separated gap (quotedEach (markTexts marks) (drop skip args))) (now (dst .exit))) ⌝ }
 {

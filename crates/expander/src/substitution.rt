@@ -15,6 +15,7 @@ ghost use Rattle.rules.specs.Numerals.{decimal};
 ghost use Rattle.rules.specs.Arguments.{substituted, commas, quotedEach};
 ghost use Rattle.expander.specs.Arguments.{ArgumentsIn, SomeArguments, ArgumentLinks, ShortQuotes};
 ghost use Rattle.expander.specs.Substitution.{parameterText, parameterWidth, OneDigit, Leads, Lays};
+ghost use Rattle.expander.specs.Limits.{mostLent};
 
 // What the bytes at a place of a defined text stand for: `$` and the byte behind it for the name, an argument by its number, how many
 // there are, all of them, all in quote marks; or a single byte for itself.
@@ -74,7 +75,7 @@ fn parameter_width(p: Parameter) -> usize
 
 // How long the text of a parameter is.
 fn parameter_length(name: &[u8], ends: &[u32], x: Arguments, marks: Marks, p: Parameter) -> usize
-    requires { ⌜ ArgumentLinks (now ends) x × ShortQuotes marks × OneDigit p × (length (now name) ≤ 65536) ⌝ }
+    requires { ⌜ ArgumentLinks (now ends) x × ShortQuotes marks × OneDigit p × (length (now name) ≤ mostLent) ⌝ }
     ensures { λ r. ⌜ ((bytes : Bytes) (args : List Bytes) → ArgumentsIn bytes (now (ends .entry)) x args → r ≡ length (parameterText (now (name .entry)) args (markTexts marks) p)) × (r ≤ 131072) ⌝ }
 {
     match p {
@@ -165,7 +166,7 @@ pub(crate) fn substituted_length(
     marks: Marks,
     body: &[u8],
 ) -> usize
-    requires { ⌜ ArgumentLinks (now ends) x × ShortQuotes marks × (length (now name) ≤ 65536) × (length (now body) ≤ 65536) ⌝ }
+    requires { ⌜ ArgumentLinks (now ends) x × ShortQuotes marks × (length (now name) ≤ mostLent) × (length (now body) ≤ mostLent) ⌝ }
     ensures { λ r. ⌜ ((bytes : Bytes) (args : List Bytes) → ArgumentsIn bytes (now (ends .entry)) x args → r ≡ length (substituted (now (name .entry)) args (markTexts marks) (now (body .entry)))) ⌝ }
 {
     let mut total = 0;
@@ -188,7 +189,7 @@ pub(crate) fn fill_substituted(
     body: &[u8],
     dst: &mut [u8],
 )
-    requires { ⌜ SomeArguments (now bytes) (now ends) x × ShortQuotes marks × (length (now name) ≤ 65536) × (length (now body) ≤ 65536) ⌝ }
+    requires { ⌜ SomeArguments (now bytes) (now ends) x × ShortQuotes marks × (length (now name) ≤ mostLent) × (length (now body) ≤ mostLent) ⌝ }
     requires { ⌜ ((args : List Bytes) → ArgumentsIn (now bytes) (now ends) x args → length (now dst) ≡ length (substituted (now name) args (markTexts marks) (now body))) ⌝ }
     ensures { λ _. ⌜ ((args : List Bytes) → ArgumentsIn (now (bytes .entry)) (now (ends .entry)) x args → now (dst .exit) ≡ substituted (now (name .entry)) args (markTexts marks) (now (body .entry))) ⌝ }
 {

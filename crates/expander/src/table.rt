@@ -9,6 +9,7 @@ ghost use lib.ListN.{length, take, drop, getD};
 ghost use Rattle.rules.specs.Bytes.{Bytes};
 ghost use Rattle.rules.specs.Table.{Definition, Table, predefinedNames, keepsOwn, ownMeaning, ownLost, newestPlace, meaningOf, text, pushed, defined, popped, without, undefined, tableCost};
 ghost use Rattle.expander.specs.Table.{NumberAmong, HasNumber, DefinitionsIn, SoundDefinitions, TableIn, placeOf, Finds, Sifted};
+ghost use Rattle.expander.specs.Limits.{macroCount};
 
 // The place of a definition, in order of arrival.
 pub(crate) enum Found {
@@ -41,7 +42,7 @@ fn first_byte(s: &[u8]) -> u8
 
 // The number k for `first`, k + 1 for `second`, else 0.
 fn number_of_two(name: &[u8], first: &[u8], second: &[u8], k: u8) -> u8
-    requires { ⌜ (0 < k) × (k < 24) ⌝ }
+    requires { ⌜ (0 < k) × (k < macroCount) ⌝ }
     ensures { λ r. ⌜ NumberAmong k (now (name .entry)) (now (first .entry) ∷ now (second .entry) ∷ []) r ⌝ }
 {
     if ascii::same(name, first) {
@@ -81,7 +82,7 @@ fn number_i(name: &[u8]) -> u8
 
 // The number k for `known`, else 0.
 fn number_of_one(name: &[u8], known: &[u8], k: u8) -> u8
-    requires { ⌜ (0 < k) × (k ≤ 24) ⌝ }
+    requires { ⌜ (0 < k) × (k ≤ macroCount) ⌝ }
     ensures { λ r. ⌜ NumberAmong k (now (name .entry)) (now (known .entry) ∷ []) r ⌝ }
 {
     if ascii::same(name, known) { k } else { 0 }
