@@ -21,6 +21,7 @@ use Rattle.rules.specs.Arguments.{arg, numberOr, bounded}
 use Rattle.rules.specs.Streams.{joined}
 use Rattle.numerals.specs.declared.Natural.{Natural}
 use Rattle.expander.specs.declared.arguments.Arguments.{Arguments}
+use Rattle.expander.specs.Limits.{mostLent, callEndsLength}
 use Rattle.expander.specs.Packed.{startOf}
 use Rattle.expander.specs.Arguments.{ArgumentsIn, SpanIs, bitsWithin, SomeArguments, ArgumentLinks}
 use Rattle.expander.specs.declared.arguments.Span.{Span}
@@ -72,10 +73,10 @@ module _ {bytes : Bytes} {ends : List ℕ} {x : Arguments} {args : List Bytes} (
   span-absent n le = record { is = sym (arg-absent n args (omega (arith, arguments-counted))); ordered = omega arith; inside = omega arith }
 
   -- they are few and short
-  pub few-arguments : length args ≤ 320
+  pub few-arguments : length args ≤ callEndsLength
   few-arguments = omega (arith, arguments-counted, h .few)
 
-  pub argument-short : (n : ℕ) → 1 ≤ n → length (arg n args) ≤ 65536
+  pub argument-short : (n : ℕ) → 1 ≤ n → length (arg n args) ≤ mostLent
   argument-short n l =
       omega (arith, ap length (argument-at n l), short-of (h .strings) (x .base + (n - 1)), used-is (h .packs), h .packs .used-in, h .short)
 

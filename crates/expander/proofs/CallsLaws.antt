@@ -12,6 +12,7 @@ use Rattle.rules.specs.Run.{callsCost}
 use Rattle.rules.specs.Step.{openCall, collecting, nextArgument, argumentCount}
 use Rattle.expander.specs.declared.calls.Calls.{Calls}
 use Rattle.rules.specs.Streams.{joined, totalLength}
+use Rattle.expander.specs.Limits.{mostCalls, mostArguments, callEndsLength, stackLength}
 use Rattle.expander.specs.Packed.{Packs, endsFrom, lastMore, startOf}
 use Rattle.expander.specs.Calls.{callStrings, openStrings, bit, Stacked, CallsIn}
 use Rattle.expander.specs.Filled.{Filled}
@@ -133,10 +134,10 @@ two-more {ends} {count} {bytes} {used} {ps} {w} {after} h room f =
       used-in = omega (arith, filled-long f, f .fits);
     }
 
-module _ {bytes : Bytes} {ends stack : List ℕ} {x : Calls} (e-long : length ends ≡ 320) (s-long : length stack ≡ 192) where
+module _ {bytes : Bytes} {ends stack : List ℕ} {x : Calls} (e-long : length ends ≡ callEndsLength) (s-long : length stack ≡ stackLength) where
   pub calls-opened :
       {cs : List Call} (name after : Bytes) (n : ℕ) → CallsIn bytes ends stack x cs → length name ≡ n → Filled bytes (x .strings .used) name after
-      → x .opens < 64 → x .strings .count < x .opens + 256
+      → x .opens < mostCalls → x .strings .count < x .opens + mostArguments
       → CallsIn after (set (set ends (x .strings .count) (x .strings .used + n)) (x .strings .count + 1) (x .strings .used + n))
       (set (set (set stack (3 * x .opens) (x .strings .count)) (3 * x .opens + 1) 0) (3 * x .opens + 2) 0)
       (record { strings = record { count = x .strings .count + 2; used = x .strings .used + n }; opens = x .opens + 1 }) (openCall name ∷ cs)
@@ -167,7 +168,7 @@ collecting-strings c cs w d =
     ∙ last-grown (openStrings cs ++ (c .name ∷ c .finished)) (c .current) w
     ∙ append-assoc (openStrings cs) (c .name ∷ c .finished) ((c .current ++ w) ∷ []))
 
-module _ {bytes : Bytes} {ends stack : List ℕ} {x : Calls} {c : Call} {cs : List Call} (m : CallsIn bytes ends stack x (c ∷ cs)) (s-long : length stack ≡ 192) where
+module _ {bytes : Bytes} {ends stack : List ℕ} {x : Calls} {c : Call} {cs : List Call} (m : CallsIn bytes ends stack x (c ∷ cs)) (s-long : length stack ≡ stackLength) where
   below : length cs ≡ x .opens - 1
   below = omega (arith, m .open-is)
 
@@ -197,7 +198,7 @@ module _ {bytes : Bytes} {ends stack : List ℕ} {x : Calls} {c : Call} {cs : Li
   next-strings = sym (append-assoc (openStrings cs) (callStrings c) ([] ∷ []))
 
   pub calls-separated :
-      length ends ≡ 320 → x .strings .count < x .opens + 256
+      length ends ≡ callEndsLength → x .strings .count < x .opens + mostArguments
       → CallsIn bytes (set ends (x .strings .count) (x .strings .used)) (set (set stack (3 * (x .opens - 1) + 1) 0) (3 * (x .opens - 1) + 2) 0)
       (record { strings = record { count = x .strings .count + 1; used = x .strings .used }; opens = x .opens }) (nextArgument c ∷ cs)
   unfolding bit nextArgument

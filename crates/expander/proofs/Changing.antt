@@ -11,6 +11,7 @@ use borrow.Author.Tests.{eqb-true}
 use Rattle.rules.specs.Bytes.{Bytes, sameBytes}
 use Rattle.rules.specs.Streams.{joined}
 use Rattle.rules.specs.Table.{Meaning, text, predefined, Definition, Table, ownLost, newestPlace, pushed, defined, popped, meaningCost, tableCost}
+use Rattle.expander.specs.Limits.{mostLent, tableEndsLength}
 use Rattle.expander.specs.Packed.{Packs}
 use Rattle.expander.specs.Table.{meaningText, rows, Plain, DefinitionsIn, TableIn, placeOf}
 use Rattle.expander.specs.declared.packed.Packed.{Packed}
@@ -146,10 +147,10 @@ module _ {bytes : Bytes} {ends : List ℕ} {p : Packed} {ds : List Definition} (
   pub cost-used : tableCost ds ≡ p .used
   cost-used = cost-is ds ∙ used-is (h .packs)
 
-  pub few-definitions : length ds ≤ 65536
+  pub few-definitions : length ds ≤ mostLent
   few-definitions = omega (arith, cost-least ds (h .plain), cost-used, h .packs .used-in, h .bytes-most)
 
-  pub few-strings : p .count ≤ 131072
+  pub few-strings : p .count ≤ tableEndsLength
   few-strings = omega (arith, string-count h, few-definitions)
 
   -- a definition of n bytes more has room for its two ends

@@ -30,6 +30,7 @@ use Rattle.expander.specs.declared.packed.Packed.{Packed}
 use Rattle.expander.specs.declared.source.Position.{Position}
 use Rattle.expander.specs.declared.table.Meaning.{Meaning as Looked}
 use Rattle.expander.specs.declared.table.Meaning.the-variants as looked
+use Rattle.expander.specs.Limits.{mostLent, callEndsLength}
 use Rattle.expander.specs.Arguments.{ArgumentsIn}
 use Rattle.expander.specs.Calls.{openStrings, CallsIn}
 use Rattle.expander.specs.Giving.{givenTurn}
@@ -73,7 +74,7 @@ module _ (w : Bytes) where
       go true s q f = omega (arith, ap length (same-is w n s))
       go false s q f = omega (arith, f q)
 
-names-long : totalLength predefinedNames ≤ 65536
+names-long : totalLength predefinedNames ≤ mostLent
 unfolding totalLength predefinedNames bytesOf
 names-long = omega arith
 
@@ -98,7 +99,7 @@ own-number w own x e = go (predefinedNumber w) refl e
 
 -- what is defined has a name that fits the buffer, and a predefined meaning has a number from 1 on
 pub record Known (w : Bytes) (x : Meaning) : Type 0 where
-  pub short : length w ≤ 65536
+  pub short : length w ≤ mostLent
   pub numbered : (k : ℕ) → x ≡ predefined k → 0 < k
 
 module _ {bytes : Bytes} {ends : List ℕ} {p : Packed} {own : ℕ} {t : Table} (h : TableIn bytes ends p own t) (w : Bytes) where
@@ -126,7 +127,7 @@ module _ {bytes : Bytes} {ends : List ℕ} {p : Packed} {own : ℕ} {t : Table} 
           }
 
   -- a name that fits no buffer means nothing
-  pub unknown-long : 65536 < length w → Finds (t .definitions) (meaningOf w t) looked.Undefined
+  pub unknown-long : mostLent < length w → Finds (t .definitions) (meaningOf w t) looked.Undefined
   unfolding meaningFor textEnd
   unknown-long l = record { is = go (meaningOf w t) refl; within = omega arith }
     where
@@ -136,7 +137,7 @@ module _ {bytes : Bytes} {ends : List ℕ} {p : Packed} {own : ℕ} {t : Table} 
 
   -- what was found of a name
   module _ {r : Looked} (f : Finds (t .definitions) (meaningOf w t) r) where
-    pub found-short : {i : ℕ} → r ≡ looked.Text i → length w ≤ 65536
+    pub found-short : {i : ℕ} → r ≡ looked.Text i → length w ≤ mostLent
     found-short {i} e = known _ (finds-text (subst (λ (y : Looked). Finds (t .definitions) (meaningOf w t) y) e f)) .short
 
     pub found-numbered : {k : ℕ} → r ≡ looked.Predefined k → 0 < k
@@ -160,11 +161,11 @@ module _ {bytes : Bytes} {ends stack : List ℕ} {x : Calls} {c : Call} {cs : Li
   pub first-within : first + 1 < x .strings .count
   first-within = omega (arith, first-in m)
 
-  pub first-few : first + 1 < 320
+  pub first-few : first + 1 < callEndsLength
   first-few = omega (arith, first-in m, m .open-few, m .args-few)
 
   -- its arguments stand behind its name
-  pub arguments-closed : length bytes ≤ 65536 → ArgumentsIn bytes ends (record { strings = x .strings; base = first + 1 }) (c .finished ++ (c .current ∷ []))
+  pub arguments-closed : length bytes ≤ mostLent → ArgumentsIn bytes ends (record { strings = x .strings; base = first + 1 }) (c .finished ++ (c .current ∷ []))
   arguments-closed h =
       record {
         strings = openStrings (c ∷ cs);
@@ -179,14 +180,14 @@ module _ {bytes : Bytes} {ends stack : List ℕ} {x : Calls} {c : Call} {cs : Li
     pub name-closed : name ≡ c .name
     name-closed = f (openStrings (c ∷ cs)) (m .strings) ∙ ap (λ (n : ℕ). getD (openStrings (c ∷ cs)) n []) e ∙ closed-name m
 
-    pub name-short : length bytes ≤ 65536 → length name ≤ 65536
+    pub name-short : length bytes ≤ mostLent → length name ≤ mostLent
     name-short h =
         let n = openStrings (c ∷ cs) in
         omega (arith, ap length (f n (m .strings)), string-fits (m .strings) first (omega (arith, first-in m)), m .strings .used-in)
 
 -- no arguments: the strings behind the last
 pub arguments-none :
-    {bytes : Bytes} {ends stack : List ℕ} {x : Calls} {cs : List Call} → CallsIn bytes ends stack x cs → length bytes ≤ 65536
+    {bytes : Bytes} {ends stack : List ℕ} {x : Calls} {cs : List Call} → CallsIn bytes ends stack x cs → length bytes ≤ mostLent
     → ArgumentsIn bytes ends (record { strings = x .strings; base = x .strings .count }) []
 arguments-none {x = x} {cs = cs} m h =
     record {
@@ -317,7 +318,7 @@ module _ {a : Setting} {b : Memory} {m : Machine} {s : State} (h : Means a b m s
   pub name-is : {v : Bytes} → v ≡ take n (drop (m .source .from) (b .pending) ++ drop (m .source .taken) (b .text)) → v ≡ take n (ahead (s .source))
   name-is e = e ∙ ap (take n) (sym (ahead-is (h .source)))
 
-  pub name-fits : {v : Bytes} → v ≡ take n (drop (m .source .from) (b .pending) ++ drop (m .source .taken) (b .text)) → n ≤ 65536 → length v ≤ 65536
+  pub name-fits : {v : Bytes} → v ≡ take n (drop (m .source .from) (b .pending) ++ drop (m .source .taken) (b .text)) → n ≤ mostLent → length v ≤ mostLent
   name-fits e l = omega (arith, ap length (name-is e), name-long)
 
   pub means-ahead :
@@ -326,7 +327,7 @@ module _ {a : Setting} {b : Memory} {m : Machine} {s : State} (h : Means a b m s
       → Finds (s .table .definitions) (meaningOf (take n (ahead (s .source))) (s .table)) r
   means-ahead {v} {r} e f = subst (λ (u : Bytes). Finds (s .table .definitions) (meaningOf u (s .table)) r) (name-is e) (f (s .table) (h .table))
 
-  pub means-nothing : 65536 < n → Finds (s .table .definitions) (meaningOf (take n (ahead (s .source))) (s .table)) looked.Undefined
+  pub means-nothing : mostLent < n → Finds (s .table .definitions) (meaningOf (take n (ahead (s .source))) (s .table)) looked.Undefined
   means-nothing l = unknown-long (h .table) (take n (ahead (s .source))) (omega (arith, name-long))
 
   -- and called without arguments

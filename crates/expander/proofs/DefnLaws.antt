@@ -13,6 +13,7 @@ use Rattle.rules.specs.Marks.{MarkTexts, quoted}
 use Rattle.rules.specs.Table.{Meaning, text, predefined, Table, meaningOf}
 use Rattle.rules.specs.Arguments.{arg}
 use Rattle.rules.specs.Results.{Result, yields, fails, inFront, defnResult}
+use Rattle.expander.specs.Limits.{macroCount}
 use Rattle.expander.specs.Substitution.{Lays}
 use Rattle.expander.specs.Table.{rows, meaningFor, SoundDefinitions, TableIn, Finds}
 use Rattle.expander.specs.Defn.{measuredAs, namedResult, followedBy, longer}
@@ -213,7 +214,7 @@ module _ (m : MarkTexts) (t : Table) (w : Bytes) {r : Looked} (f : Finds (t .def
   named-undefined e = rw (f .is ∙ ap (meaningFor (rows (t .definitions))) e, namedResult)
 
 -- what looking a name up in sound definitions answers
-module _ {bytes : Bytes} {ends : List ℕ} {p : Packed} {own : ℕ} (d : SoundDefinitions bytes ends p) (few : own < 2 ^ 24) where
+module _ {bytes : Bytes} {ends : List ℕ} {p : Packed} {own : ℕ} (d : SoundDefinitions bytes ends p) (few : own < 2 ^ macroCount) where
   -- they are those of a table
   pub sound-table : TableIn bytes ends p own (record { definitions = d .definitions; own = own })
   sound-table = record { holds = d .holds; own-is = refl; own-few = few }

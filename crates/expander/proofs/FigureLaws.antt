@@ -34,6 +34,7 @@ use Rattle.matching.proofs.Places.{answer-at, answer-nowhere, answer-known}
 use Rattle.expander.specs.declared.arguments.Arguments.{Arguments}
 use Rattle.expander.specs.declared.figures.Figure.{Figure}
 use Rattle.expander.specs.declared.figures.Figure.the-variants as figure
+use Rattle.expander.specs.Limits.{mostLent}
 use Rattle.expander.specs.Arguments.{ArgumentsIn}
 use Rattle.expander.specs.Results.{figureResult, FigureRadix, Shows, readResult}
 use Rattle.expander.proofs.Packing.{used-is}
@@ -132,25 +133,25 @@ behind-shorter zero ss = omega arith
 behind-shorter (suc k) [] = omega arith
 behind-shorter (suc k) (s ∷ ss) = omega (arith, behind-shorter k ss, length-append s (joined ss))
 
-pub two-arguments : {bytes : Bytes} {ends : List ℕ} {x : Arguments} {args : List Bytes} → ArgumentsIn bytes ends x args → length (arg 1 args) + length (arg 2 args) ≤ 65536
+pub two-arguments : {bytes : Bytes} {ends : List ℕ} {x : Arguments} {args : List Bytes} → ArgumentsIn bytes ends x args → length (arg 1 args) + length (arg 2 args) ≤ mostLent
 unfolding arg
 two-arguments {x = x} h =
     let ss = h .strings in
-    let t : length (arg 1 (drop (x .base) ss)) + length (arg 2 (drop (x .base) ss)) ≤ 65536 =
+    let t : length (arg 1 (drop (x .base) ss)) + length (arg 2 (drop (x .base) ss)) ≤ mostLent =
     omega (arith, two-strings (drop (x .base) ss), behind-shorter (x .base) ss, used-is (h .packs), h .packs .used-in, h .short) in
     rw (h .are) t
 
 -- the length of an argument, by its bits
-pub len-bits : (args : List Bytes) (n : ℕ) → n ≡ length (arg 1 args) → n ≤ 65536 → lenResult args ≡ divnumResult (signedValue n)
+pub len-bits : (args : List Bytes) (n : ℕ) → n ≡ length (arg 1 args) → n ≤ mostLent → lenResult args ≡ divnumResult (signedValue n)
 unfolding lenResult divnumResult
 len-bits args n e h = rw (bits-plain n (omega arith), e)
 
 module _ {bytes : Bytes} {ends : List ℕ} {x : Arguments} {args : List Bytes} (h : ArgumentsIn bytes ends x args) {text needle : Bytes}
     (et : text ≡ arg 1 args) (en : needle ≡ arg 2 args) {r : Place} (e : r ≡ placed needle text) where
-  together : length needle + length text ≤ 65536
+  together : length needle + length text ≤ mostLent
   together = omega (arith, two-arguments h, ap length et, ap length en)
 
-  pub place-small : (n : ℕ) → r ≡ place.At n → n ≤ 65536
+  pub place-small : (n : ℕ) → r ≡ place.At n → n ≤ mostLent
   place-small n k = omega (arith, first-within needle text n (answer-at needle text together n (sym e ∙ k)), together)
 
   pub index-at : (n : ℕ) → r ≡ place.At n → indexResult args ≡ divnumResult (signedValue n)

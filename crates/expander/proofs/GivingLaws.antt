@@ -32,6 +32,7 @@ use Rattle.expander.specs.declared.giving.Given.the-variants as given
 use Rattle.expander.specs.declared.machine.Machine.{Machine}
 use Rattle.expander.specs.declared.machine.Turn.{Turn}
 use Rattle.expander.specs.declared.packed.Packed.{Packed}
+use Rattle.expander.specs.Limits.{mostLent}
 use Rattle.expander.specs.Defn.{measuredAs}
 use Rattle.expander.specs.Filled.{Filled}
 use Rattle.expander.specs.Giving.{givenTurn}
@@ -190,7 +191,7 @@ module _ (s : State) (args : List Bytes) where
 -- the text of a definition is no longer than its buffer
 pub text-short :
     {bytes : Bytes} {ends : List ℕ} {p : Packed} {ds : List Definition} → DefinitionsIn bytes ends p ds → (k : ℕ) → k < p .count → {y : Bytes} → y ≡ getD (rows ds) k []
-    → length y ≤ 65536
+    → length y ≤ mostLent
 text-short h k l e = omega (arith, ap length e, string-fits (h .packs) k l, h .packs .used-in, h .bytes-most)
 
 -- ---- a result of defn by its length

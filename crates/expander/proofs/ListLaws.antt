@@ -13,6 +13,7 @@ use Rattle.rules.specs.Marks.{MarkTexts, markText, markTexts, quoted}
 use Rattle.rules.specs.Streams.{joined}
 use Rattle.rules.specs.Arguments.{arg, separated, quotedEach}
 use Rattle.expander.specs.declared.arguments.Arguments.{Arguments}
+use Rattle.expander.specs.Limits.{mostLent, callEndsLength}
 use Rattle.expander.specs.Filled.{Filled}
 use Rattle.expander.specs.Packed.{startOf}
 use Rattle.expander.specs.Arguments.{ArgumentsIn, ShortQuotes}
@@ -82,8 +83,8 @@ each-long m q e (w ∷ ws) =
 -- what a list is measured by: n texts, from `start` on, with q bytes around each
 pub record Measured (used start n q : ℕ) : Type 0 where
   pub started : start ≤ used
-  pub few : n ≤ 320
-  pub short : used ≤ 65536
+  pub few : n ≤ callEndsLength
+  pub short : used ≤ mostLent
   pub marked : n * q ≤ 3200
 
 module _ {bytes : Bytes} {ends : List ℕ} {x : Arguments} {args : List Bytes} (h : ArgumentsIn bytes ends x args) (m : MarkTexts) (gap skip : ℕ) where
@@ -113,7 +114,7 @@ module _ {bytes : Bytes} {ends : List ℕ} {x : Arguments} {args : List Bytes} (
       (n start q : ℕ) → n ≡ x .strings .count - x .base - skip → x .base + skip ≤ x .strings .count → start ≡ startOf ends (x .base + skip) → q ≤ 10
       → Measured (x .strings .used) start n q
   list-measured n start q en le es eq =
-      let hn : n ≤ 320 = omega (arith, h .few) in
+      let hn : n ≤ callEndsLength = omega (arith, h .few) in
       record {
         started = omega (arith, start-in (h .packs) (x .base + skip) le);
         few = hn;

@@ -11,6 +11,7 @@ use lib.ListN.{length, take, drop, getD, take-append-drop}
 use borrow.Author.Tests.{ne-eqb}
 use Rattle.rules.specs.Bytes.{Bytes, bytesOf, sameBytes}
 use Rattle.rules.specs.Table.{predefinedNames, numberFrom, predefinedNumber}
+use Rattle.expander.specs.Limits.{macroCount}
 use Rattle.expander.specs.Table.{numbered, NumberAmong, HasNumber}
 
 pub numbered-some : (k : ℕ) → 0 < k → numbered k ≡ some k
@@ -19,7 +20,7 @@ numbered-some zero h = absurd (not-suc-le-zero h)
 numbered-some (suc k) h = refl
 
 -- the first name is the one, or not; or there is no more
-pub number-hit : {k : ℕ} {w n : Bytes} {ns : List Bytes} → 0 < k → k ≤ 24 → sameBytes w n ≡ true → NumberAmong k w (n ∷ ns) k
+pub number-hit : {k : ℕ} {w n : Bytes} {ns : List Bytes} → 0 < k → k ≤ macroCount → sameBytes w n ≡ true → NumberAmong k w (n ∷ ns) k
 unfolding numberFrom
 number-hit {k} h m e = record { is = rw (e, numberFrom) (sym (numbered-some k h)); most = m }
 

@@ -12,6 +12,7 @@ use lib.Seq.{take-all, take-suc}
 use Rattle.rules.specs.Bytes.{Bytes, sameBytes}
 use Rattle.rules.specs.Streams.{joined}
 use Rattle.rules.specs.Table.{Meaning, text, Definition, Table, predefinedNames, freshTable, ownMeaning, newestPlace, meaningAt, meaningOf}
+use Rattle.expander.specs.Limits.{mostLent, allOwn, tableEndsLength}
 use Rattle.expander.specs.Packed.{endsFrom}
 use Rattle.expander.specs.Table.{meaningText, rows, Plain, DefinitionsIn, SoundDefinitions, TableIn, placeOf, meaningFor, textEnd, Finds}
 use Rattle.expander.specs.declared.packed.Packed.{Packed}
@@ -160,7 +161,7 @@ unfolding textEnd
 finds-within {ds = ds} d h = omega (arith, h .within, length-rows ds, string-count d)
 
 -- a run begins with no definition and with every predefined name's own meaning
-pub fresh-in : (bytes : Bytes) (ends : List ℕ) → length bytes ≤ 65536 → length ends ≡ 131072 → TableIn bytes ends (record { count = 0; used = 0 }) 16777215 freshTable
+pub fresh-in : (bytes : Bytes) (ends : List ℕ) → length bytes ≤ mostLent → length ends ≡ tableEndsLength → TableIn bytes ends (record { count = 0; used = 0 }) allOwn freshTable
 unfolding freshTable predefinedNames rows Plain endsFrom joined
 fresh-in bytes ends hb he = record {
   holds = record {

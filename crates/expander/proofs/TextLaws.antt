@@ -1,5 +1,5 @@
 -- dnl and m4exit, and the macros that set text aside.
-use Prim.Native.Nat.{ℕ, _+_, _-_, _≤_, _<_}
+use Prim.Native.Nat.{ℕ, _+_, _-_, _*_, _≤_, _<_}
 use mathlib.Core.Path.{_≡_, refl, sym, ap, subst, _∙_}
 use mathlib.Core.List.{List, [], _++_}
 use mathlib.Core.Option.{none, some}
@@ -22,6 +22,7 @@ use Rattle.expander.specs.declared.machine.Machine.{Machine}
 use Rattle.expander.specs.declared.machine.Turn.{Turn}
 use Rattle.expander.specs.declared.machine.Went.the-variants as went
 use Rattle.expander.specs.declared.source.Position.{Position}
+use Rattle.expander.specs.Limits.{mostLent}
 use Rattle.expander.specs.Ahead.{LineEnd}
 use Rattle.expander.specs.Filled.{Filled}
 use Rattle.expander.specs.Front.{Front}
@@ -42,7 +43,7 @@ module _ {text pending : Bytes} {p : Position} {x : Source} (h : SourceIn text p
   pub line-ahead : {n : ℕ} → LineEnd (lentAhead text pending p) n → LineEnd (ahead x) n
   line-ahead {n} l = subst (λ (w : Bytes). LineEnd w n) (ahead-lent h) l
 
-  pub line-most : {n : ℕ} → LineEnd (ahead x) n → length text ≤ 65536 → length pending ≤ 65536 → n ≤ 131072
+  pub line-most : {n : ℕ} → LineEnd (ahead x) n → length text ≤ mostLent → length pending ≤ mostLent → n ≤ 2 * mostLent
   line-most l s t = omega (arith, l .within, ahead-long h)
 
 -- ---- what does not fit behind the text at a buffer's front

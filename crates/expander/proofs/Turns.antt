@@ -19,6 +19,7 @@ use Rattle.rules.specs.Numerals.{number}
 use Rattle.rules.specs.Arguments.{arg, bounded}
 use Rattle.rules.specs.Macros.{alsoStream, streamNumbers, undivertNumbers}
 use Rattle.expander.specs.declared.arguments.Arguments.{Arguments}
+use Rattle.expander.specs.Limits.{callEndsLength}
 use Rattle.expander.specs.Arguments.{ArgumentsIn}
 use Rattle.expander.specs.Streams.{IsStream}
 use Rattle.expander.specs.Diverting.{orZero, streamOf, allNamed, streamsOf, turns}
@@ -180,9 +181,9 @@ turn-each (a ∷ more) e k h =
     rw (streams-at (a ∷ more) k l) (streams-each (a ∷ more) e k l)
 
 -- there are few
-pub few-turns : {bytes : Bytes} {ends : List ℕ} {x : Arguments} {args : List Bytes} → ArgumentsIn bytes ends x args → length (turns args) ≤ 320
+pub few-turns : {bytes : Bytes} {ends : List ℕ} {x : Arguments} {args : List Bytes} → ArgumentsIn bytes ends x args → length (turns args) ≤ callEndsLength
 few-turns {args = args} h = go (ℕ-discrete (length args) 0)
   where
-    go : Dec (length args ≡ 0) → length (turns args) ≤ 320
+    go : Dec (length args ≡ 0) → length (turns args) ≤ callEndsLength
     go (yes e) = omega (arith, turns-none args e)
     go (no f) = omega (arith, turns-some args f, few-arguments h)

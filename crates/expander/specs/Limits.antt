@@ -1,20 +1,25 @@
 -- The bounds of a run, and the lengths of the links that follow from them, as src/limits.rt has them for the code.
-use Prim.Native.Nat.{ℕ, _+_, _*_}
+use Prim.Native.Nat.{ℕ, _+_, _-_, _*_, _^_}
+use Rattle.rules.specs.Run as run
+use Rattle.rules.specs.Step as step
 
--- bytes of the text, and of a buffer that is lent
+-- the book's: bytes of the text, and of a buffer that is lent
 abbrev pub mostLent : ℕ
-mostLent = 65536
+mostLent = run.mostLent
 
--- open calls, and arguments over all of them
+-- the book's: open calls, and arguments over all of them
 abbrev pub mostCalls : ℕ
-mostCalls = 64
+mostCalls = step.mostCalls
 
 abbrev pub mostArguments : ℕ
-mostArguments = 256
+mostArguments = step.mostArguments
 
--- predefined macros
+-- predefined macros, and the mask in which each keeps its own meaning
 abbrev pub macroCount : ℕ
 macroCount = 24
+
+abbrev pub allOwn : ℕ
+allOwn = 2 ^ macroCount - 1
 
 -- the ends of an open call's strings, its name and its arguments; three words for each call
 abbrev pub callEndsLength : ℕ

@@ -22,6 +22,7 @@ ghost use Rattle.expander.specs.Events.{EventWithin, EventIs};
 ghost use Rattle.expander.specs.Machine.{Memory, Means, Sound, Reach, aheadOf, textAt, pendingAt, stackAt, definitionsAt};
 ghost use Rattle.expander.specs.Source.{SourceIn};
 ghost use Rattle.expander.specs.Step.{Classifies, TokenWithin};
+ghost use Rattle.expander.specs.Limits.{mostLent};
 
 // n bytes ahead from `start` on go where text goes, and `width` bytes are taken; a byte goes to the current stream; the innermost call
 // collects a byte, with so many parentheses open then; a blank is skipped; the next argument begins; a call is opened whose name is the first n bytes ahead.
@@ -135,7 +136,7 @@ fn name_event(
 ) -> Event
     requires { ⌜ Sound (λ b. textAt (now text) (pendingAt (now pending) (definitionsAt (now definitions) (now «table_ends») b))) m ⌝ }
     requires { ⌜ Reach (now text) (now pending) (m .source) 0 n n ⌝ }
-    requires { ⌜ length (now scratch) ≡ 65536 ⌝ }
+    requires { ⌜ length (now scratch) ≡ mostLent ⌝ }
     ensures within { λ r. ⌜ EventWithin (now (text .entry)) (now (pending .entry)) m r ⌝ }
     ensures is { λ r. ⌜ ((a : Setting) (s : State) (b : Memory) → Means a (textAt (now (text .entry)) (pendingAt (now (pending .entry)) (definitionsAt (now (definitions .entry)) (now («table_ends» .entry)) b))) m s → step s ≡ act (token.Name n) s → EventIs s r) ⌝ }
 {
@@ -166,7 +167,7 @@ fn token_event(
 ) -> Event
     requires { ⌜ Sound (λ b. textAt (now text) (pendingAt (now pending) (stackAt (now stack) (definitionsAt (now definitions) (now «table_ends») b)))) m ⌝ }
     requires { ⌜ TokenWithin (now text) (now pending) (m .source) token ⌝ }
-    requires { ⌜ length (now scratch) ≡ 65536 ⌝ }
+    requires { ⌜ length (now scratch) ≡ mostLent ⌝ }
     ensures within { λ r. ⌜ EventWithin (now (text .entry)) (now (pending .entry)) m r ⌝ }
     ensures is { λ r. ⌜ ((a : Setting) (s : State) (b : Memory) → Means a (textAt (now (text .entry)) (pendingAt (now (pending .entry)) (stackAt (now (stack .entry)) (definitionsAt (now (definitions .entry)) (now («table_ends» .entry)) b)))) m s → step s ≡ act token s → EventIs s r) ⌝ }
 {
@@ -204,7 +205,7 @@ pub(crate) fn event_ahead(
     m: Machine,
 ) -> Event
     requires { ⌜ Sound (λ b. textAt (now text) (pendingAt (now pending) (stackAt (now stack) (definitionsAt (now definitions) (now «table_ends») b)))) m ⌝ }
-    requires { ⌜ length (now scratch) ≡ 65536 ⌝ }
+    requires { ⌜ length (now scratch) ≡ mostLent ⌝ }
     ensures within { λ r. ⌜ EventWithin (now (text .entry)) (now (pending .entry)) m r ⌝ }
     ensures is { λ r. ⌜ ((a : Setting) (s : State) (b : Memory) → Means a (textAt (now (text .entry)) (pendingAt (now (pending .entry)) (stackAt (now (stack .entry)) (definitionsAt (now (definitions .entry)) (now («table_ends» .entry)) b)))) m s → EventIs s r) ⌝ }
 {

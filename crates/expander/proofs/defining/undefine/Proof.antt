@@ -6,6 +6,7 @@ use mathlib.Core.List.{List}
 use lib.ListN.{length}
 use Rattle.rules.specs.Bytes.{Bytes}
 use Rattle.rules.specs.Table.{Table, undefined}
+use Rattle.expander.specs.Limits.{callEndsLength}
 use Rattle.expander.specs.Arguments.{ArgumentsIn}
 use Rattle.expander.specs.Table.{TableIn}
 use Rattle.expander.proofs.ArgumentLaws.{few-arguments}
@@ -36,7 +37,7 @@ entry c = c .before .before .before .before .before .before .before .before
 have-is : (c : tie.In-loop Inv-loop μ-loop) (args : List Bytes) → ArgumentsIn (entry c .args .calls .now) (entry c .args .ends .now) (entry c .args .x) args → c .before .before .before .count .result ≡ length args
 have-is c args h = c .before .before .before .count .ensures (entry c .args .calls .now) (entry c .args .ends .now) args h
 
-have-few : (c : tie.In-loop Inv-loop μ-loop) → c .before .before .before .count .result ≤ 320
+have-few : (c : tie.In-loop Inv-loop μ-loop) → c .before .before .before .count .result ≤ callEndsLength
 have-few c =
     let g = entry c .pre .1 in
     omega (arith, have-is c (g .args) (g .holds), few-arguments (g .holds))

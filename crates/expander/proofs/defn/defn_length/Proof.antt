@@ -5,6 +5,7 @@ use mathlib.Core.List.{List}
 use Rattle.rules.specs.Bytes.{Bytes}
 use Rattle.rules.specs.Marks.{markTexts}
 use Rattle.rules.specs.Table.{Table}
+use Rattle.expander.specs.Limits.{callEndsLength}
 use Rattle.expander.specs.Arguments.{ArgumentsIn}
 use Rattle.expander.specs.Table.{TableIn}
 use Rattle.expander.proofs.ArgumentLaws.{few-arguments}
@@ -28,7 +29,7 @@ count-requires c κs = search needs
 loop-holds : tie.Need-loop-holds Inv-loop μ-loop
 loop-holds c = (omega arith, omega arith, λ args u a h. measured-begins _ u args)
 
-counted : (c : tie.After-count Inv-loop μ-loop) → c .count .result ≤ 320
+counted : (c : tie.After-count Inv-loop μ-loop) → c .count .result ≤ callEndsLength
 counted c =
     let k = c .before .before .before .before .before .pre .0 in
     omega (arith, c .count .ensures _ _ (k .args) (k .holds), few-arguments (k .holds))

@@ -3,6 +3,7 @@ use Prim.Native.Nat.{_+_, _*_, _≤_, _<_}
 use native.Mathlib.Omega.{arith}
 use mathlib.Core.Path.{sym, ap, _∙_}
 use lib.ListN.{length}
+use Rattle.expander.specs.Limits.{mostLent}
 use Rattle.expander.specs.Table.{rows}
 use Rattle.expander.specs.Defn.{measuredAs}
 use Rattle.expander.specs.declared.defn.DefnLength.the-variants as defnLength
@@ -26,7 +27,7 @@ entry c = c .before .before .before .before .before .before .before .before
 within-for : (c : tie.After-known-told) → 2 * c .before .meaning .given .0 .0 + 1 < entry c .args .t .packed .count
 within-for c = text-within (entry c .pre .1) (entry c .pre .2) (entry c .args .name .now) (c .before .before .before .look-up .ensures) (c .before .meaning .given .1)
 
-text-most : (c : tie.After-string) → length (c .string .result .now) ≤ 65536
+text-most : (c : tie.After-string) → length (c .string .result .now) ≤ mostLent
 text-most c =
     let d = entry (c .before) .pre .1 in
     omega (

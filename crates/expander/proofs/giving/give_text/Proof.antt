@@ -3,6 +3,7 @@ use Prim.Native.Nat.{_≤_}
 use mathlib.Core.Path.{sym, _∙_}
 use native.Mathlib.Omega.{arith}
 use lib.ListN.{length}
+use Rattle.expander.specs.Limits.{mostLent}
 use denote.Ref.{now}
 use Rattle.expander.proofs.GivingLaws.{giving-room, giving-part, gap-long, text-short, text-gives}
 use Rattle.expander.proofs.MacroLaws.{gives-as}
@@ -19,7 +20,7 @@ add-k c = search needs
 string-requires : tie.Need-string-requires
 string-requires c κs = search needs
 
-body-short : (c : tie.After-string) → length (now (c .string .result)) ≤ 65536
+body-short : (c : tie.After-string) → length (now (c .string .result)) ≤ mostLent
 body-short c =
     let pre = c .before .before .before .before .before .before .before .pre in
     let h = pre .0 .sound .means .table .holds in

@@ -6,6 +6,7 @@ use mathlib.Core.List.{List}
 use lib.ListN.{length}
 use Rattle.rules.specs.Bytes.{Bytes}
 use Rattle.rules.specs.Marks.{markTexts}
+use Rattle.expander.specs.Limits.{callEndsLength}
 use Rattle.expander.specs.Arguments.{ArgumentsIn}
 use Rattle.expander.specs.Filled.{Filled}
 use Rattle.expander.proofs.ArgumentLaws.{arguments-counted}
@@ -23,7 +24,7 @@ abbrev μ-loop : tie.MeasureT-loop
 μ-loop bytes ends x skip marks gap dst₀ at have k₀ to₀ dst k to = have - k
 
 -- there are few arguments
-few : (c : tie.After-count Inv-loop μ-loop) → c .count .result ≤ 320
+few : (c : tie.After-count Inv-loop μ-loop) → c .count .result ≤ callEndsLength
 few c =
     let s = c .before .before .before .before in
     let g = s .pre .0 .0 in

@@ -8,6 +8,7 @@ use lib.ListN.{length}
 use Rattle.rules.specs.Bytes.{Bytes}
 use Rattle.rules.specs.Numerals.{decimal}
 use Rattle.rules.specs.Arguments.{arg, commas}
+use Rattle.expander.specs.Limits.{callEndsLength}
 use Rattle.expander.specs.Arguments.{SpanIs}
 use Rattle.expander.specs.Substitution.{parameterText, OneDigit}
 use Rattle.expander.proofs.ArgumentLaws.{few-arguments, span-long}
@@ -47,7 +48,7 @@ enum-told-2 c = search needs
 count-requires : tie.Need-count-requires
 count-requires c κs = search needs
 
-counted : (c : tie.After-count) → c .count .result ≤ 320
+counted : (c : tie.After-count) → c .count .result ≤ callEndsLength
 counted c =
     let k = c .before .before .before .before .before .pre .0 in
     omega (arith, c .count .ensures (k .bytes) _ (k .args) (k .holds), few-arguments (k .holds))

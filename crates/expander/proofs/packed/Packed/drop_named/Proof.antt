@@ -5,6 +5,7 @@ use mathlib.Core.Path.{_≡_, refl, _∙_}
 use mathlib.Core.List.{List}
 use lib.ListN.{length, getD}
 use Rattle.rules.specs.Table.{Definition}
+use Rattle.expander.specs.Limits.{tableEndsLength}
 use Rattle.expander.specs.Table.{DefinitionsIn}
 use Rattle.expander.specs.declared.packed.Packed.{Packed}
 use Rattle.expander.proofs.Sifting.{Sifting, sifting-begins, Facing, facing, sifting-on, sifting-ends, without-in}
@@ -39,7 +40,7 @@ faced c =
     facing (now-at c) (getD (l .ends) (l .k) 0) (getD (l .ends) (l .k + 1) 0) (c .loop-test .taken) refl refl
 
 -- both ends of the definition that the pass comes to are there
-room : (c : tie.In-loop Inv-loop μ-loop) → (c .before .loop .k + 2 ≤ length (c .before .loop .ends)) × (length (c .before .loop .ends) ≡ 131072)
+room : (c : tie.In-loop Inv-loop μ-loop) → (c .before .loop .k + 2 ≤ length (c .before .loop .ends)) × (length (c .before .loop .ends) ≡ tableEndsLength)
 room c = (omega (arith, faced c .left, now-at c .count-in), c .before .loop .inv .1 ∙ entry c .pre .holds .ends-are)
 
 add-next : tie.Need-add-next Inv-loop μ-loop
