@@ -1,0 +1,83 @@
+-- Demand 3 of `quenhovach_expand` itself, in the six numbers of its report: room never shapes text. As for `expand`, it is stated over what
+-- a caller learns from the proved contract.
+use Prim.Native.Nat.{ℕ}
+use mathlib.Core.Path.{_≡_, refl, subst}
+use mathlib.Core.List.{List}
+use borrow.Fn.World.{ArgsD, ResD}
+use borrow.Fn.Kinds.{endedOf}
+use contract.Lifetimes.{Lfts}
+use denote.Ref.{now}
+use denote.Triple.Clauses.{AtExit}
+use Rattle.rules.specs.Bytes.{Bytes}
+use Rattle.rules.specs.declared.Report.{Report}
+use Rattle.rules.specs.Answers.{isStopped, numbers}
+use Rattle.rules.specs.Run.{Setting}
+use Rattle.rules.specs.Room.{Lendable, NowhereSmaller, stoppedBy}
+use Rattle.rules.specs.Contract.{Buffers, settingOf, reportOf, runIn, Expanded, written, Agree}
+use Rattle.rules.proofs.Contract.{calls-agree}
+use Rattle.capi.specs.Agreed.{writtenBytes, stoppedAt, AgreeInNumbers}
+use Rattle.capi.specs.Reported.{Reported}
+use Rattle.capi.proofs.quenhovach_expand.{signature}
+use Rattle.capi.proofs.quenhovach_expand.Kinds as kinds
+use Rattle.capi.proofs.quenhovach_expand.Reads.{Learnt}
+
+-- the numbers of two reports agree as the reports do
+in-numbers : {a b : Setting} {r t : Report} {x y : Buffers} → Agree a b r t x y → AgreeInNumbers a b (numbers r) (numbers t) x y
+unfolding numbers isStopped stoppedBy stoppedAt written writtenBytes
+in-numbers h = record { same = h .same; further = h .further; again = h .again }
+
+-- of any function that promises `Reported`
+pub reports-agree :
+    (text : Bytes) (n m : ℕ) (before after before′ after′ : Buffers) (k k′ : ℕ) (r r′ : List ℕ) → Lendable (settingOf before′ m)
+    → NowhereSmaller (settingOf before n) (settingOf before′ m) → Reported text n before after k r → Reported text m before′ after′ k′ r′
+    → AgreeInNumbers (settingOf before n) (settingOf before′ m) r r′ after after′
+reports-agree text n m b x b′ x′ k k′ r r′ l w e f =
+    rw (e .report-is, f .report-is)
+    (in-numbers
+    (calls-agree text n m b x b′ x′ (reportOf (runIn text b n)) (reportOf (runIn text b′ m)) l w (record { report = refl; buffers = e .buffers-are })
+    (record { report = refl; buffers = f .buffers-are })))
+
+-- the arguments of a call, and what was lent when it returns
+abbrev Arguments : Lfts 9 → Type 0
+Arguments κs = ArgsD signature κs
+
+abbrev Lasting : Lfts 9 → Type 0
+Lasting κs = AtExit (endedOf 9 kinds.ps kinds.r) κs
+
+abbrev seven : Bytes → Bytes → Bytes → Bytes → Bytes → Bytes → Bytes → Buffers
+seven pending calls definitions streams wrap errors output =
+    record { pending = pending; calls = calls; definitions = definitions; streams = streams; wrap = wrap; errors = errors; output = output }
+
+-- text, budget and buffers of a call; the buffers and the report after it
+module _ (κs : Lfts 9) where
+  abbrev pub textOf : Arguments κs → Bytes
+  textOf a = now (a .0)
+
+  abbrev pub budgetOf : Arguments κs → ℕ
+  budgetOf a = a .1 .1 .1 .1 .1 .1 .1 .1 .0
+
+  abbrev pub lentTo : Arguments κs → Buffers
+  lentTo a =
+      seven (now (a .1 .0)) (now (a .1 .1 .0)) (now (a .1 .1 .1 .0)) (now (a .1 .1 .1 .1 .0)) (now (a .1 .1 .1 .1 .1 .0)) (now (a .1 .1 .1 .1 .1 .1 .0))
+      (now (a .1 .1 .1 .1 .1 .1 .1 .0))
+
+  abbrev pub leftFrom : Lasting κs → Buffers
+  leftFrom x =
+      seven (now (x .1 .0)) (now (x .1 .1 .0)) (now (x .1 .1 .1 .0)) (now (x .1 .1 .1 .1 .0)) (now (x .1 .1 .1 .1 .1 .0)) (now (x .1 .1 .1 .1 .1 .1 .0))
+      (now (x .1 .1 .1 .1 .1 .1 .1 .0))
+
+  abbrev pub reportIn : Lasting κs → List ℕ
+  reportIn x = now (x .1 .1 .1 .1 .1 .1 .1 .1 .1 .0)
+
+-- the letter's three sentences, as one statement about two calls on one text, whatever their buffers held: in the second nothing is smaller,
+-- and none of its lengths is above 65,536 bytes
+pub room-never-shapes-reports :
+    (κs κs′ : Lfts 9) (a : Arguments κs) (a′ : Arguments κs′) (n : ResD signature κs) (n′ : ResD signature κs′) (x : Lasting κs) (x′ : Lasting κs′)
+    → Learnt κs a n x → Learnt κs′ a′ n′ x′ → textOf κs′ a′ ≡ textOf κs a → Lendable (settingOf (lentTo κs′ a′) (budgetOf κs′ a′))
+    → NowhereSmaller (settingOf (lentTo κs a) (budgetOf κs a)) (settingOf (lentTo κs′ a′) (budgetOf κs′ a′))
+    → AgreeInNumbers (settingOf (lentTo κs a) (budgetOf κs a)) (settingOf (lentTo κs′ a′) (budgetOf κs′ a′)) (reportIn κs x) (reportIn κs′ x′) (leftFrom κs x)
+    (leftFrom κs′ x′)
+room-never-shapes-reports κs κs′ a a′ n n′ x x′ first second same lendable wider =
+    reports-agree (textOf κs a) (budgetOf κs a) (budgetOf κs′ a′) (lentTo κs a) (leftFrom κs x) (lentTo κs′ a′) (leftFrom κs′ x′) n n′ (reportIn κs x) (reportIn κs′ x′)
+    lendable wider first
+    (subst (λ (t : Bytes). Reported t (budgetOf κs′ a′) (lentTo κs′ a′) (leftFrom κs′ x′) n′ (reportIn κs′ x′)) same second)
