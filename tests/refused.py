@@ -1,17 +1,16 @@
 """Must-fail edits, as tests/edits.py and tests/incremental_edits.py read them: what an edit says, the functions of a crate, where a check refused one.
 
-An edit is a remark, a line 'function: NAME' (or 'function: MODULE::NAME'), and 'file:', 'old:' and 'new:' lines. It changes the body of that function, or
+An edit is a remark, a line 'function: NAME' (MODULE::NAME, MODULE::TYPE::NAME), and 'file:', 'old:' and 'new:' lines. It changes the body of that function, or
 of a private one of its file that only it calls; an old text stands there just once, as a whole line or else as a part of one. The edit has to be refused in
 the proof of what it changes, at the promise: at the need `returns`, or at `loop-holds` or `loop-again`, where a loop's invariant carries the promise. A sum
 that may wrap, an index, a length, a callee's premise or termination is none of these.
-A function is written as 'MODULE/NAME' here, and as 'NAME' in src/lib.rt.
+A function is written as 'MODULE/NAME' here, one of src/lib.rt as 'NAME', and a method as 'MODULE/TYPE/NAME'.
 """
 import glob
 import os
 import re
 
-HEAD = re.compile(r'^(pub |pub\(crate\) )?(?:extern "C" )?fn (\w+)\(', re.M)
-BODY = re.compile(r"^\{$|\) (?:-> [^{}\n]+ )?\{$", re.M)
+ITEM = re.compile(r'^impl (\w+) |^\}$|^( *)(pub |pub\(crate\) )?(?:extern "C" )?fn (\w+)\(', re.M)
 CALL = re.compile(r"(?:\b(\w+)::)?\b(\w+)\(")
 ERROR = re.compile(r"^\S+/proofs/((\S+)\.antt:\d+:\d+): (?:error: (?:`([^`\n]+)`: )?|(?=`([^`\n]+)` is not admitted: ))(.*)$", re.M)
 NO_PROOF = re.compile(r"^fn (\S+): no proof: (.*`search` does not close.*)$", re.M)
@@ -20,23 +19,30 @@ PROMISE = re.compile(r"(?:\S+-)?(?:returns|\w+-holds|\w+-again)(?:-\d+)?")
 
 
 class Function:
-    def __init__(self, name, module, path, head, text):
+    """A function or method: its name, where its body lies, and what it calls."""
+
+    def __init__(self, name, module, path, item, text):
+        indent = item.group(2)
         self.name, self.module, self.path = name, module, path
-        self.public, self.private = head.group(1) == "pub ", head.group(1) is None
-        body = BODY.search(text, head.start())
-        end = re.compile(r"^\}$", re.M).search(text, head.start())
+        self.public, self.private = item.group(3) == "pub ", item.group(3) is None
+        body = re.compile(r"^%s\{$|\) (?:-> [^{}\n]+ )?\{$" % indent, re.M).search(text, item.start())
+        end = re.compile(r"^%s\}$" % indent, re.M).search(text, item.start())
         self.start, self.end = (body.end(), end.start()) if body and end else (0, 0)
         self.calls = CALL.findall(text[self.start : self.end])
 
 
 def functions_of(folder):
-    """{'MODULE/NAME': function} of a crate."""
+    """{'MODULE/NAME': function} of a crate, a method's as 'MODULE/TYPE/NAME'."""
     found = {}
     for path in sorted(glob.glob(os.path.join(folder, "src", "*.rt"))):
-        text, module = open(path, encoding="utf-8").read(), os.path.basename(path)[: -len(".rt")]
-        for head in HEAD.finditer(text):
-            name = head.group(2) if module in ("lib", "main") else module + "/" + head.group(2)
-            found[name] = Function(name, module, path, head, text)
+        text, module, owner = open(path, encoding="utf-8").read(), os.path.basename(path)[: -len(".rt")], None
+        for item in ITEM.finditer(text):
+            if item.group(4):
+                parts = [None if module in ("lib", "main") else module, owner, item.group(4)]
+                name = "/".join(filter(None, parts))
+                found[name] = Function(name, module, path, item, text)
+            else:
+                owner = item.group(1)
     return found
 
 
