@@ -13,7 +13,7 @@ import re
 ITEM = re.compile(r'^impl (\w+) |^\}$|^( *)(pub |pub\(crate\) )?(?:extern "C" )?fn (\w+)\(', re.M)
 CALL = re.compile(r"(?:\b(\w+)::)?\b(\w+)\(")
 ERROR = re.compile(r"^\S+/proofs/((\S+)\.antt:\d+:\d+): (?:error: (?:`([^`\n]+)`: )?|(?=`([^`\n]+)` is not admitted: ))(.*)$", re.M)
-NO_PROOF = re.compile(r"^fn (\S+): no proof: (.*`search` does not close.*)$", re.M)
+NO_PROOF = re.compile(r"^fn (\S+): no proof: .*`search` does not close (.*)$", re.M)
 CAUSE = re.compile(r"`([^`]+)` was not admitted \(")
 PROMISE = re.compile(r"(?:\S+-)?(?:returns|\w+-holds|\w+-again)(?:-\d+)?")
 
@@ -136,9 +136,9 @@ def refusals(said, folder):
         own = [(place, message, failing_with(declared, after, needs)) for place, declared, message in found if not CAUSE.search(message)]
         if own:
             refused[name.removesuffix("/Proof")] = own
-    for function, message in NO_PROOF.findall(said):
-        needs = set(re.findall(r"Need-([\w-]+)", message))
-        refused.setdefault(function.partition("::")[2].replace("::", "/"), []).append(("no proof", message, needs))
+    for function, needs in NO_PROOF.findall(said):
+        own = [("a search", "", {need}) for need in re.findall(r"`([^`]+)`", needs)]
+        refused.setdefault(function.partition("::")[2].replace("::", "/"), []).extend(own)
     return refused
 
 
