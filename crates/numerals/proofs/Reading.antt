@@ -3,10 +3,11 @@ use Prim.Native.Nat.{ℕ, zero, suc, _+_, _-_, _*_, _%_, _^_, _≤_, _<_}
 use native.Mathlib.Omega.{arith}
 use native.Mathlib.Nat.{le-of-eq, mul-le-mul, mul-le-mul-left}
 use native.Mathlib.Numerals.{add-one}
-use mathlib.Core.Path.{_≡_, refl, sym, ap, _∙_}
+use mathlib.Core.Path.{_≡_, refl, sym, ap, subst, _∙_}
 use mathlib.Core.List.{[], _∷_}
 use mathlib.Core.Bool.{Bool, true, false, _&&_}
 use mathlib.Core.Option.{Option, none, some}
+use mathlib.Core.Logic.{_⊎_, inl, inr}
 use lib.Dec.{leb, ltb}
 use lib.IntN.{ℤ, pos, negℤ}
 use lib.ListN.{length, take, drop, getD, drop-of-length-le, length-drop}
@@ -29,25 +30,77 @@ at-least first final x e = go (leb first x) refl e
     go true f g = leb-true first x f
     go false f g = let z : _≡_ {A = ℕ} 0 1 = cc in absurd (omega arith)
 
+at-most : (first final x : ℕ) → ranging first final x ≡ true → x ≤ final
+unfolding ranging
+at-most first final x e = go (leb first x) refl e
+  where
+    go : (t : Bool) → leb first x ≡ t → t && leb x final ≡ true → x ≤ final
+    go true f g = leb-true x final g
+    go false f g = let z : _≡_ {A = ℕ} 0 1 = cc in absurd (omega arith)
+
+worth-none : {o : Option ℕ} → o ≡ none → worthOf o ≡ 36
+unfolding worthOf
+worth-none e = rw e
+
+worth-some : {o : Option ℕ} {n : ℕ} → o ≡ some n → worthOf o ≡ n
+unfolding worthOf
+worth-some e = rw e
+
 -- what a byte of each class is worth
 module _ (x : ℕ) where
+  digit-is : isDigit x ≡ true → digitWorth x ≡ some (x - 48)
+  unfolding digitWorth
+  digit-is e = rw e
+
   pub digit-worth : isDigit x ≡ true → (48 ≤ x) × (x - 48 ≡ worthOf (digitWorth x))
-  unfolding isDigit digitWorth worthOf
-  digit-worth e = (at-least 48 57 x e, rw e)
+  unfolding isDigit
+  digit-worth e = (at-least 48 57 x e, sym (worth-some (digit-is e)))
 
   module _ (n : isDigit x ≡ false) where
+    lower-is : isLower x ≡ true → digitWorth x ≡ some (x - 87)
+    unfolding digitWorth
+    lower-is e = rw (n, e)
+
     pub lower-worth : isLower x ≡ true → (97 ≤ x) × (x - 87 ≡ worthOf (digitWorth x))
-    unfolding isLower digitWorth worthOf
-    lower-worth e = (at-least 97 122 x e, rw (n, e))
+    unfolding isLower
+    lower-worth e = (at-least 97 122 x e, sym (worth-some (lower-is e)))
 
     module _ (l : isLower x ≡ false) where
-      pub upper-worth : isUpper x ≡ true → (65 ≤ x) × (x - 55 ≡ worthOf (digitWorth x))
-      unfolding isUpper digitWorth worthOf
-      upper-worth e = (at-least 65 90 x e, rw (n, l, e))
+      upper-is : isUpper x ≡ true → digitWorth x ≡ some (x - 55)
+      unfolding digitWorth
+      upper-is e = rw (n, l, e)
 
-      pub other-worth : isUpper x ≡ false → 4294967295 ≡ worthOf (digitWorth x)
-      unfolding digitWorth worthOf
-      other-worth e = rw (n, l, e)
+      other-is : isUpper x ≡ false → digitWorth x ≡ none
+      unfolding digitWorth
+      other-is e = rw (n, l, e)
+
+      pub upper-worth : isUpper x ≡ true → (65 ≤ x) × (x - 55 ≡ worthOf (digitWorth x))
+      unfolding isUpper
+      upper-worth e = (at-least 65 90 x e, sym (worth-some (upper-is e)))
+
+      pub other-worth : isUpper x ≡ false → 36 ≡ worthOf (digitWorth x)
+      other-worth e = sym (worth-none (other-is e))
+
+-- a digit is worth less than 36
+Small : Option ℕ → Type 0
+Small none = Unit {0}
+Small (some d) = d < 36
+
+small : (x : ℕ) → Small (digitWorth x)
+unfolding Small isDigit isLower isUpper
+small x = by-digit (isDigit x) refl
+  where
+    by-upper : isDigit x ≡ false → isLower x ≡ false → (t : Bool) → isUpper x ≡ t → Small (digitWorth x)
+    by-upper n l true e = let h = at-most 65 90 x e in subst Small (sym (upper-is x n l e)) (omega arith)
+    by-upper n l false e = subst Small (sym (other-is x n l e)) tt
+
+    by-lower : isDigit x ≡ false → (t : Bool) → isLower x ≡ t → Small (digitWorth x)
+    by-lower n true e = let h = at-most 97 122 x e in subst Small (sym (lower-is x n e)) (omega arith)
+    by-lower n false e = by-upper n e (isUpper x) refl
+
+    by-digit : (t : Bool) → isDigit x ≡ t → Small (digitWorth x)
+    by-digit true e = let h = at-most 48 57 x e in subst Small (sym (digit-is x e)) (omega arith)
+    by-digit false e = by-lower e (isLower x) refl
 
 -- a number on either side of a limit
 within-limit : (l n : ℕ) → n ≤ l → upTo l (some n) ≡ some n
@@ -120,41 +173,39 @@ fits-wide {v} {radix} {d} hv hr hd =
     let m : v * radix ≤ 4294967295 * 4294967295 = mul-le-mul a b in
     omega arith
 
-worth-none : {o : Option ℕ} → o ≡ none → worthOf o ≡ 4294967295
-unfolding worthOf
-worth-none e = rw e
-
-worth-some : {o : Option ℕ} {n : ℕ} → o ≡ some n → worthOf o ≡ n
-unfolding worthOf
-worth-some e = rw e
-
 -- one byte, worth d, behind the digits of v
 module _ (radix v x d : ℕ) (e : d ≡ worthOf (digitWorth x)) where
-  pub no-digit : radix ≤ d → found.NoNumber ≡ naturalOf (upTo 4294967295 (behind radix v (x ∷ [])))
-  unfolding naturalOf upTo
-  no-digit h = rw (none-there (digitWorth x) refl)
-    where
-      none-there : (o : Option ℕ) → digitWorth x ≡ o → behind radix v (x ∷ []) ≡ none
-      none-there none w = digit-none radix v x [] w
-      none-there (some n) w =
-          let f : d ≡ n = e ∙ worth-some w in
-          digit-off radix v x [] n w (omega arith)
+  -- it is no digit, or one that is worth too much
+  off : (36 ≤ d) ⊎ (radix ≤ d) → (o : Option ℕ) → digitWorth x ≡ o → behind radix v (x ∷ []) ≡ none
+  unfolding Small
+  off h none w = digit-none radix v x [] w
+  off (inl h) (some n) w =
+      let f : d ≡ n = e ∙ worth-some w in
+      let k : n < 36 = subst Small w (small x) in
+      absurd (omega arith)
+  off (inr h) (some n) w =
+      let f : d ≡ n = e ∙ worth-some w in
+      digit-off radix v x [] n w (omega arith)
 
-  module _ (h : d < radix) (small : radix < 2 ^ 32) where
+  pub no-digit : (36 ≤ d) ⊎ (radix ≤ d) → found.NoNumber ≡ naturalOf (upTo 4294967295 (behind radix v (x ∷ [])))
+  unfolding naturalOf upTo
+  no-digit h = rw (off h (digitWorth x) refl)
+
+  module _ (h : d < radix) (k : d < 36) where
     its-worth : digitWorth x ≡ some d
     its-worth = go (digitWorth x) refl
       where
         go : (o : Option ℕ) → digitWorth x ≡ o → digitWorth x ≡ some d
-        go none w = let f : d ≡ 4294967295 = e ∙ worth-none w in absurd (omega arith)
+        go none w = let f : d ≡ 36 = e ∙ worth-none w in absurd (omega arith)
         go (some n) w = let f : d ≡ n = e ∙ worth-some w in w ∙ ap some (sym f)
 
     pub one-digit : v * radix + d ≤ 4294967295 → found.Number (v * radix + d) ≡ naturalOf (upTo 4294967295 (behind radix v (x ∷ [])))
     unfolding naturalOf behind
-    one-digit k = rw (digit-on radix v x [] d its-worth h, within-limit 4294967295 (v * radix + d) k)
+    one-digit l = rw (digit-on radix v x [] d its-worth h, within-limit 4294967295 (v * radix + d) l)
 
     pub one-beyond : 4294967295 < v * radix + d → found.NoNumber ≡ naturalOf (upTo 4294967295 (behind radix v (x ∷ [])))
     unfolding naturalOf behind
-    one-beyond k = rw (digit-on radix v x [] d its-worth h, beyond-limit 4294967295 (v * radix + d) k)
+    one-beyond l = rw (digit-on radix v x [] d its-worth h, beyond-limit 4294967295 (v * radix + d) l)
 
 -- go on with what was found
 then-on : Option ℕ → (ℕ → Option ℕ) → Option ℕ

@@ -23,9 +23,9 @@ unfoldable pub foundIn : Natural → Option ℕ
 foundIn natural.NoNumber = none
 foundIn (natural.Number n) = some n
 
--- what a byte is worth, as the code says it: what is no digit is worth 4294967295, which is below no radix of 32 bits
+-- what a byte is worth, as the code says it: 36, which no digit is, where it is none
 unfoldable pub worthOf : Option ℕ → ℕ
-worthOf none = 4294967295
+worthOf none = 36
 worthOf (some d) = d
 
 -- a number by its bits

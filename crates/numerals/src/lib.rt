@@ -27,7 +27,7 @@ pub enum Length {
     BadRadix,
 }
 
-// What a digit is worth; another byte is worth more than any digit, so that no radix has it.
+// What a digit is worth; 36 for another byte.
 fn digit_worth(b: u8) -> u32
     ensures { λ r. ⌜ r ≡ worthOf (digitWorth b) ⌝ }
 {
@@ -41,7 +41,7 @@ fn digit_worth(b: u8) -> u32
     if ascii::is_upper(b) {
         return x - 55;
     }
-    4294967295
+    36
 }
 
 // The byte b behind the digits of v.
@@ -49,6 +49,9 @@ fn one_more(radix: u32, v: u32, b: u8) -> Natural
     ensures { λ r. ⌜ r ≡ naturalOf (upTo 4294967295 (behind radix v (b ∷ []))) ⌝ }
 {
     let d = digit_worth(b);
+    if 36 <= d {
+        return Natural::NoNumber;
+    }
     if radix <= d {
         return Natural::NoNumber;
     }

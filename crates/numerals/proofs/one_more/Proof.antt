@@ -1,5 +1,6 @@
 -- `numerals::one_more` meets its contract. Assumes nothing.
 use native.Mathlib.Omega.{arith}
+use mathlib.Core.Logic.{inl, inr}
 use Rattle.numerals.proofs.Reading.{fits-wide, no-digit, one-digit, one-beyond}
 use borrow.Author.Needs.{needs}
 use Rattle.numerals.proofs.one_more.Statement.{statement}
@@ -11,11 +12,16 @@ digit-worth-requires c κs = search needs
 returns : tie.Need-returns
 returns c =
     let a = c .before .before .args in
-    no-digit (a .radix) (a .v) (a .b) (c .before .digit-worth .result) (c .before .digit-worth .ensures) (omega arith)
+    no-digit (a .radix) (a .v) (a .b) (c .before .digit-worth .result) (c .before .digit-worth .ensures) (inl (omega arith))
+
+returns-2 : tie.Need-returns-2
+returns-2 c =
+    let a = c .before .before .before .args in
+    no-digit (a .radix) (a .v) (a .b) (c .before .before .digit-worth .result) (c .before .before .digit-worth .ensures) (inr (omega arith))
 
 mul-n : tie.Need-mul-n
 mul-n c =
-    let a = c .before .before .args in
+    let a = c .before .before .before .args in
     let h = fits-wide {v = a .v} {radix = a .radix} {d = 0} (search needs) (search needs) (omega arith) in
     omega arith
 
@@ -28,17 +34,28 @@ add-n c = record { fits = fits-wide (search needs) (search needs) (search needs)
 cast-t12 : tie.Need-cast-t12
 cast-t12 c = search needs
 
-returns-2 : tie.Need-returns-2
-returns-2 c =
-    let a = c .before .before .before .args in
-    one-digit (a .radix) (a .v) (a .b) (c .before .before .digit-worth .result) (c .before .before .digit-worth .ensures) (omega arith) (search needs) (omega arith)
-
 returns-3 : tie.Need-returns-3
 returns-3 c =
-    let a = c .before .before .before .args in
-    one-beyond (a .radix) (a .v) (a .b) (c .before .before .digit-worth .result) (c .before .before .digit-worth .ensures) (omega arith) (search needs) (omega arith)
+    let a = c .before .before .before .before .args in
+    let d = c .before .before .before .digit-worth in
+    one-digit (a .radix) (a .v) (a .b) (d .result) (d .ensures) (omega arith) (omega arith) (omega arith)
+
+returns-4 : tie.Need-returns-4
+returns-4 c =
+    let a = c .before .before .before .before .args in
+    let d = c .before .before .before .digit-worth in
+    one-beyond (a .radix) (a .v) (a .b) (d .result) (d .ensures) (omega arith) (omega arith) (omega arith)
 
 pub one-more-spec : {M : Type 1} → statement M
 one-more-spec =
     tie.close
-    (tie.spec digit-worth-requires returns mul-n cast-n add-n cast-t12 returns-2 returns-3)
+    (tie.spec
+    digit-worth-requires
+    returns
+    returns-2
+    mul-n
+    cast-n
+    add-n
+    cast-t12
+    returns-3
+    returns-4)
