@@ -204,14 +204,15 @@ written-more {output} {at} {t} h w v n e l r =
       filled-long f,
     )
 
+-- the output is the current stream
+pub is-out : {streams : Bytes} {owners : List ℕ} {output : Bytes} {k : Sinks} {u : Streams} → SinksIn streams owners output k u → k .current ≡ 0 → u .current ≡ pos 0
+is-out m e = m .current ∙ ap signedValue e ∙ bits-plain 0 (omega arith)
+
 module _ {streams : Bytes} {owners : List ℕ} {output : Bytes} {k : Sinks} {u : Streams} (m : SinksIn streams owners output k u) (i : ℕ) (h : IsStream i) where
   -- to the output
   module _ (e : k .current ≡ 0) where
-    is-out : u .current ≡ pos 0
-    is-out = m .current ∙ ap signedValue e ∙ bits-plain 0 (omega arith)
-
     pub out-long : length (moved i u .output) ≡ k .output + ownedCount i (take (k .waiting) owners)
-    out-long = rw (moved-out i h u is-out) (omega (arith, length-append (u .output) (getD (u .waiting) (i - 1) []), length-of (m .waiting) i h, front-long (m .written)))
+    out-long = rw (moved-out i h u (is-out m e)) (omega (arith, length-append (u .output) (getD (u .waiting) (i - 1) []), length-of (m .waiting) i h, front-long (m .written)))
 
     pub out-moves :
         {streams′ : Bytes} {owners′ : List ℕ} {kept : ℕ} (n : ℕ) → n ≡ ownedCount i (take (k .waiting) owners) → (w : Bytes)
@@ -221,7 +222,7 @@ module _ {streams : Bytes} {owners : List ℕ} {output : Bytes} {k : Sinks} {u :
         let e-text : w ≡ getD (u .waiting) (i - 1) [] = ew ∙ sym (text-of (m .waiting) i h) in
         let e-long : length w ≡ n = ap length e-text ∙ length-of (m .waiting) i h ∙ sym en in
         let after = putMid (k .output) (k .output + n - k .output) output w in
-        subst (λ (x : Streams). SinksIn streams′ owners′ after (record { current = k .current; waiting = kept; output = k .output + n }) x) (sym (moved-out i h u is-out))
+        subst (λ (x : Streams). SinksIn streams′ owners′ after (record { current = k .current; waiting = kept; output = k .output + n }) x) (sym (moved-out i h u (is-out m e)))
         (record {
           waiting = g;
           written = written-more (m .written) w (getD (u .waiting) (i - 1) []) n e-text e-long (omega arith) .0;
@@ -270,33 +271,28 @@ pub turning-begins :
     → Turning streams owners output k seen ns 0 u
 turning-begins {u = u} seen ns m e = record { held = u; are = m; marked = none-seen u seen e; left = refl }
 
-module _
-    {streams : Bytes} {owners : List ℕ} {output : Bytes} {k : Sinks} {seen ns : List ℕ} {j : ℕ} {u : Streams} (t : Turning streams owners output k seen ns j u)
-    (each : (k : ℕ) → k < length ns → IsStream (getD ns k 0))
-  where
-    pub turning-ends : length ns ≤ j → SinksIn streams owners output k (movedInTurn ns u)
-    turning-ends h = subst (λ (x : Streams). SinksIn streams owners output k x) (turns-end ns j (t .held) (movedInTurn ns u) (t .left) h) (t .are)
+module _ {streams : Bytes} {owners : List ℕ} {output : Bytes} {k : Sinks} {seen ns : List ℕ} {j : ℕ} {u : Streams} (t : Turning streams owners output k seen ns j u) where
+  pub turning-ends : length ns ≤ j → SinksIn streams owners output k (movedInTurn ns u)
+  turning-ends h = subst (λ (x : Streams). SinksIn streams owners output k x) (turns-end ns j (t .held) (movedInTurn ns u) (t .left) h) (t .are)
 
-    module _ (h : j < length ns) (i : ℕ) (e : i ≡ getD ns j 0) where
-      here : IsStream i
-      here = subst IsStream (sym e) (each j h)
+  module _ (h : j < length ns) (i : ℕ) (e : i ≡ getD ns j 0) where
+    then-left : movedInTurn (drop (j + 1) ns) (moved i (t .held)) ≡ movedInTurn ns u
+    then-left = turn-on ns j (t .held) (movedInTurn ns u) (t .left) h i e
 
-      then-left : movedInTurn (drop (j + 1) ns) (moved i (t .held)) ≡ movedInTurn ns u
-      then-left = ap (λ (n : ℕ). movedInTurn (drop (j + 1) ns) (moved n (t .held))) e ∙ turn-on ns j (t .held) (movedInTurn ns u) (t .left) h
+    pub turning-on :
+        {streams′ : Bytes} {owners′ : List ℕ} {output′ : Bytes} {seen′ : List ℕ} {r : Sinks}
+        → SinksIn streams′ owners′ output′ r (moved i (t .held)) × Seen seen′ (moved i (t .held)) → Turning streams′ owners′ output′ r seen′ ns (j + 1) u
+    turning-on g = record { held = moved i (t .held); are = g .0; marked = g .1; left = then-left }
 
-      -- where all fits, this move does, since later ones only lengthen the output
-      pub turning-fits : {n : ℕ} → length (movedInTurn ns u .output) ≤ n → length (moved i (t .held) .output) ≤ n
-      turning-fits l =
-          omega (
-            arith,
-            ap (λ (x : Streams). length (x .output)) then-left,
-            turns-sum (drop (j + 1) ns) (λ n o. subst IsStream (sym (getD-drop (j + 1) ns n 0)) (each (j + 1 + n) (omega (arith, length-drop (j + 1) ns)))) (moved i (t .held)) (moved-nine i here (t .held) (t .are .waiting .nine)) .0,
-          )
-
-      pub turning-on :
-          {streams′ : Bytes} {owners′ : List ℕ} {output′ : Bytes} {seen′ : List ℕ} {r : Sinks}
-          → SinksIn streams′ owners′ output′ r (moved i (t .held)) × Seen seen′ (moved i (t .held)) → Turning streams′ owners′ output′ r seen′ ns (j + 1) u
-      turning-on g = record { held = moved i (t .held); are = g .0; marked = g .1; left = then-left }
+    -- where all moves fit this one does, since later ones only lengthen the output
+    pub turning-fits : ((k : ℕ) → k < length ns → IsStream (getD ns k 0)) → {n : ℕ} → length (movedInTurn ns u .output) ≤ n → length (moved i (t .held) .output) ≤ n
+    turning-fits each l =
+        omega (
+          arith,
+          ap (λ (x : Streams). length (x .output)) then-left,
+          turns-sum (drop (j + 1) ns) (λ n o. subst IsStream (sym (getD-drop (j + 1) ns n 0)) (each (j + 1 + n) (omega (arith, length-drop (j + 1) ns)))) (moved i (t .held))
+              (moved-nine i (subst IsStream (sym e) (each j h)) (t .held) (t .are .waiting .nine)) .0,
+        )
 
 -- ---- divert
 

@@ -2,17 +2,16 @@
 use Prim.Native.Nat.{ℕ, suc, _+_, _-_, _≤_, _<_}
 use mathlib.Core.Path.{_≡_, refl, sym, ap, subst, _∙_}
 use mathlib.Core.Bool.{Bool, true, false}
-use mathlib.Core.List.{List, [], _∷_, _++_}
+use mathlib.Core.List.{List, [], _∷_}
 use native.Mathlib.Decide.{ℕ-discrete}
 use native.Mathlib.Omega.{arith}
 use borrow.Author.Tests.{le-leb, lt-leb, leb-true, leb-false}
 use lib.Dec.{leb}
-use lib.IntN.{ℤ, pos}
+use lib.IntN.{pos}
 use lib.ListN.{length, take, drop, getD, set, replicate, length-append}
 use lib.Seq.{getD-set-same, getD-set-other}
 use Rattle.rules.specs.Bytes.{Bytes}
-use Rattle.rules.specs.Words.{signedValue}
-use Rattle.rules.specs.Streams.{Streams, totalLength, moved, movedInTurn}
+use Rattle.rules.specs.Streams.{Streams, moved, movedInTurn}
 use Rattle.expander.specs.declared.sinks.Sinks.{Sinks}
 use Rattle.expander.specs.Streams.{IsStream, ownedCount, discards}
 use Rattle.expander.specs.Sinks.{SinksIn}
@@ -23,7 +22,7 @@ use Rattle.expander.proofs.SinksLaws.{lost-is}
 use Rattle.expander.proofs.Moved.{moved-out, moved-current, turn-on, turns-end}
 use Rattle.expander.proofs.Totals.{used-is}
 use Rattle.expander.proofs.MachineLaws.{front-long}
-use Rattle.expander.proofs.DivertingLaws.{moved-any, moved-nine, turns-sum, none-seen, seen-same, seen-more}
+use Rattle.expander.proofs.DivertingLaws.{moved-any, moved-nine, turns-sum, none-seen, seen-same, seen-more, is-out}
 
 -- ---- one stream
 
@@ -62,13 +61,13 @@ counting-begins {u = u} ns l = record { held = u; leaving = l; left = refl; long
 
 module _ {owners : List ℕ} {used : ℕ} {seen ns : List ℕ} {j sum : ℕ} {u : Streams} (t : Counting owners used seen ns j sum u) where
   pub counting-on :
-      {seen′ : List ℕ} (i n : ℕ) → i ≡ getD ns j 0 → j < length ns
+      {seen′ : List ℕ} (n : ℕ) → j < length ns → (i : ℕ) → i ≡ getD ns j 0
       → Leaving owners used seen′ (moved i (t .held)) × (length (moved i (t .held) .output) ≡ length (t .held .output) + n) → Counting owners used seen′ ns (j + 1) (sum + n) u
-  counting-on i n e h g =
+  counting-on n h i e g =
       record {
         held = moved i (t .held);
         leaving = g .0;
-        left = ap (λ (o : ℕ). movedInTurn (drop (j + 1) ns) (moved o (t .held))) e ∙ turn-on ns j (t .held) (movedInTurn ns u) (t .left) h;
+        left = turn-on ns j (t .held) (movedInTurn ns u) (t .left) h i e;
         long = omega (arith, g .1, t .long);
       }
 
@@ -89,7 +88,7 @@ module _ {streams : Bytes} {owners : List ℕ} {output : Bytes} {k : Sinks} {u :
   pub leaving-all : k .current ≡ 0 → Leaving owners (k .waiting) (replicate 10 0) u
   leaving-all e =
       record {
-        out = m .current ∙ ap signedValue e ∙ bits-plain 0 (omega arith);
+        out = is-out m e;
         nine = m .waiting .nine;
         marked = none-seen u (replicate 10 0) refl;
         owned = λ i h f. length-of (m .waiting) i h;

@@ -112,9 +112,9 @@ moved-current i s = go (isCurrent i (s .current)) refl
 
 -- moves in turn: t is what those before k made, and w what all of them make
 module _ (ns : List ℕ) (k : ℕ) (t w : Streams) (e : movedInTurn (drop k ns) t ≡ w) where
-  pub turn-on : k < length ns → movedInTurn (drop (k + 1) ns) (moved (getD ns k 0) t) ≡ w
+  pub turn-on : k < length ns → (i : ℕ) → i ≡ getD ns k 0 → movedInTurn (drop (k + 1) ns) (moved i t) ≡ w
   unfolding movedInTurn
-  turn-on h = rw (add-one k) (ap (λ (l : List ℕ). movedInTurn l t) (sym (drop-cons ns k 0 h)) ∙ e)
+  turn-on h i q = rw (q, add-one k) (ap (λ (l : List ℕ). movedInTurn l t) (sym (drop-cons ns k 0 h)) ∙ e)
 
   pub turns-end : length ns ≤ k → t ≡ w
   unfolding movedInTurn

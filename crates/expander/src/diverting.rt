@@ -114,8 +114,8 @@ fn count_streams(
     sum
 }
 
-// Whether the output has room for the streams that the arguments name, or all nine, if it is the current stream. Nothing is counted
-// where all that waits has room.
+// Whether the output has room for the streams that go there: those that the arguments name, or all nine, if it is the current one.
+// Nothing is counted where there is room for all that waits.
 fn fits(calls: &[u8], ends: &[u32], owners: &[u8], output: &[u8], k: Sinks, x: Arguments) -> bool
     requires { ⌜ (k .waiting ≤ length (now owners)) × (k .waiting ≤ 65536) × (k .output ≤ length (now output)) ⌝ }
     requires { ⌜ StreamArguments (now calls) (now ends) x ⌝ }

@@ -73,7 +73,7 @@ loop-again c =
       omega (arith, l .before .loop .inv .1, r .ensures .0, entry l .pre .0 .1),
       λ u args m h.
           let t = l .before .loop .inv .2 u args m h in
-          counting-on t (s .result) (r .result) (s .ensures args h (in-turn l args h)) (in-turn l args h) (r .ensures .1 (t .held) (t .leaving)),
+          counting-on t (r .result) (in-turn l args h) (s .result) (s .ensures args h (in-turn l args h)) (r .ensures .1 (t .held) (t .leaving)),
     )
 
 returns : tie.Need-returns Inv-loop μ-loop

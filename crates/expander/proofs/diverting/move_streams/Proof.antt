@@ -60,7 +60,7 @@ move-new-requires c κs =
       record {
         held = t .held;
         are = t .are;
-        fits = turning-fits t each h (s .result) q (omega (arith, i .inv .2, k .fits));
+        fits = turning-fits t h (s .result) q each (omega (arith, i .inv .2, k .fits));
         room = omega (arith, i .inv .0, i .inv .3, k .room);
       },
       subst IsStream (sym q) (each (i .j) h),
@@ -87,7 +87,7 @@ loop-again c =
       λ u args m h.
           let t = i .inv .5 u args m h in
           let o = in-turn l args h in
-          turning-on t (turn-each args (entry l .pre .0 .named args h)) o (s .result) (s .ensures args h o) (r .ensures (t .held) (t .are) (t .marked)),
+          turning-on t o (s .result) (s .ensures args h o) (r .ensures (t .held) (t .are) (t .marked)),
     )
 
 same-length : tie.Need-same-length Inv-loop μ-loop
@@ -106,7 +106,7 @@ returns : tie.Need-returns Inv-loop μ-loop
 returns c =
     let e = c .before .before .before .before .before .before .before .before .before in
     λ u args m h.
-    turning-ends (c .before .loop .inv .5 u args m h) (turn-each args (e .pre .0 .named args h))
+    turning-ends (c .before .loop .inv .5 u args m h)
     (omega (arith, c .loop-test .left, c .before .before .turn-count .ensures (e .args .calls .now) (e .args .ends .now) args h))
 
 pub move-streams-spec : {M : Type 1} → statement M
