@@ -13,7 +13,7 @@ use Rattle.rules.specs.declared.Report.{Report}
 use Rattle.rules.specs.Answers.{isStopped, numbers}
 use Rattle.rules.specs.Run.{Setting}
 use Rattle.rules.specs.Room.{Lendable, NowhereSmaller, stoppedBy}
-use Rattle.rules.specs.Contract.{Buffers, settingOf, reportOf, runIn, Expanded, written, Agree}
+use Rattle.rules.specs.Contract.{Buffers, settingOf, reportOf, runIn, written, Agree}
 use Rattle.rules.proofs.Contract.{calls-agree}
 use Rattle.capi.specs.Agreed.{writtenBytes, stoppedAt, AgreeInNumbers}
 use Rattle.capi.specs.Reported.{Reported}

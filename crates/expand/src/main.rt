@@ -6,7 +6,6 @@ use libc::STDIN_FILENO;
 use libc::STDOUT_FILENO;
 use rules::Report;
 ghost use mathlib.Core.Path.{_≡_};
-ghost use Prim.Native.Nat.{_≤_};
 ghost use lib.ListN.{length};
 ghost use Rattle.expand.specs.Input.{Fits};
 

@@ -2,8 +2,7 @@
 use Prim.Native.Nat.{ℕ, zero, suc, _+_, _-_, _≤_, _<_}
 use mathlib.Core.Path.{_≡_, refl, sym, ap, subst, _∙_}
 use mathlib.Core.Bool.{Bool, true, false}
-use mathlib.Core.List.{List, [], _∷_, _++_}
-use mathlib.Core.Option.{Option, none, some}
+use mathlib.Core.List.{List, [], _∷_}
 use native.Mathlib.Omega.{arith}
 use borrow.Author.Tests.{le-leb, lt-leb}
 use mir.Syntax.{w32}
@@ -14,10 +13,10 @@ use Rattle.rules.specs.declared.Answer.{Answer}
 use Rattle.rules.specs.declared.Answer.the-variants as answer
 use Rattle.rules.specs.declared.Report.{Report}
 use Rattle.rules.specs.Bytes.{Bytes}
-use Rattle.rules.specs.Answers.{Ending, done, exit, endingAnswer, Fault, unclosedQuote, unclosedComment, unclosedCall, noName, noNumber, noExpression, divisor, badMark, noText, gone, deep, faultAnswer, isFinished, answerNumber}
-use Rattle.rules.specs.State.{State, Outcome, next, stop, refused, freshStart, startState}
+use Rattle.rules.specs.Answers.{isFinished, answerNumber}
+use Rattle.rules.specs.State.{State, stop, freshStart, startState}
 use Rattle.rules.specs.Step.{step}
-use Rattle.rules.specs.Run.{Setting, lengths, held, overfull, Ended, endedWith, runFrom, allLendable}
+use Rattle.rules.specs.Run.{Setting, lengths, Ended, endedWith, runFrom, allLendable}
 use Rattle.rules.specs.declared.Marks.{Marks}
 use Rattle.rules.specs.Marks.{markTexts, defaultMarks}
 use Rattle.rules.specs.Source.{sourceOf}
@@ -26,20 +25,18 @@ use Rattle.rules.specs.Words.{signedValue}
 use Rattle.expander.specs.Calls.{openStrings, Stacked}
 use Rattle.expander.specs.Packed.{endsFrom}
 use Rattle.expander.specs.Tokens.{GoodMarks}
-use Rattle.rules.specs.Contract.{reportOf, errorsOf, outputOf, fronted}
+use Rattle.rules.specs.Contract.{reportOf, errorsOf, outputOf}
 use Rattle.expander.specs.declared.machine.Machine.{Machine}
 use Rattle.expander.specs.declared.machine.Turn.{Turn}
 use Rattle.expander.specs.declared.machine.Went.{Went}
 use Rattle.expander.specs.declared.machine.Went.the-variants as went
 use Rattle.expander.specs.declared.run.Halted.{Halted}
 use Rattle.expander.specs.declared.events.Special.{Special}
-use Rattle.expander.specs.declared.stretch.Stop.{Stop}
 use Rattle.expander.specs.declared.stretch.Stop.the-variants as stop
 use Rattle.expander.specs.declared.stretch.Stretch.{Stretch}
 use Rattle.expander.specs.Front.{Front}
 use Rattle.expander.specs.Machine.{Memory, Limits, Means, Sound, Came, Gives}
-use Rattle.expander.specs.Verdict.{Verdict, going, over, denied, roomed, verdict, followed}
-use Rattle.expander.specs.Events.{SpecialWithin, SpecialIs}
+use Rattle.expander.specs.Verdict.{Verdict, going, over, denied, verdict, followed}
 use Rattle.expander.specs.Run.{Running, Leaves, halted, finishedReport, stoppedReport, haltedReport, Ran, SpecialNext, Reached, Stretched}
 use Rattle.expander.proofs.MachineLaws.{front-long}
 use Rattle.expander.proofs.Rows.{fresh-in}

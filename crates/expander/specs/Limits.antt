@@ -1,20 +1,11 @@
 -- The bounds of a run, and the lengths of the links that follow from them, as src/limits.rt has them for the code.
 use Prim.Native.Nat.{ℕ, _+_, _-_, _*_, _^_}
-use Rattle.rules.specs.Run as run
-use Rattle.rules.specs.Step as step
+-- bytes of the text, and of a buffer that is lent
+pub use Rattle.rules.specs.Run.{mostLent}
+-- open calls, and arguments over all of them
+pub use Rattle.rules.specs.Step.{mostCalls, mostArguments}
 
--- the book's: bytes of the text, and of a buffer that is lent
-abbrev pub mostLent : ℕ
-mostLent = run.mostLent
-
--- the book's: open calls, and arguments over all of them
-abbrev pub mostCalls : ℕ
-mostCalls = step.mostCalls
-
-abbrev pub mostArguments : ℕ
-mostArguments = step.mostArguments
-
--- predefined macros, and the mask in which each keeps its own meaning
+-- predefined macros, as many as the book names (law `fresh-in` of Rows), and the mask in which each keeps its own meaning
 abbrev pub macroCount : ℕ
 macroCount = 24
 

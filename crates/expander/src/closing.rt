@@ -12,6 +12,7 @@ use crate::source::Position;
 use crate::table;
 use crate::table::Meaning;
 use rules::Answer;
+ghost use Rattle.expander.specs.Limits.{mostLent};
 ghost use Rattle.expander.specs.Table.{Finds};
 ghost use mathlib.Core.Path.{_≡_};
 ghost use mathlib.Core.List.{List, [], _∷_, _++_};
@@ -49,7 +50,7 @@ pub(crate) fn meaning_ahead(
 ) -> Meaning
     requires { ⌜ Sound (λ b. textAt (now text) (pendingAt (now pending) (definitionsAt (now definitions) (now «table_ends») b))) m ⌝ }
     requires { ⌜ Reach (now text) (now pending) (m .source) 0 n n ⌝ }
-    requires { ⌜ length (now scratch) ≡ 65536 ⌝ }
+    requires { ⌜ length (now scratch) ≡ mostLent ⌝ }
     ensures { λ r. ⌜ ((a : Setting) (s : State) (b : Memory) → Means a (textAt (now (text .entry)) (pendingAt (now (pending .entry)) (definitionsAt (now (definitions .entry)) (now («table_ends» .entry)) b))) m s → Finds (s .table .definitions) (meaningOf (take n (ahead (s .source))) (s .table)) r) ⌝ }
 {
     let p = m.source;
@@ -93,7 +94,7 @@ pub(crate) fn bare(
 ) -> Turn
     requires { ⌜ SoundName (λ b. textAt (now text) (pendingAt (now pending) (stringsAt (now calls) (now ends) (definitionsAt (now definitions) (now «table_ends») (sinksAt (now streams) (now owners) (now output) (wrapAt (now wrap) (errorsAt (now errors) b))))))) m n meaning ⌝ }
     requires { ⌜ Reach (now text) (now pending) (m .source) 0 n n ⌝ }
-    requires { ⌜ length (now scratch) ≡ 65536 ⌝ }
+    requires { ⌜ length (now scratch) ≡ mostLent ⌝ }
     ensures { λ t. ⌜ ((a : Setting) (s : State) (b : Memory) (w : Option TableMeaning) → Means a (textAt (now (text .entry)) (pendingAt (now (pending .entry)) (stringsAt (now (calls .entry)) (now (ends .entry)) (definitionsAt (now (definitions .entry)) (now («table_ends» .entry)) (sinksAt (now (streams .entry)) (now (owners .entry)) (now (output .entry)) (wrapAt (now (wrap .entry)) (errorsAt (now (errors .entry)) b))))))) m s → Finds (s .table .definitions) w meaning → Gives a (textAt (now (text .entry)) (pendingAt (now (pending .entry)) (stringsAt (now (calls .entry)) (now (ends .entry)) (definitionsAt (now (definitions .entry)) (now («table_ends» .entry)) (sinksAt (now (streams .entry)) (now (owners .entry)) (now (output .entry)) (wrapAt (now (wrap .entry)) (errorsAt (now (errors .entry)) b))))))) (called w (take n (ahead (s .source))) [] (taking n s)) (textAt (now (text .entry)) (pendingAt (now (pending .exit)) (stringsAt (now (calls .entry)) (now (ends .entry)) (definitionsAt (now (definitions .exit)) (now («table_ends» .exit)) (sinksAt (now (streams .exit)) (now (owners .exit)) (now (output .exit)) (wrapAt (now (wrap .exit)) (errorsAt (now (errors .exit)) b))))))) t) ⌝ }
 {
     let strings = m.calls.strings;
@@ -187,7 +188,7 @@ pub(crate) fn close(
 ) -> Turn
     requires { ⌜ Sound (λ b. textAt (now text) (pendingAt (now pending) (callsAt (now calls) (now ends) (now stack) (definitionsAt (now definitions) (now «table_ends») (sinksAt (now streams) (now owners) (now output) (wrapAt (now wrap) (errorsAt (now errors) b))))))) m ⌝ }
     requires { ⌜ 0 < m .calls .opens ⌝ }
-    requires { ⌜ length (now scratch) ≡ 65536 ⌝ }
+    requires { ⌜ length (now scratch) ≡ mostLent ⌝ }
     ensures { λ t. ⌜ ((a : Setting) (s : State) (b : Memory) (c : Call) (cs : List Call) → Means a (textAt (now (text .entry)) (pendingAt (now (pending .entry)) (callsAt (now (calls .entry)) (now (ends .entry)) (now (stack .entry)) (definitionsAt (now (definitions .entry)) (now («table_ends» .entry)) (sinksAt (now (streams .entry)) (now (owners .entry)) (now (output .entry)) (wrapAt (now (wrap .entry)) (errorsAt (now (errors .entry)) b))))))) m s → s .calls ≡ c ∷ cs → Gives a (textAt (now (text .entry)) (pendingAt (now (pending .entry)) (callsAt (now (calls .entry)) (now (ends .entry)) (now (stack .entry)) (definitionsAt (now (definitions .entry)) (now («table_ends» .entry)) (sinksAt (now (streams .entry)) (now (owners .entry)) (now (output .entry)) (wrapAt (now (wrap .entry)) (errorsAt (now (errors .entry)) b))))))) (closed c cs s) (textAt (now (text .entry)) (pendingAt (now (pending .exit)) (callsAt (now (calls .entry)) (now (ends .entry)) (now (stack .entry)) (definitionsAt (now (definitions .exit)) (now («table_ends» .exit)) (sinksAt (now (streams .exit)) (now (owners .exit)) (now (output .exit)) (wrapAt (now (wrap .exit)) (errorsAt (now (errors .exit)) b))))))) t) ⌝ }
 {
     let strings = m.calls.strings;

@@ -17,6 +17,7 @@ ghost use Rattle.rules.specs.Bytes.{Bytes};
 ghost use Rattle.rules.specs.Arguments.{arg};
 ghost use Rattle.rules.specs.State.{State, stop, withStreams};
 ghost use Rattle.rules.specs.Run.{Setting};
+ghost use Rattle.expander.specs.Limits.{mostLent};
 ghost use Rattle.expander.specs.Arguments.{ArgumentsIn, SomeArguments};
 ghost use Rattle.expander.specs.Machine.{Memory, Means, Gives, Sound, stringsAt, sinksAt};
 ghost use Rattle.rules.specs.Macros.{callDivert, callUndivert};
@@ -28,7 +29,7 @@ ghost use Rattle.expander.specs.Diverting.{streamOf, allNamed, turns, St
 
 // The stream that the n-th argument names; 0: none.
 fn stream_argument(calls: &[u8], ends: &[u32], x: Arguments, n: usize) -> u32
-    requires { ⌜ SomeArguments (now calls) (now ends) x × (1 ≤ n) × (n ≤ 65536) ⌝ }
+    requires { ⌜ SomeArguments (now calls) (now ends) x × (1 ≤ n) × (n ≤ mostLent) ⌝ }
     ensures { λ r. ⌜ ((args : List Bytes) → ArgumentsIn (now (calls .entry)) (now (ends .entry)) x args → r ≡ streamOf (arg n args)) ⌝ }
 {
     let Natural::Number(i) = arguments::natural_argument(calls, ends, x, n, 1, 9) else {
@@ -99,7 +100,7 @@ fn count_streams(
     seen: &mut [u8; 10],
     x: Arguments,
 ) -> usize
-    requires { ⌜ (used ≤ length (now owners)) × (used ≤ 65536) ⌝ }
+    requires { ⌜ (used ≤ length (now owners)) × (used ≤ mostLent) ⌝ }
     requires { ⌜ StreamArguments (now calls) (now ends) x ⌝ }
     ensures { λ r. ⌜ ((u : Streams) (args : List Bytes) → Leaving (now (owners .entry)) used (now (seen .entry)) u → ArgumentsIn (now (calls .entry)) (now (ends .entry)) x args → length (movedInTurn (turns args) u .output) ≡ length (u .output) + r) ⌝ }
 {
@@ -117,7 +118,7 @@ fn count_streams(
 // Whether the output has room for the streams that go there: those that the arguments name, or all nine, if it is the current one.
 // Nothing is counted where there is room for all that waits.
 fn fits(calls: &[u8], ends: &[u32], owners: &[u8], output: &[u8], k: Sinks, x: Arguments) -> bool
-    requires { ⌜ (k .waiting ≤ length (now owners)) × (k .waiting ≤ 65536) × (k .output ≤ length (now output)) ⌝ }
+    requires { ⌜ (k .waiting ≤ length (now owners)) × (k .waiting ≤ mostLent) × (k .output ≤ length (now output)) ⌝ }
     requires { ⌜ StreamArguments (now calls) (now ends) x ⌝ }
     ensures { λ r. ⌜ ((streams : Bytes) (u : Streams) (args : List Bytes) → SinksIn streams (now (owners .entry)) (now (output .entry)) k u → ArgumentsIn (now (calls .entry)) (now (ends .entry)) x args → r ≡ leb (length (movedInTurn (turns args) u .output)) (length (now (output .entry)))) ⌝ }
 {
@@ -254,7 +255,7 @@ pub(crate) fn undivert(
     x: Arguments,
 ) -> Turn
     requires { ⌜ Sound (λ b. stringsAt (now calls) (now ends) (sinksAt (now streams) (now owners) (now output) b)) m ⌝ }
-    requires { ⌜ SomeArguments (now calls) (now ends) x × (length (now scratch) ≡ 65536) ⌝ }
+    requires { ⌜ SomeArguments (now calls) (now ends) x × (length (now scratch) ≡ mostLent) ⌝ }
     ensures { λ t. ⌜ ((a : Setting) (s : State) (b : Memory) (args : List Bytes) → Means a (stringsAt (now (calls .entry)) (now (ends .entry)) (sinksAt (now (streams .entry)) (now (owners .entry)) (now (output .entry)) b)) m s → ArgumentsIn (now (calls .entry)) (now (ends .entry)) x args → Gives a (stringsAt (now (calls .entry)) (now (ends .entry)) (sinksAt (now (streams .entry)) (now (owners .entry)) (now (output .entry)) b)) (callUndivert args s) (stringsAt (now (calls .entry)) (now (ends .entry)) (sinksAt (now (streams .exit)) (now (owners .exit)) (now (output .exit)) b)) t) ⌝ }
 {
     if !names_streams(calls, ends, x) {

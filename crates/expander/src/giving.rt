@@ -26,6 +26,7 @@ ghost use mathlib.Core.Bool.{true};
 ghost use Rattle.rules.specs.Bytes.{Bytes};
 ghost use Rattle.rules.specs.State.{State, next, resulting};
 ghost use Rattle.rules.specs.Run.{Setting};
+ghost use Rattle.expander.specs.Limits.{mostLent};
 ghost use Rattle.expander.specs.Arguments.{ArgumentsIn, SomeArguments};
 ghost use Rattle.expander.specs.declared.machine.Machine.{Machine};
 ghost use Rattle.expander.specs.Machine.{Memory, Means, Gives, SoundAt, pendingAt, stringsAt, definitionsAt, sourceSet, marksSet, tableSet};
@@ -207,7 +208,7 @@ pub(crate) fn give_text(
 ) -> Given
     requires { ⌜ SoundAt (λ b. pendingAt (now pending) (stringsAt (now calls) (now ends) (definitionsAt (now definitions) (now «table_ends») b))) (λ m. sourceSet p (marksSet marks (tableSet table m))) ⌝ }
     requires { ⌜ SomeArguments (now calls) (now ends) x ⌝ }
-    requires { ⌜ (length (now name) ≤ 65536) × (2 * place + 2 ≤ table .packed .count) ⌝ }
+    requires { ⌜ (length (now name) ≤ mostLent) × (2 * place + 2 ≤ table .packed .count) ⌝ }
     ensures { λ r. ⌜ ((a : Setting) (s : State) (b : Memory) (m : Machine) (args : List Bytes) → Means a (pendingAt (now (pending .entry)) (stringsAt (now (calls .entry)) (now (ends .entry)) (definitionsAt (now (definitions .entry)) (now («table_ends» .entry)) b))) (sourceSet p (marksSet marks (tableSet table m))) s → ArgumentsIn (now (calls .entry)) (now (ends .entry)) x args → Gives a (pendingAt (now (pending .entry)) (stringsAt (now (calls .entry)) (now (ends .entry)) (definitionsAt (now (definitions .entry)) (now («table_ends» .entry)) b))) (giving (yields (substituted (now (name .entry)) args (s .marks) (getD (rows (s .table .definitions)) (2 * place + 1) []))) s) (pendingAt (now (pending .exit)) (stringsAt (now (calls .entry)) (now (ends .entry)) (definitionsAt (now (definitions .entry)) (now («table_ends» .entry)) b))) (givenTurn (sourceSet p (marksSet marks (tableSet table m))) r)) ⌝ }
 {
     let k = 2 * place + 1;

@@ -41,12 +41,12 @@ use crate::limits::TABLE_ENDS;
 use rules::Answer;
 use rules::Report;
 ghost use mathlib.Core.Path.{_≡_};
-ghost use mathlib.Core.List.{List, [], _∷_};
-ghost use Prim.Native.Nat.{ℕ, _≤_};
+ghost use mathlib.Core.List.{[], _∷_};
 ghost use lib.ListN.{length};
 ghost use Rattle.rules.specs.State.{freshStart, startState};
 ghost use Rattle.rules.specs.Run.{lengths, runFrom, allLendable};
-ghost use Rattle.rules.specs.Contract.{settingOf, Buffers, Expanded};
+ghost use Rattle.rules.specs.Contract.{settingOf, Expanded};
+ghost use Rattle.expander.specs.Limits.{mostLent};
 ghost use Rattle.expander.specs.Run.{Lent, LinkLengths, Wrote, Zeroed};
 
 // The run over given links and texts of its own, of which it gets as much as is lent, with what it wrote copied out.
@@ -69,7 +69,7 @@ fn copied(
     budget: u32,
 ) -> Report
     requires { ⌜ Lent (length (now text)) (length (now pending)) (length (now calls)) (length (now definitions)) (length (now streams)) (length (now wrap)) (length (now errors)) (length (now output)) ⌝ }
-    requires { ⌜ LinkLengths (now ends) (now stack) (now «table_ends») (now owners) × (length (now «error_text») ≡ 65536) × (length (now «output_text») ≡ 65536) × (length (now scratch) ≡ 65536) ⌝ }
+    requires { ⌜ LinkLengths (now ends) (now stack) (now «table_ends») (now owners) × (length (now «error_text») ≡ mostLent) × (length (now «output_text») ≡ mostLent) × (length (now scratch) ≡ mostLent) ⌝ }
     ensures { λ r. ⌜ Wrote (runFrom (lengths (settingOf (record { pending = now (pending .entry); calls = now (calls .entry); definitions = now (definitions .entry); streams = now (streams .entry); wrap = now (wrap .entry); errors = now (errors .entry); output = now (output .entry) }) budget)) budget 0 (startState (freshStart (now (text .entry))))) (now (errors .entry)) (now (output .entry)) (now (errors .exit)) (now (output .exit)) r ⌝ }
 {
     let most = output.len();

@@ -8,7 +8,7 @@ use rules::Mark;
 use rules::Marks;
 ghost use mathlib.Core.Path.{_≡_};
 ghost use mathlib.Core.List.{List, _∷_};
-ghost use Prim.Native.Nat.{ℕ, _+_, _≤_};
+ghost use Prim.Native.Nat.{ℕ, _+_, _≤_, _*_};
 ghost use lib.ListN.{length, drop};
 ghost use Rattle.rules.specs.Bytes.{Bytes};
 ghost use Rattle.rules.specs.Marks.{markText, markTexts, quoted};
@@ -36,7 +36,7 @@ pub(crate) fn bare_marks() -> Marks
 // How long the arguments behind the first `skip` are, joined.
 pub(crate) fn list_length(ends: &[u32], x: Arguments, skip: usize, marks: Marks) -> usize
     requires { ⌜ ArgumentLinks (now ends) x × ShortQuotes marks × (skip ≤ mostLent) ⌝ }
-    ensures { λ r. ⌜ ((bytes : Bytes) (args : List Bytes) (gap : ℕ) → ArgumentsIn bytes (now (ends .entry)) x args → r ≡ length (separated gap (quotedEach (markTexts marks) (drop skip args)))) × (r ≤ 131072) ⌝ }
+    ensures { λ r. ⌜ ((bytes : Bytes) (args : List Bytes) (gap : ℕ) → ArgumentsIn bytes (now (ends .entry)) x args → r ≡ length (separated gap (quotedEach (markTexts marks) (drop skip args)))) × (r ≤ 2 * mostLent) ⌝ }
 {
     let have = arguments::count(x);
     if have <= skip {

@@ -21,6 +21,7 @@ ghost use lib.ListN.{length};
 ghost use Rattle.rules.specs.Bytes.{Bytes};
 ghost use Rattle.rules.specs.State.{State};
 ghost use Rattle.rules.specs.Run.{Setting};
+ghost use Rattle.expander.specs.Limits.{mostLent};
 ghost use Rattle.expander.specs.Arguments.{ArgumentsIn, SomeArguments};
 ghost use Rattle.expander.specs.Machine.{Memory, Means, Gives, Sound, SoundAt, textAt, pendingAt, stringsAt, definitionsAt, sinksAt, wrapAt, errorsAt, sourceSet, marksSet, tableSet};
 ghost use Rattle.expander.specs.declared.machine.Machine.{Machine};
@@ -147,7 +148,7 @@ pub(crate) fn perform(
     k: u8,
 ) -> Turn
     requires { ⌜ Sound (λ b. textAt (now text) (pendingAt (now pending) (stringsAt (now calls) (now ends) (definitionsAt (now definitions) (now «table_ends») (sinksAt (now streams) (now owners) (now output) (wrapAt (now wrap) (errorsAt (now errors) b))))))) m ⌝ }
-    requires { ⌜ SomeArguments (now calls) (now ends) x × (0 < k) × SortIs k sort.Change × (length (now scratch) ≡ 65536) ⌝ }
+    requires { ⌜ SomeArguments (now calls) (now ends) x × (0 < k) × SortIs k sort.Change × (length (now scratch) ≡ mostLent) ⌝ }
     ensures { λ t. ⌜ ((a : Setting) (s : State) (b : Memory) (args : List Bytes) → Means a (textAt (now (text .entry)) (pendingAt (now (pending .entry)) (stringsAt (now (calls .entry)) (now (ends .entry)) (definitionsAt (now (definitions .entry)) (now («table_ends» .entry)) (sinksAt (now (streams .entry)) (now (owners .entry)) (now (output .entry)) (wrapAt (now (wrap .entry)) (errorsAt (now (errors .entry)) b))))))) m s → ArgumentsIn (now (calls .entry)) (now (ends .entry)) x args → Gives a (textAt (now (text .entry)) (pendingAt (now (pending .entry)) (stringsAt (now (calls .entry)) (now (ends .entry)) (definitionsAt (now (definitions .entry)) (now («table_ends» .entry)) (sinksAt (now (streams .entry)) (now (owners .entry)) (now (output .entry)) (wrapAt (now (wrap .entry)) (errorsAt (now (errors .entry)) b))))))) (perform k args s) (textAt (now (text .entry)) (pendingAt (now (pending .exit)) (stringsAt (now (calls .entry)) (now (ends .entry)) (definitionsAt (now (definitions .exit)) (now («table_ends» .exit)) (sinksAt (now (streams .exit)) (now (owners .exit)) (now (output .exit)) (wrapAt (now (wrap .exit)) (errorsAt (now (errors .exit)) b))))))) t) ⌝ }
 {
     match k {

@@ -5,11 +5,12 @@ use rules::Answer;
 use rules::Report;
 ghost use mathlib.Core.Path.{_≡_};
 ghost use Prim.Native.Nat.{_≤_};
+ghost use Rattle.expander.specs.Limits.{mostLent};
 ghost use Rattle.expander.specs.Run.{finishedReport, stoppedReport, haltedReport};
 
 // That of a run that ended by itself, from its last machine.
 fn finished(answer: Answer, steps: u32, m: Machine) -> Report
-    requires { ⌜ (m .source .taken ≤ 65536) × (m .sinks .output ≤ 65536) × (m .errors ≤ 65536) ⌝ }
+    requires { ⌜ (m .source .taken ≤ mostLent) × (m .sinks .output ≤ mostLent) × (m .errors ≤ mostLent) ⌝ }
     ensures { λ r. ⌜ r ≡ finishedReport answer steps m ⌝ }
 {
     let place = m.source.taken as u32;
@@ -26,7 +27,7 @@ fn finished(answer: Answer, steps: u32, m: Machine) -> Report
 
 // That of a run that was refused or whose budget is spent, from the machine before the refused step.
 fn stopped(answer: Answer, steps: u32, m: Machine) -> Report
-    requires { ⌜ m .source .taken ≤ 65536 ⌝ }
+    requires { ⌜ m .source .taken ≤ mostLent ⌝ }
     ensures { λ r. ⌜ r ≡ stoppedReport answer steps m ⌝ }
 {
     let place = m.source.taken as u32;
@@ -40,7 +41,7 @@ fn stopped(answer: Answer, steps: u32, m: Machine) -> Report
 }
 
 pub(crate) fn report_of(h: Halted) -> Report
-    requires { ⌜ (h .machine .source .taken ≤ 65536) × (h .machine .sinks .output ≤ 65536) × (h .machine .errors ≤ 65536) ⌝ }
+    requires { ⌜ (h .machine .source .taken ≤ mostLent) × (h .machine .sinks .output ≤ mostLent) × (h .machine .errors ≤ mostLent) ⌝ }
     ensures { λ r. ⌜ r ≡ haltedReport h ⌝ }
 {
     let answer = h.answer;

@@ -14,8 +14,9 @@ use crate::table::Definitions;
 use rules::Answer;
 ghost use mathlib.Core.Path.{_≡_};
 ghost use lib.ListN.{length};
-ghost use Rattle.rules.specs.State.{State, freshStart, startState};
+ghost use Rattle.rules.specs.State.{freshStart, startState};
 ghost use Rattle.rules.specs.Run.{Setting, lengths, runFrom};
+ghost use Rattle.expander.specs.Limits.{mostLent};
 ghost use Rattle.expander.specs.Machine.{Memory, memory, Limits, Means};
 ghost use Rattle.expander.specs.Run.{Roomy, Leaves};
 
@@ -69,7 +70,7 @@ pub(crate) fn run(
     scratch: &mut [u8],
     budget: u32,
 ) -> Halted
-    requires { ⌜ Roomy (memory (now text) (now pending) (now calls) (now ends) (now stack) (now definitions) (now «table_ends») (now streams) (now owners) (now wrap) (now errors) (now output)) × (length (now scratch) ≡ 65536) ⌝ }
+    requires { ⌜ Roomy (memory (now text) (now pending) (now calls) (now ends) (now stack) (now definitions) (now «table_ends») (now streams) (now owners) (now wrap) (now errors) (now output)) × (length (now scratch) ≡ mostLent) ⌝ }
     ensures { λ r. ⌜ ((a : Setting) → Limits a (memory (now (text .entry)) (now (pending .entry)) (now (calls .entry)) (now (ends .entry)) (now (stack .entry)) (now (definitions .entry)) (now («table_ends» .entry)) (now (streams .entry)) (now (owners .entry)) (now (wrap .entry)) (now (errors .entry)) (now (output .entry))) → Leaves a (runFrom (lengths a) budget 0 (startState (freshStart (now (text .entry))))) (memory (now (text .entry)) (now (pending .exit)) (now (calls .exit)) (now (ends .exit)) (now (stack .exit)) (now (definitions .exit)) (now («table_ends» .exit)) (now (streams .exit)) (now (owners .exit)) (now (wrap .exit)) (now (errors .exit)) (now (output .exit))) r) ⌝ }
 {
     let from = pending.len();

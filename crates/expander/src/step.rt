@@ -11,6 +11,7 @@ ghost use lib.ListN.{length};
 ghost use Rattle.rules.specs.State.{State};
 ghost use Rattle.rules.specs.Run.{Setting};
 ghost use Rattle.rules.specs.Step.{atEnd, step};
+ghost use Rattle.expander.specs.Limits.{mostLent};
 ghost use Rattle.expander.specs.Events.{SpecialWithin, SpecialIs, SoundSpecial};
 ghost use Rattle.expander.specs.Machine.{Memory, Means, Gives, Sound, textAt, pendingAt, callsAt, definitionsAt, sinksAt, wrapAt, errorsAt};
 
@@ -61,7 +62,7 @@ pub(crate) fn special_step(
 ) -> Turn
     requires { ⌜ SoundSpecial (λ b. textAt (now text) (pendingAt (now pending) (callsAt (now calls) (now ends) (now stack) (definitionsAt (now definitions) (now «table_ends») (sinksAt (now streams) (now owners) (now output) (wrapAt (now wrap) (errorsAt (now errors) b))))))) m e ⌝ }
     requires { ⌜ SpecialWithin (now text) (now pending) m e ⌝ }
-    requires { ⌜ length (now scratch) ≡ 65536 ⌝ }
+    requires { ⌜ length (now scratch) ≡ mostLent ⌝ }
     ensures { λ t. ⌜ ((a : Setting) (s : State) (b : Memory) → Means a (textAt (now (text .entry)) (pendingAt (now (pending .entry)) (callsAt (now (calls .entry)) (now (ends .entry)) (now (stack .entry)) (definitionsAt (now (definitions .entry)) (now («table_ends» .entry)) (sinksAt (now (streams .entry)) (now (owners .entry)) (now (output .entry)) (wrapAt (now (wrap .entry)) (errorsAt (now (errors .entry)) b))))))) m s → SpecialIs s e → Gives a (textAt (now (text .entry)) (pendingAt (now (pending .entry)) (callsAt (now (calls .entry)) (now (ends .entry)) (now (stack .entry)) (definitionsAt (now (definitions .entry)) (now («table_ends» .entry)) (sinksAt (now (streams .entry)) (now (owners .entry)) (now (output .entry)) (wrapAt (now (wrap .entry)) (errorsAt (now (errors .entry)) b))))))) (step s) (textAt (now (text .entry)) (pendingAt (now (pending .exit)) (callsAt (now (calls .entry)) (now (ends .entry)) (now (stack .entry)) (definitionsAt (now (definitions .exit)) (now («table_ends» .exit)) (sinksAt (now (streams .exit)) (now (owners .exit)) (now (output .exit)) (wrapAt (now (wrap .exit)) (errorsAt (now (errors .exit)) b))))))) t) ⌝ }
 {
     match e {

@@ -14,6 +14,7 @@ ghost use lib.ListN.{length};
 ghost use Rattle.rules.specs.Run.{Setting, Ended};
 ghost use Rattle.rules.specs.State.{State};
 ghost use Rattle.rules.specs.Step.{step};
+ghost use Rattle.expander.specs.Limits.{mostLent};
 ghost use Rattle.expander.specs.Events.{PlainWithin, PlainIs};
 ghost use Rattle.expander.specs.Machine.{Memory, Means, Gives, Sound, textAt, pendingAt, callsAt, definitionsAt, sinksAt};
 ghost use Rattle.expander.specs.Run.{Running, Stretched};
@@ -100,7 +101,7 @@ pub(crate) fn run_plain(
     budget: u32,
 ) -> Stretch
     requires { ⌜ Sound (λ b. textAt (now text) (pendingAt (now pending) (callsAt (now calls) (now ends) (now stack) (definitionsAt (now definitions) (now «table_ends») (sinksAt (now streams) (now owners) (now output) b))))) first ⌝ }
-    requires { ⌜ length (now scratch) ≡ 65536 ⌝ }
+    requires { ⌜ length (now scratch) ≡ mostLent ⌝ }
     ensures { λ r. ⌜ ((a : Setting) (b : Memory) (w : Ended) (count : ℕ) → Running a (textAt (now (text .entry)) (pendingAt (now (pending .entry)) (callsAt (now (calls .entry)) (now (ends .entry)) (now (stack .entry)) (definitionsAt (now (definitions .entry)) (now («table_ends» .entry)) (sinksAt (now (streams .entry)) (now (owners .entry)) (now (output .entry)) b))))) first budget count w → Stretched a (textAt (now (text .entry)) (pendingAt (now (pending .entry)) (callsAt (now (calls .exit)) (now (ends .exit)) (now (stack .exit)) (definitionsAt (now (definitions .entry)) (now («table_ends» .entry)) (sinksAt (now (streams .exit)) (now (owners .exit)) (now (output .exit)) b))))) w budget count r) ⌝ }
 {
     let mut m = first;

@@ -6,7 +6,7 @@ use crate::lists;
 use rules::Marks;
 ghost use mathlib.Core.Path.{_≡_};
 ghost use mathlib.Core.List.{List, _∷_};
-ghost use Prim.Native.Nat.{_+_, _≤_, _<_};
+ghost use Prim.Native.Nat.{_+_, _≤_, _<_, _*_};
 ghost use lib.IntN.{pos};
 ghost use lib.ListN.{length, drop};
 ghost use Rattle.rules.specs.Bytes.{Bytes};
@@ -76,7 +76,7 @@ fn parameter_width(p: Parameter) -> usize
 // How long the text of a parameter is.
 fn parameter_length(name: &[u8], ends: &[u32], x: Arguments, marks: Marks, p: Parameter) -> usize
     requires { ⌜ ArgumentLinks (now ends) x × ShortQuotes marks × OneDigit p × (length (now name) ≤ mostLent) ⌝ }
-    ensures { λ r. ⌜ ((bytes : Bytes) (args : List Bytes) → ArgumentsIn bytes (now (ends .entry)) x args → r ≡ length (parameterText (now (name .entry)) args (markTexts marks) p)) × (r ≤ 131072) ⌝ }
+    ensures { λ r. ⌜ ((bytes : Bytes) (args : List Bytes) → ArgumentsIn bytes (now (ends .entry)) x args → r ≡ length (parameterText (now (name .entry)) args (markTexts marks) p)) × (r ≤ 2 * mostLent) ⌝ }
 {
     match p {
         Parameter::Name => name.len(),

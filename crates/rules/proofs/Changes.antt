@@ -4,22 +4,21 @@ use mathlib.Core.Path.{_≡_, refl, sym, ap, subst, _∙_}
 use mathlib.Core.Bool.{Bool, true, false, _&&_, _||_}
 use mathlib.Core.List.{List, [], _∷_, _++_, map}
 use mathlib.Core.Option.{Option, none, some}
-use native.Mathlib.Numerals.{unary-clauses}
 use borrow.Author.Tests.{eqb-true}
 use lib.Dec.{eqb, leb}
-use lib.IntN.{ℤ, pos}
+use lib.IntN.{pos}
 use lib.ListN.{length, take, getD}
 use Rattle.rules.specs.declared.Token.{Token}
 use Rattle.rules.specs.declared.Token.the-variants as token
 use Rattle.rules.specs.declared.Reading.{Reading}
 use Rattle.rules.specs.declared.Reading.the-variants.{Is, OpenQuote, OpenComment}
 use Rattle.rules.specs.Bytes.{Bytes, isName, isBlank}
-use Rattle.rules.specs.Answers.{Ending, exit, Fault, noNumber, gone}
+use Rattle.rules.specs.Answers.{Ending, Fault, noNumber, gone}
 use Rattle.rules.specs.Marks.{MarkTexts, isMark, isEndMark}
 use Rattle.rules.specs.Source.{ahead}
 use Rattle.rules.specs.Tokens.{readToken}
 use Rattle.rules.specs.Table.{Meaning, text, predefined, Table, meaningOf}
-use Rattle.rules.specs.Streams.{Streams, moved, movedInTurn, Change, moves, drops, diverts, changed, changedInTurn}
+use Rattle.rules.specs.Streams.{Streams, moved, movedInTurn, Change, moves, changed, changedInTurn}
 use Rattle.rules.specs.State.{Call, State, Outcome, next, stop, refused, withSource, withMarks, withCalls, withTable, withStreams, withWrap, withErrors, taking, resulting, changing, emitting}
 use Rattle.rules.specs.Arguments.{arg, numberOr, bounded}
 use Rattle.rules.specs.Results.{Result, yields, fails}

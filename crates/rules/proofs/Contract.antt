@@ -1,15 +1,14 @@
 -- Room never shapes text, of two calls of any function that promises `Expanded`, whatever the buffers held before.
-use Prim.Native.Nat.{ℕ, _≤_, _<_}
-use mathlib.Core.Path.{_≡_, refl, sym, ap, _∙_}
-use mathlib.Core.Bool.{true, false}
-use mathlib.Core.List.{List, [], _∷_}
-use lib.ListN.{length, take, drop}
+use Prim.Native.Nat.{ℕ}
+use mathlib.Core.Path.{_≡_, sym, ap, _∙_}
+use mathlib.Core.List.{[], _∷_}
+use lib.ListN.{length, drop}
 use lib.Seq.{take-append-seam}
 use Rattle.rules.specs.declared.Report.{Report}
 use Rattle.rules.specs.Bytes.{Bytes}
-use Rattle.rules.specs.Answers.{isStopped, numbers}
+use Rattle.rules.specs.Answers.{numbers}
 use Rattle.rules.specs.State.{freshStart}
-use Rattle.rules.specs.Run.{Setting, Ended, run}
+use Rattle.rules.specs.Run.{Setting, Ended}
 use Rattle.rules.specs.Room.{Lendable, NowhereSmaller, Unshaped}
 use Rattle.rules.specs.Contract.{Buffers, settingOf, outputOf, errorsOf, reportOf, fronted, leftBy, runIn, Expanded, written, Agree}
 use Rattle.rules.proofs.Room.{room-never-shapes-text}

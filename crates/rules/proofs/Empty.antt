@@ -1,7 +1,7 @@
 -- The four empty programs of 01 are shut out: what each answers to the third worked text contradicts the promise `Expanded`, whatever the
 -- lent buffers held.
 use Prim.Native.Nat.{ℕ}
-use mathlib.Core.Path.{_≡_, refl, sym, ap, _∙_}
+use mathlib.Core.Path.{_≡_, sym, ap, _∙_}
 use mathlib.Core.List.{List, [], _∷_}
 use native.Mathlib.Omega.{arith}
 use lib.ListN.{length, getD}
@@ -10,8 +10,8 @@ use Rattle.rules.specs.declared.Report.{Report}
 use Rattle.rules.specs.Bytes.{Bytes, bytesOf}
 use Rattle.rules.specs.Answers.{answerNumber}
 use Rattle.rules.specs.State.{freshStart}
-use Rattle.rules.specs.Run.{Setting, Ended, run}
-use Rattle.rules.specs.Contract.{Buffers, settingOf, outputOf, errorsOf, reportOf, leftBy, runIn, Expanded, written}
+use Rattle.rules.specs.Run.{Setting, run}
+use Rattle.rules.specs.Contract.{Buffers, settingOf, outputOf, errorsOf, reportOf, runIn, Expanded, written}
 use Rattle.rules.specs.Cases.{ample, lending, thirdText}
 use Rattle.rules.proofs.Book.{book}
 use Rattle.rules.proofs.Contract.{written-run}

@@ -8,9 +8,8 @@ use native.Mathlib.Omega.{arith}
 use lib.Dec.{leb}
 use lib.ListN.{length, getD}
 use borrow.Author.Tests.{le-leb, leb-true, leb-false, lt-leb}
-use Rattle.rules.specs.declared.Answer.{Answer}
 use Rattle.rules.specs.declared.Answer.the-variants as answer
-use Rattle.rules.specs.Answers.{answerNumber, answerDetail, isStopped, Ending, endingAnswer, Fault, faultAnswer}
+use Rattle.rules.specs.Answers.{answerNumber, answerDetail, isStopped, endingAnswer, faultAnswer}
 use Rattle.rules.specs.Tokens.{later}
 use Rattle.rules.specs.State.{State, Outcome, next, stop, refused, Start, startState}
 use Rattle.rules.specs.Step.{step}

@@ -1,6 +1,6 @@
 -- The answers of 01's table, their numbers and details, and why a step ends or is refused.
 use Prim.Native.Nat.{ℕ}
-use mathlib.Core.Bool.{Bool, true, false, _||_}
+use mathlib.Core.Bool.{Bool, _||_}
 use mathlib.Core.List.{List, [], _∷_}
 use lib.Dec.{leb, eqb}
 use Rattle.rules.specs.declared.Answer.{Answer}

@@ -4,8 +4,7 @@ use Prim.Native.String.{String}
 use mathlib.Core.Bool.{Bool, true, false, _&&_}
 use mathlib.Core.List.{List, [], _∷_}
 use lib.Dec.{eqb}
-use Rattle.rules.specs.declared.Report.{Report}
-use Rattle.rules.specs.Bytes.{Bytes, bytesOf, sameBytes}
+use Rattle.rules.specs.Bytes.{bytesOf, sameBytes}
 use Rattle.rules.specs.Answers.{answerNumber, answerDetail}
 use Rattle.rules.specs.State.{freshStart}
 use Rattle.rules.specs.Run.{Setting, mostLent, Ended, run}

@@ -1,7 +1,6 @@
 -- The operators of eval: their tokens, how closely they bind, and what they come to.
 use Prim.Native.Nat.{ℕ, _+_, _-_, _^_}
-use mathlib.Core.Bool.{Bool, true, false, not, cond}
-use mathlib.Core.List.{List, [], _∷_}
+use mathlib.Core.Bool.{not, cond}
 use lib.Bits.{bitAnd, bitOr, bitXor}
 use lib.Dec.{ltb, eqb}
 use lib.IntN.{pos, negℤ, _+ℤ_, _-ℤ_, _*ℤ_}

@@ -16,7 +16,7 @@ use Rattle.rules.specs.Tokens.{firstPlace}
 use Rattle.rules.specs.Words.{signedValue}
 use Rattle.rules.specs.Numerals.{number, decimal, writtenIn}
 use Rattle.rules.specs.Expression.{evaluation}
-use Rattle.rules.specs.Table.{Meaning, text, predefined, Table, meaningOf, isDefined}
+use Rattle.rules.specs.Table.{text, predefined, Table, meaningOf, isDefined}
 use Rattle.rules.specs.Arguments.{arg, numberOr, bounded, commas, quotedEach}
 
 pub data Result : Type 0 where

@@ -1,13 +1,12 @@
 -- A run: steps under a setting, room judged on the state after each, and how it ends.
 use Prim.Native.Nat.{ℕ, zero, suc, _+_}
 use mathlib.Core.Bool.{Bool, true, false}
-use mathlib.Core.List.{List, [], _∷_, _++_}
+use mathlib.Core.List.{List, [], _∷_}
 use mathlib.Core.Option.{Option, none, some}
 use lib.Dec.{leb}
-use lib.ListN.{length, getD}
+use lib.ListN.{length}
 use Rattle.rules.specs.declared.Answer.{Answer}
 use Rattle.rules.specs.declared.Answer.the-variants as answer
-use Rattle.rules.specs.Bytes.{Bytes}
 use Rattle.rules.specs.Answers.{endingAnswer, faultAnswer}
 use Rattle.rules.specs.Tokens.{later}
 use Rattle.rules.specs.Table.{tableCost}

@@ -1,6 +1,6 @@
 -- The text ahead: 01 "the pending text followed by the rest of the input, as one string".
 use Prim.Native.Nat.{ℕ, _+_, _-_}
-use mathlib.Core.List.{List, [], _++_}
+use mathlib.Core.List.{[], _++_}
 use lib.ListN.{length, drop}
 use Rattle.rules.specs.Bytes.{Bytes}
 

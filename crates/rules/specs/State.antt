@@ -1,12 +1,11 @@
 -- The standing state, and what a step makes of it.
-use Prim.Native.Nat.{ℕ, suc, _+_}
-use mathlib.Core.Bool.{Bool, true, false}
-use mathlib.Core.List.{List, [], _∷_, _++_}
-use lib.ListN.{length}
+use Prim.Native.Nat.{ℕ}
+use mathlib.Core.Bool.{Bool}
+use mathlib.Core.List.{List, [], _∷_}
 use Rattle.rules.specs.Bytes.{Bytes}
 use Rattle.rules.specs.Answers.{Ending, Fault}
 use Rattle.rules.specs.Marks.{MarkTexts, defaultMarks}
-use Rattle.rules.specs.Source.{Source, ahead, advance, pushBack, sourceOf}
+use Rattle.rules.specs.Source.{Source, advance, pushBack, sourceOf}
 use Rattle.rules.specs.Table.{Table, freshTable}
 use Rattle.rules.specs.Streams.{Streams, emptyStreams, Change, places, changedInTurn}
 

@@ -1,6 +1,6 @@
 -- One step: 01 "A step takes one token, and all its consequences belong to that step". Nothing here knows of room.
 use Prim.Native.Nat.{ℕ, zero, suc, _+_, _-_}
-use mathlib.Core.Bool.{Bool, true, false, _||_}
+use mathlib.Core.Bool.{true, false, _||_}
 use mathlib.Core.List.{List, [], _∷_, _++_}
 use mathlib.Core.Option.{Option, none, some}
 use lib.Dec.{leb, eqb}
@@ -10,7 +10,7 @@ use Rattle.rules.specs.declared.Token.the-variants as token
 use Rattle.rules.specs.declared.Reading.{Reading}
 use Rattle.rules.specs.declared.Reading.the-variants.{Is, OpenQuote, OpenComment}
 use Rattle.rules.specs.Bytes.{Bytes, isBlank}
-use Rattle.rules.specs.Answers.{Ending, done, Fault, unclosedQuote, unclosedComment, unclosedCall, deep}
+use Rattle.rules.specs.Answers.{done, unclosedQuote, unclosedComment, unclosedCall, deep}
 use Rattle.rules.specs.Source.{ahead}
 use Rattle.rules.specs.Tokens.{readToken}
 use Rattle.rules.specs.Table.{Meaning, meaningOf}

@@ -6,7 +6,6 @@ use mathlib.Core.Option.{Option, none, some}
 use lib.Dec.{eqb}
 use lib.ListN.{length, take, drop, set}
 use Rattle.rules.specs.Bytes.{Bytes, bytesOf, sameBytes}
-use Rattle.rules.specs.Tokens.{later}
 
 -- 01 "These 24 macros are predefined": in its order they have the numbers 1 to 24
 unfoldable pub predefinedNames : List Bytes

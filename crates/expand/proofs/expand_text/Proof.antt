@@ -3,13 +3,6 @@ use Rattle.expand.proofs.Reading.{part-long}
 use borrow.Author.Needs.{needs}
 use Rattle.expand.proofs.expand_text.Statement.{statement}
 use Rattle.expand.proofs.expand_text.Tie as tie
-use Rattle.expand.proofs.expand_text.Reads as reads
-use Rattle.expand.proofs.expand_text.Lts as lts
-use Rattle.expand.proofs.complain.Reads as complain-reads
-use Rattle.expand.proofs.print_report.Reads as print-report-reads
-use Rattle.expander.proofs.expand.Reads as expand-reads
-use Rattle.io.proofs.large_buffer.Reads as large-buffer-reads
-use Rattle.io.proofs.write_all.Reads as write-all-reads
 
 large-buffer-requires : tie.Need-large-buffer-requires
 large-buffer-requires c κs = search needs

@@ -2,12 +2,6 @@ use Rattle.expand.proofs.Reading.{bytes-fit, part-long}
 use borrow.Author.Needs.{needs}
 use Rattle.expand.proofs.main.Statement.{statement}
 use Rattle.expand.proofs.main.Tie as tie
-use Rattle.expand.proofs.main.Reads as reads
-use Rattle.expand.proofs.main.Lts as lts
-use Rattle.expand.proofs.complain.Reads as complain-reads
-use Rattle.expand.proofs.expand_text.Reads as expand-text-reads
-use Rattle.expand.proofs.read_text.Reads as read-text-reads
-use Rattle.expand.proofs.text_buffer.Reads as text-buffer-reads
 
 text-buffer-requires : tie.Need-text-buffer-requires
 text-buffer-requires c κs = search needs

@@ -6,10 +6,6 @@ use lib.ListN.{length}
 use borrow.Author.Needs.{needs}
 use Rattle.expand.proofs.read_text.Statement.{statement}
 use Rattle.expand.proofs.read_text.Tie as tie
-use Rattle.expand.proofs.read_text.Reads as reads
-use Rattle.expand.proofs.read_text.Lts as lts
-use Rattle.io.proofs.count.Reads as count-reads
-use Rattle.libc.proofs.read.Reads as read-reads
 
 abbrev Inv-loop : tie.InvT-loop
 Inv-loop buffer₀ done₀ buffer done = (length buffer ≡ length buffer₀) × (done ≤ length buffer)

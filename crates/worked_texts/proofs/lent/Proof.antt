@@ -3,10 +3,6 @@ use Rattle.worked_texts.proofs.Written.{part-long}
 use borrow.Author.Needs.{needs}
 use Rattle.worked_texts.proofs.lent.Statement.{statement}
 use Rattle.worked_texts.proofs.lent.Tie as tie
-use Rattle.worked_texts.proofs.lent.Reads as reads
-use Rattle.worked_texts.proofs.lent.Lts as lts
-use Rattle.io.proofs.large_buffer.Reads as large-buffer-reads
-use Rattle.worked_texts.proofs.run.Reads as run-reads
 
 large-buffer-requires : tie.Need-large-buffer-requires
 large-buffer-requires c κs = search needs

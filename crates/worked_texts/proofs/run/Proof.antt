@@ -3,11 +3,6 @@ use Rattle.worked_texts.proofs.Written.{part-long}
 use borrow.Author.Needs.{needs}
 use Rattle.worked_texts.proofs.run.Statement.{statement}
 use Rattle.worked_texts.proofs.run.Tie as tie
-use Rattle.worked_texts.proofs.run.Reads as reads
-use Rattle.worked_texts.proofs.run.Lts as lts
-use Rattle.expander.proofs.expand.Reads as expand-reads
-use Rattle.worked_texts.proofs.write.Reads as write-reads
-use Rattle.worked_texts.proofs.write_report.Reads as write-report-reads
 
 expand-requires : tie.Need-expand-requires
 expand-requires c κs = search needs

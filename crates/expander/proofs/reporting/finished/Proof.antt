@@ -3,8 +3,6 @@ use mathlib.Core.Path.{refl}
 use borrow.Author.Needs.{needs}
 use Rattle.expander.proofs.reporting.finished.Statement.{statement}
 use Rattle.expander.proofs.reporting.finished.Tie as tie
-use Rattle.expander.proofs.reporting.finished.Reads as reads
-use Rattle.expander.proofs.reporting.finished.Lts as lts
 
 cast-place : tie.Need-cast-place
 cast-place c = search needs

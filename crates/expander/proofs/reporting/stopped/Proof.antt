@@ -3,8 +3,6 @@ use mathlib.Core.Path.{refl}
 use borrow.Author.Needs.{needs}
 use Rattle.expander.proofs.reporting.stopped.Statement.{statement}
 use Rattle.expander.proofs.reporting.stopped.Tie as tie
-use Rattle.expander.proofs.reporting.stopped.Reads as reads
-use Rattle.expander.proofs.reporting.stopped.Lts as lts
 
 cast-place : tie.Need-cast-place
 cast-place c = search needs

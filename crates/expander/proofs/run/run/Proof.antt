@@ -9,7 +9,7 @@ use Rattle.rules.specs.State.{freshStart, startState}
 use Rattle.rules.specs.Step.{step}
 use Rattle.rules.specs.Run.{Setting, Ended, lengths, runFrom}
 use Rattle.expander.specs.Machine.{Memory, memory, Limits, Gives, wrapAt, errorsAt}
-use Rattle.expander.specs.Run.{Running, Leaves, Stretched, SpecialNext}
+use Rattle.expander.specs.Run.{Running, Stretched, SpecialNext}
 use Rattle.expander.proofs.RunLaws.{begun, run-spent, run-refused, run-ended, run-on, recount, leaves-recount, reached-stop, reached-special, counted, counted-one, one-less, step-fits, none-left, all-counted}
 use borrow.Author.Needs.{needs}
 use Rattle.expander.proofs.run.run.Statement.{statement}

@@ -2,9 +2,6 @@ use Rattle.expander.proofs.RunLaws.{started}
 use borrow.Author.Needs.{needs}
 use Rattle.expander.proofs.run.start.Statement.{statement}
 use Rattle.expander.proofs.run.start.Tie as tie
-use Rattle.expander.proofs.run.start.Reads as reads
-use Rattle.expander.proofs.run.start.Lts as lts
-use Rattle.expander.proofs.marking.default_marks.Reads as default-marks-reads
 
 default-marks-requires : tie.Need-default-marks-requires
 default-marks-requires c κs = search needs

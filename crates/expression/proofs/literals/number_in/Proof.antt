@@ -4,9 +4,6 @@ use Rattle.expression.proofs.Digits.{read-some, read-none}
 use borrow.Author.Needs.{needs}
 use Rattle.expression.proofs.literals.number_in.Statement.{statement}
 use Rattle.expression.proofs.literals.number_in.Tie as tie
-use Rattle.expression.proofs.literals.number_in.Reads as reads
-use Rattle.expression.proofs.literals.number_in.Lts as lts
-use Rattle.numerals.proofs.read_natural.Reads as read-natural-reads
 
 read-natural-requires : tie.Need-read-natural-requires
 read-natural-requires c κs = search needs

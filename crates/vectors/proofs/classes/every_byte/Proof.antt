@@ -2,9 +2,6 @@ use Prim.Native.Nat.{_-_, _≤_}
 use borrow.Author.Needs.{needs}
 use Rattle.vectors.proofs.classes.every_byte.Statement.{statement}
 use Rattle.vectors.proofs.classes.every_byte.Tie as tie
-use Rattle.vectors.proofs.classes.every_byte.Reads as reads
-use Rattle.vectors.proofs.classes.every_byte.Lts as lts
-use Rattle.vectors.proofs.classes.class_line.Reads as class-line-reads
 
 abbrev Inv-loop : tie.InvT-loop
 Inv-loop x₀ x = x ≤ 256
