@@ -181,7 +181,7 @@ none-seen u seen e =
 
 module _ {seen : List ℕ} {u : Streams} (s : Seen seen u) (i : ℕ) (h : IsStream i) where
   -- a marked one moves nothing
-  pub seen-same : (getD seen i 0 ≡ 0 → ⊥) → moved i u ≡ u
+  seen-same : (getD seen i 0 ≡ 0 → ⊥) → moved i u ≡ u
   seen-same f = idle-same i h u (s .idle i h f)
 
   pub seen-more : length (u .waiting) ≡ 9 → Seen (set seen i 1) (moved i u)

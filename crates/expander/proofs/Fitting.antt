@@ -1,6 +1,6 @@
 -- Laws of what undivert would add to the output, counted before anything is moved. Assumes nothing.
-use Prim.Native.Nat.{ℕ, suc, _+_, _-_, _≤_, _<_}
-use mathlib.Core.Path.{_≡_, refl, sym, ap, subst, _∙_}
+use Prim.Native.Nat.{ℕ, zero, suc, _+_, _-_, _≤_, _<_}
+use mathlib.Core.Path.{_≡_, refl, sym, ap, _∙_}
 use mathlib.Core.Bool.{Bool, true, false}
 use mathlib.Core.List.{List, [], _∷_}
 use native.Mathlib.Decide.{ℕ-discrete}
@@ -8,62 +8,69 @@ use native.Mathlib.Omega.{arith}
 use borrow.Author.Tests.{le-leb, lt-leb, leb-true, leb-false}
 use lib.Dec.{leb}
 use lib.IntN.{pos}
-use lib.ListN.{length, take, drop, getD, set, replicate, length-append}
-use lib.Seq.{getD-set-same, getD-set-other}
+use lib.ListN.{length, take, drop, getD, set, length-append, length-set}
+use lib.Seq.{getD-set-same, getD-set-other, length-take-le}
 use Rattle.rules.specs.Bytes.{Bytes}
 use Rattle.rules.specs.Streams.{Streams, moved, movedInTurn}
 use Rattle.expander.specs.declared.sinks.Sinks.{Sinks}
-use Rattle.expander.specs.Streams.{IsStream, ownedCount, discards}
+use Rattle.expander.specs.Streams.{IsStream, ownedCount, Ten, discards}
 use Rattle.expander.specs.Sinks.{SinksIn}
 use Rattle.expander.specs.Diverting.{Leaving}
 use Rattle.expander.proofs.ArgumentLaws.{bits-plain}
+use Rattle.expander.proofs.Owned.{owned-within}
 use Rattle.expander.proofs.Waiting.{length-of}
 use Rattle.expander.proofs.SinksLaws.{lost-is}
 use Rattle.expander.proofs.Moved.{moved-out, moved-current, turn-on, turns-end}
 use Rattle.expander.proofs.Totals.{used-is}
 use Rattle.expander.proofs.MachineLaws.{front-long}
-use Rattle.expander.proofs.DivertingLaws.{moved-any, moved-nine, turns-sum, none-seen, seen-same, seen-more, is-out}
+use Rattle.expander.proofs.DivertingLaws.{moved-any, moved-nine, turns-sum, is-out}
 
 -- ---- one stream
 
-module _ {owners : List ℕ} {used : ℕ} {seen : List ℕ} {u : Streams} (l : Leaving owners used seen u) (i : ℕ) (h : IsStream i) where
-  -- a marked one adds nothing
-  pub counted-before : (getD seen i 0 ≡ 0 → ⊥) → Leaving owners used seen (moved i u) × (length (moved i u .output) ≡ length (u .output) + 0)
-  counted-before f = let e = seen-same (l .marked) i h f in (rw e l, rw e (omega arith))
-
-  pub counted-now : getD seen i 0 ≡ 0 → Leaving owners used (set seen i 1) (moved i u) × (length (moved i u .output) ≡ length (u .output) + ownedCount i (take used owners))
-  counted-now z = (
+module _ {counts : List ℕ} {u : Streams} (l : Leaving counts u) (i : ℕ) (h : IsStream i) where
+  pub counted : Leaving (set counts i 0) (moved i u) × (length (moved i u .output) ≡ length (u .output) + getD counts i 0)
+  counted = (
     record {
       out = moved-current i u ∙ l .out;
       nine = moved-nine i h u (l .nine);
-      marked = seen-more (l .marked) i h (l .nine);
-      owned = λ k j f. others k j f (ℕ-discrete k i);
+      ten = length-set counts i 0 ∙ l .ten;
+      long = λ k j. then-long k j (ℕ-discrete k i);
     },
-    rw (moved-out i h u (l .out)) (omega (arith, length-append (u .output) (getD (u .waiting) (i - 1) []), l .owned i h z)),
+    rw (moved-out i h u (l .out)) (omega (arith, length-append (u .output) (getD (u .waiting) (i - 1) []), l .long i h)),
   )
     where
-      others : (k : ℕ) → IsStream k → getD (set seen i 1) k 0 ≡ 0 → Dec (k ≡ i) → length (getD (moved i u .waiting) (k - 1) []) ≡ ownedCount k (take used owners)
-      others k j f (yes q) = absurd (omega (arith, sym (getD-set-same seen i 1 0 (omega (arith, h .high, l .marked .ten))) ∙ subst (λ (n : ℕ). getD (set seen i 1) n 0 ≡ 0) q f))
-      others k j f (no q) =
+      gone : getD (moved i u .waiting) (i - 1) [] ≡ []
+      gone = rw (moved-out i h u (l .out)) (getD-set-same (u .waiting) (i - 1) [] [] (omega (arith, h .low, h .high, l .nine)))
+
+      then-long : (k : ℕ) → IsStream k → Dec (k ≡ i) → length (getD (moved i u .waiting) (k - 1) []) ≡ getD (set counts i 0) k 0
+      then-long k j (yes q) = rw q (ap length gone ∙ sym (getD-set-same counts i 0 0 (omega (arith, h .high, l .ten))))
+      then-long k j (no q) =
           rw (moved-out i h u (l .out))
-          (ap length (getD-set-other (u .waiting) (i - 1) (k - 1) [] [] (λ o. q (omega (arith, h .low, j .low)))) ∙ l .owned k j (sym (getD-set-other seen i k 1 0 q) ∙ f))
+          (ap length (getD-set-other (u .waiting) (i - 1) (k - 1) [] [] (λ o. q (omega (arith, h .low, j .low)))) ∙ l .long k j ∙ sym (getD-set-other counts i k 0 0 q))
+
+-- no count grows
+pub count-less : (counts : List ℕ) (i k : ℕ) → getD (set counts i 0) k 0 ≤ getD counts k 0
+count-less [] i k = omega arith
+count-less (n ∷ ns) zero zero = omega arith
+count-less (n ∷ ns) zero (suc k) = omega arith
+count-less (n ∷ ns) (suc i) zero = omega arith
+count-less (n ∷ ns) (suc i) (suc k) = count-less ns i k
 
 -- ---- streams in turn: those before j add `sum`
 
-pub record Counting (owners : List ℕ) (used : ℕ) (seen ns : List ℕ) (j sum : ℕ) (u : Streams) : Type 0 where
+pub record Counting (counts ns : List ℕ) (j sum : ℕ) (u : Streams) : Type 0 where
   pub held : Streams
-  pub leaving : Leaving owners used seen held
+  pub leaving : Leaving counts held
   pub left : movedInTurn (drop j ns) held ≡ movedInTurn ns u
   pub long : length (held .output) ≡ length (u .output) + sum
 
-pub counting-begins : {owners : List ℕ} {used : ℕ} {seen : List ℕ} {u : Streams} (ns : List ℕ) → Leaving owners used seen u → Counting owners used seen ns 0 0 u
+pub counting-begins : {counts : List ℕ} {u : Streams} (ns : List ℕ) → Leaving counts u → Counting counts ns 0 0 u
 counting-begins {u = u} ns l = record { held = u; leaving = l; left = refl; long = omega arith }
 
-module _ {owners : List ℕ} {used : ℕ} {seen ns : List ℕ} {j sum : ℕ} {u : Streams} (t : Counting owners used seen ns j sum u) where
-  pub counting-on :
-      {seen′ : List ℕ} (n : ℕ) → j < length ns → (i : ℕ) → i ≡ getD ns j 0
-      → Leaving owners used seen′ (moved i (t .held)) × (length (moved i (t .held) .output) ≡ length (t .held .output) + n) → Counting owners used seen′ ns (j + 1) (sum + n) u
-  counting-on n h i e g =
+module _ {counts ns : List ℕ} {j sum : ℕ} {u : Streams} (t : Counting counts ns j sum u) where
+  pub counting-on : j < length ns → (i : ℕ) → i ≡ getD ns j 0 → IsStream i → Counting (set counts i 0) ns (j + 1) (sum + getD counts i 0) u
+  counting-on h i e k =
+      let g = counted (t .leaving) i k in
       record {
         held = moved i (t .held);
         leaving = g .0;
@@ -84,14 +91,18 @@ turns-still (i ∷ ns) each u d =
     turns-still ns (λ k l. each (suc k) (omega arith)) (moved i u) (λ e. d (sym (moved-current i u) ∙ e))
     ∙ moved-any (λ (x : Streams). x .output ≡ u .output) i (each 0 (omega arith)) u (λ c. refl) (λ j c k q. refl) (λ c. absurd (d c)) refl
 
+-- each stream has at most as many bytes as there are
+pub counts-most : (owners : List ℕ) (used : ℕ) {counts : List ℕ} → used ≤ length owners → Ten (λ i. ownedCount i (take used owners)) counts → (i : ℕ) → i < 10 → getD counts i 0 ≤ used
+counts-most owners used l t i h = omega (arith, t .each i h, owned-within i (take used owners), length-take-le used owners l)
+
 module _ {streams : Bytes} {owners : List ℕ} {output : Bytes} {k : Sinks} {u : Streams} (m : SinksIn streams owners output k u) where
-  pub leaving-all : k .current ≡ 0 → Leaving owners (k .waiting) (replicate 10 0) u
-  leaving-all e =
+  pub leaving-all : k .current ≡ 0 → {counts : List ℕ} → Ten (λ i. ownedCount i (take (k .waiting) owners)) counts → Leaving counts u
+  leaving-all e t =
       record {
         out = is-out m e;
         nine = m .waiting .nine;
-        marked = none-seen u (replicate 10 0) refl;
-        owned = λ i h f. length-of (m .waiting) i h;
+        ten = t .ten;
+        long = λ i h. length-of (m .waiting) i h ∙ sym (t .each i (omega (arith, h .high)));
       }
 
   elsewhere : (k .current ≡ 0 → ⊥) → u .current ≡ pos 0 → ⊥

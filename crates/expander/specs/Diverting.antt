@@ -7,7 +7,7 @@ use mathlib.Core.List.{List, [], _∷_}
 use mathlib.Core.Option.{Option, none, some}
 use lib.Dec.{eqb}
 use lib.IntN.{pos}
-use lib.ListN.{length, take, getD}
+use lib.ListN.{length, getD}
 use Rattle.rules.specs.Bytes.{Bytes}
 use Rattle.rules.specs.Numerals.{number}
 use Rattle.rules.specs.Arguments.{bounded}
@@ -15,7 +15,7 @@ use Rattle.rules.specs.Streams.{Streams}
 use Rattle.expander.specs.declared.arguments.Arguments.{Arguments}
 use Rattle.expander.specs.declared.sinks.Sinks.{Sinks}
 use Rattle.expander.specs.Arguments.{ArgumentsIn, SomeArguments}
-use Rattle.expander.specs.Streams.{IsStream, ownedCount}
+use Rattle.expander.specs.Streams.{IsStream}
 use Rattle.expander.specs.Sinks.{SinksIn}
 
 unfoldable pub orZero : Option ℕ → ℕ
@@ -60,9 +60,9 @@ pub record Seen (seen : List ℕ) (u : Streams) : Type 0 where
   pub ten : length seen ≡ 10
   pub idle : (i : ℕ) → IsStream i → (getD seen i 0 ≡ 0 → ⊥) → Idle i u
 
--- moves go to the output; each stream that is marked was moved, and each other one has as many bytes as are its own
-pub record Leaving (owners : List ℕ) (used : ℕ) (seen : List ℕ) (u : Streams) : Type 0 where
+-- moves go to the output, and each stream has as many bytes as the counts say
+pub record Leaving (counts : List ℕ) (u : Streams) : Type 0 where
   pub out : u .current ≡ pos 0
   pub nine : length (u .waiting) ≡ 9
-  pub marked : Seen seen u
-  pub owned : (i : ℕ) → IsStream i → getD seen i 0 ≡ 0 → length (getD (u .waiting) (i - 1) []) ≡ ownedCount i (take used owners)
+  pub ten : length counts ≡ 10
+  pub long : (i : ℕ) → IsStream i → length (getD (u .waiting) (i - 1) []) ≡ getD counts i 0

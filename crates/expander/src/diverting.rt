@@ -12,7 +12,7 @@ ghost use mathlib.Core.Path.{_≡_};
 ghost use mathlib.Core.List.{List};
 ghost use Prim.Native.Nat.{ℕ, _+_, _≤_, _<_};
 ghost use lib.Dec.{leb};
-ghost use lib.ListN.{length, take, getD, replicate};
+ghost use lib.ListN.{length, take, getD, set, replicate};
 ghost use Rattle.rules.specs.Bytes.{Bytes};
 ghost use Rattle.rules.specs.Arguments.{arg};
 ghost use Rattle.rules.specs.State.{State, stop, withStreams};
@@ -78,38 +78,29 @@ fn turn_stream(calls: &[u8], ends: &[u32], x: Arguments, k: usize) -> u32
     stream_argument(calls, ends, x, k + 1)
 }
 
-// How many bytes stream i has; 0 if it was counted before.
-fn count_new(owners: &[u8], used: usize, seen: &mut [u8; 10], i: u32) -> usize
-    requires { ⌜ (used ≤ length (now owners)) × IsStream i ⌝ }
-    ensures { λ r. ⌜ (r ≤ used) × ((u : Streams) → Leaving (now (owners .entry)) used (now (seen .entry)) u → Leaving (now (owners .entry)) used (now (seen .exit)) (moved i u) × (length (moved i u .output) ≡ length (u .output) + r)) ⌝ }
+// How many bytes stream i has, by the counts; then it counts for none.
+fn count_out(counts: &mut [usize; 10], i: u32) -> usize
+    requires { ⌜ IsStream i ⌝ }
+    ensures { λ r. ⌜ (r ≡ getD (now (counts .entry)) i 0) × (now (counts .exit) ≡ set (now (counts .entry)) i 0) ⌝ }
 {
     let at = i as usize;
-    if seen[at] != 0 {
-        return 0;
-    }
-    seen[at] = 1;
-    streams::count(owners, used, i as u8)
+    let n = counts[at];
+    counts[at] = 0;
+    n
 }
 
-// How many bytes the streams have that the arguments name, or all nine; each counts once.
-fn count_streams(
-    calls: &[u8],
-    ends: &[u32],
-    owners: &[u8],
-    used: usize,
-    seen: &mut [u8; 10],
-    x: Arguments,
-) -> usize
-    requires { ⌜ (used ≤ length (now owners)) × (used ≤ mostLent) ⌝ }
+// How many bytes the streams have that the arguments name, or all nine, by the counts of all; each counts once.
+fn count_streams(calls: &[u8], ends: &[u32], counts: &mut [usize; 10], x: Arguments) -> usize
+    requires { ⌜ ((i : ℕ) → i < 10 → getD (now counts) i 0 ≤ mostLent) ⌝ }
     requires { ⌜ StreamArguments (now calls) (now ends) x ⌝ }
-    ensures { λ r. ⌜ ((u : Streams) (args : List Bytes) → Leaving (now (owners .entry)) used (now (seen .entry)) u → ArgumentsIn (now (calls .entry)) (now (ends .entry)) x args → length (movedInTurn (turns args) u .output) ≡ length (u .output) + r) ⌝ }
+    ensures { λ r. ⌜ ((u : Streams) (args : List Bytes) → Leaving (now (counts .entry)) u → ArgumentsIn (now (calls .entry)) (now (ends .entry)) x args → length (movedInTurn (turns args) u .output) ≡ length (u .output) + r) ⌝ }
 {
     let n = turn_count(x);
     let mut sum = 0;
     let mut j = 0;
     while j < n {
         let i = turn_stream(calls, ends, x, j);
-        sum += count_new(owners, used, seen, i);
+        sum += count_out(counts, i);
         j += 1;
     }
     sum
@@ -118,7 +109,7 @@ fn count_streams(
 // Whether the output has room for the streams that go there: those that the arguments name, or all nine, if it is the current one.
 // Nothing is counted where there is room for all that waits.
 fn fits(calls: &[u8], ends: &[u32], owners: &[u8], output: &[u8], k: Sinks, x: Arguments) -> bool
-    requires { ⌜ (k .waiting ≤ length (now owners)) × (k .waiting ≤ mostLent) × (k .output ≤ length (now output)) ⌝ }
+    requires { ⌜ (k .waiting ≤ length (now owners)) × (k .waiting ≤ mostLent) × (k .output ≤ length (now output)) × ((j : ℕ) → j < k .waiting → getD (now owners) j 0 < 10) ⌝ }
     requires { ⌜ StreamArguments (now calls) (now ends) x ⌝ }
     ensures { λ r. ⌜ ((streams : Bytes) (u : Streams) (args : List Bytes) → SinksIn streams (now (owners .entry)) (now (output .entry)) k u → ArgumentsIn (now (calls .entry)) (now (ends .entry)) x args → r ≡ leb (length (movedInTurn (turns args) u .output)) (length (now (output .entry)))) ⌝ }
 {
@@ -129,8 +120,9 @@ fn fits(calls: &[u8], ends: &[u32], owners: &[u8], output: &[u8], k: Sinks, x: A
     if k.current != 0 {
         return true;
     }
-    let mut seen = [0u8; 10];
-    count_streams(calls, ends, owners, k.waiting, &mut seen, x) <= free
+    let mut counts = [0usize; 10];
+    streams::tally(owners, k.waiting, &mut counts);
+    count_streams(calls, ends, &mut counts, x) <= free
 }
 
 // Stream i goes behind the output, which has room for it.

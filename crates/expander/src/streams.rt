@@ -116,7 +116,7 @@ pub(crate) fn move_stream(
 }
 
 // How many bytes each stream has, into a list of zeros.
-fn tally(owners: &[u8], used: usize, counts: &mut [usize; 10])
+pub(crate) fn tally(owners: &[u8], used: usize, counts: &mut [usize; 10])
     requires { ⌜ (used ≤ length (now owners)) × ((k : ℕ) → k < used → getD (now owners) k 0 < 10) ⌝ }
     requires { ⌜ now counts ≡ replicate 10 0 ⌝ }
     ensures { λ _. ⌜ Ten (λ i. ownedCount i (take used (now (owners .entry)))) (now (counts .exit)) ⌝ }

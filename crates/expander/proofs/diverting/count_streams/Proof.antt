@@ -1,34 +1,35 @@
 -- `expander::diverting::count_streams` meets its contract: the loop keeps what the turns before add, for all streams and arguments that are meant. Assumes nothing.
-use Prim.Native.Nat.{_-_, _*_, _≤_, _<_}
+use Prim.Native.Nat.{ℕ, _+_, _-_, _*_, _≤_, _<_}
 use native.Mathlib.Omega.{arith}
-use mathlib.Core.Path.{sym, subst}
+use mathlib.Core.Path.{sym, subst, subst₂}
 use mathlib.Core.List.{List}
-use lib.ListN.{length}
+use lib.ListN.{length, getD}
 use Rattle.rules.specs.Bytes.{Bytes}
 use Rattle.rules.specs.Streams.{Streams}
 use Rattle.expander.specs.Arguments.{ArgumentsIn}
 use Rattle.expander.specs.Streams.{IsStream}
 use Rattle.expander.specs.Diverting.{turns, Leaving}
-use Rattle.expander.proofs.Fitting.{Counting, counting-begins, counting-on, counting-ends}
+use Rattle.expander.proofs.Fitting.{Counting, count-less, counting-begins, counting-on, counting-ends}
 use Rattle.expander.proofs.Turns.{turn-each, few-turns}
 use Rattle.expander.proofs.diverting.count_streams.Statement.{statement}
 use Rattle.expander.proofs.diverting.count_streams.Tie as tie
 
 abbrev Inv-loop : tie.InvT-loop
-Inv-loop calls ends owners used seen₀ x n sum₀ j₀ seen sum j =
-    (j ≤ n) × (sum ≤ j * 65536) × ((u : Streams) (args : List Bytes) → Leaving owners used seen₀ u → ArgumentsIn calls ends x args → Counting owners used seen (turns args) j sum u)
+Inv-loop calls ends counts₀ x n sum₀ j₀ counts sum j =
+    (j ≤ n) × (sum ≤ j * 65536) × ((i : ℕ) → i < 10 → getD counts i 0 ≤ 65536)
+    × ((u : Streams) (args : List Bytes) → Leaving counts₀ u → ArgumentsIn calls ends x args → Counting counts (turns args) j sum u)
 
 abbrev μ-loop : tie.MeasureT-loop
-μ-loop calls ends owners used seen₀ x n sum₀ j₀ seen sum j = n - j
+μ-loop calls ends counts₀ x n sum₀ j₀ counts sum j = n - j
 
 turn-count-requires : tie.Need-turn-count-requires Inv-loop μ-loop
-turn-count-requires c κs = c .before .before .before .pre .1 .given .holds .base-in
+turn-count-requires c κs = c .before .before .pre .1 .given .holds .base-in
 
 loop-holds : tie.Need-loop-holds Inv-loop μ-loop
-loop-holds c = (omega arith, omega arith, λ u args l h. counting-begins (turns args) l)
+loop-holds c = (omega arith, omega arith, c .before .before .before .pre .0, λ u args l h. counting-begins (turns args) l)
 
 abbrev entry : tie.In-loop Inv-loop μ-loop → tie.Start Inv-loop μ-loop
-entry c = c .before .before .before .before .before .before
+entry c = c .before .before .before .before .before
 
 -- this turn is one of those that arguments name
 in-turn :
@@ -42,21 +43,25 @@ few c =
     let p = entry c .pre .1 .given in
     omega (arith, in-turn c (p .args) (p .holds), few-turns (p .holds))
 
+is-stream : (c : tie.After-turn-stream Inv-loop μ-loop) → IsStream (c .turn-stream .result)
+is-stream c =
+    let l = c .before in
+    let p = entry l .pre .1 in
+    let a = p .given .args in
+    let h = in-turn l a (p .given .holds) in
+    subst IsStream (sym (c .turn-stream .ensures a (p .given .holds) h)) (turn-each a (p .named a (p .given .holds)) (l .before .loop .j) h)
+
 turn-stream-requires : tie.Need-turn-stream-requires Inv-loop μ-loop
 turn-stream-requires c κs = (entry c .pre .1 .given, omega (arith, few c))
 
-count-new-requires : tie.Need-count-new-requires Inv-loop μ-loop
-count-new-requires c κs =
-    let l = c .before .before in
-    let e = entry l in
-    let p = e .pre .1 .given in
-    let h = in-turn l (p .args) (p .holds) in
-    (e .pre .0 .0, subst IsStream (sym (c .before .turn-stream .ensures (p .args) (p .holds) h)) (turn-each (p .args) (e .pre .1 .named (p .args) (p .holds)) (l .before .loop .j) h))
+count-out-requires : tie.Need-count-out-requires Inv-loop μ-loop
+count-out-requires c κs = is-stream (c .before)
 
 add-sum : tie.Need-add-sum Inv-loop μ-loop
 add-sum c =
-    let l = c .before .before .before in
-    omega (arith, few l, l .before .loop .inv .1, c .count-new .ensures .0, entry l .pre .0 .1)
+    let s = c .before .before in
+    let i = s .before .before .loop in
+    omega (arith, few (s .before), i .inv .1, c .count-out .ensures .0, i .inv .2 (s .turn-stream .result) (omega (arith, is-stream s .high)))
 
 add-j : tie.Need-add-j Inv-loop μ-loop
 add-j c = omega (arith, few (c .before .before .before))
@@ -66,21 +71,25 @@ loop-less c = omega (arith, c .before .before .before .loop-test .taken)
 
 loop-again : tie.Need-loop-again Inv-loop μ-loop
 loop-again c =
-    let l = c .before .before .before in
-    let r = c .count-new in
-    let s = c .before .before .turn-stream in (
+    let s = c .before .before in
+    let l = s .before in
+    let i = l .before .loop in
+    let n = s .turn-stream .result in
+    let r = c .count-out .ensures in (
       omega (arith, l .loop-test .taken),
-      omega (arith, l .before .loop .inv .1, r .ensures .0, entry l .pre .0 .1),
+      omega (arith, i .inv .1, r .0, i .inv .2 n (omega (arith, is-stream s .high))),
+      λ k q. subst (λ (ns : List ℕ). getD ns k 0 ≤ 65536) (sym (r .1)) (omega (arith, count-less (i .counts) n k, i .inv .2 k q)),
       λ u args m h.
-          let t = l .before .loop .inv .2 u args m h in
-          counting-on t (r .result) (in-turn l args h) (s .result) (s .ensures args h (in-turn l args h)) (r .ensures .1 (t .held) (t .leaving)),
+          let o = in-turn l args h in
+          subst₂ (λ (ns : List ℕ) (k : ℕ). Counting ns (turns args) (i .j + 1) (i .sum + k) u) (sym (r .1)) (sym (r .0))
+          (counting-on (i .inv .3 u args m h) o n (s .turn-stream .ensures args h o) (is-stream s)),
     )
 
 returns : tie.Need-returns Inv-loop μ-loop
 returns c =
-    let e = c .before .before .before .before .before .before in
+    let e = c .before .before .before .before .before in
     λ u args l h.
-    counting-ends (c .before .loop .inv .2 u args l h) (omega (arith, c .loop-test .left, c .before .before .turn-count .ensures (e .args .calls .now) (e .args .ends .now) args h))
+    counting-ends (c .before .loop .inv .3 u args l h) (omega (arith, c .loop-test .left, c .before .before .turn-count .ensures (e .args .calls .now) (e .args .ends .now) args h))
 
 pub count-streams-spec : {M : Type 1} → statement M
 count-streams-spec =
@@ -91,7 +100,7 @@ count-streams-spec =
     turn-count-requires
     loop-holds
     turn-stream-requires
-    count-new-requires
+    count-out-requires
     add-sum
     add-j
     loop-less

@@ -41,7 +41,7 @@ fits-requires c κs =
     let p = entry n .pre in
     let m = p .0 .means in
     let o = m .sinks .waiting .owned in
-    ((o .in-owners, omega (arith, o .in-bytes, m .limits .streams-most), m .sinks .written .inside), record { given = p .1 .0; named = all-named n })
+    ((o .in-owners, omega (arith, o .in-bytes, m .limits .streams-most), m .sinks .written .inside, λ j l. omega (arith, o .numbered j l .high)), record { given = p .1 .0; named = all-named n })
 
 refused-requires-2 : tie.Need-refused-requires-2
 refused-requires-2 c κs = search needs
