@@ -5,11 +5,11 @@ use mathlib.Core.Path.{_≡_, refl, sym, ap, subst, _∙_}
 use mathlib.Core.Bool.{Bool, true, false}
 use mathlib.Core.List.{List, [], _∷_}
 use mathlib.Core.Option.{Option, none, some}
-use lib.Dec.{leb, eqb}
+use lib.Dec.{leb, ltb, eqb}
 use lib.IntN.{ℤ, pos, negsuc, negℤ}
-use lib.ListN.{length, getD, length-drop, drop-of-length-le, List·getD-eq-default, length-append}
-use lib.Seq.{drop-cons, getD-drop}
-use borrow.Author.Tests.{le-leb, lt-leb, leb-true, leb-false, lt-ltb, le-ltb}
+use lib.ListN.{length, take, getD, length-take, length-drop, drop-of-length-le, List·getD-eq-default, List·getD-append, length-append}
+use lib.Seq.{drop-cons, getD-take, getD-drop, getD-append-add}
+use borrow.Author.Tests.{le-leb, lt-leb, leb-true, leb-false, lt-ltb, le-ltb, ltb-true, ltb-false}
 use Rattle.numerals.specs.declared.Decimal.{Decimal}
 use Rattle.numerals.specs.declared.Decimal.the-variants as read
 use Rattle.numerals.specs.declared.Natural.the-variants as found
@@ -48,6 +48,24 @@ short-of [] i = omega arith
 short-of (w ∷ ws) zero = omega (arith, length-append w (joined ws))
 short-of (w ∷ ws) (suc i) = omega (arith, short-of ws i, length-append w (joined ws))
 
+-- the front of a buffer of bytes, and a string of a joined text of bytes
+front-bytes : (bytes : Bytes) → ((i : ℕ) → getD bytes i 0 < 256) → (n i : ℕ) → getD (take n bytes) i 0 < 256
+front-bytes bytes b n i = go (ltb i n) refl
+  where
+    go : (t : Bool) → ltb i n ≡ t → getD (take n bytes) i 0 < 256
+    go true e = rw (getD-take n bytes i 0 (ltb-true i n e)) (b i)
+    go false e = let k = ltb-false i n e in rw (List·getD-eq-default (take n bytes) 0 {n = i} (omega (arith, length-take n bytes))) (omega arith)
+
+bytes-of : (ws : List Bytes) → ((i : ℕ) → getD (joined ws) i 0 < 256) → (k i : ℕ) → getD (getD ws k []) i 0 < 256
+unfolding joined
+bytes-of [] b k i = omega arith
+bytes-of (w ∷ ws) b zero i = go (ltb i (length w)) refl
+  where
+    go : (t : Bool) → ltb i (length w) ≡ t → getD w i 0 < 256
+    go true e = rw (List·getD-append w (joined ws) 0 i (ltb-true i (length w) e)) at (b i)
+    go false e = let k = ltb-false i (length w) e in rw (List·getD-eq-default w 0 {n = i} k) (omega arith)
+bytes-of (w ∷ ws) b (suc k) i = bytes-of ws (λ j. rw (getD-append-add w (joined ws) j 0) at (b (length w + j))) k i
+
 module _ {bytes : Bytes} {ends : List ℕ} {x : Arguments} {args : List Bytes} (h : ArgumentsIn bytes ends x args) where
   -- how many there are
   pub arguments-counted : x .strings .count - x .base ≡ length args
@@ -79,6 +97,11 @@ module _ {bytes : Bytes} {ends : List ℕ} {x : Arguments} {args : List Bytes} (
   pub argument-short : (n : ℕ) → 1 ≤ n → length (arg n args) ≤ mostLent
   argument-short n l =
       omega (arith, ap length (argument-at n l), short-of (h .strings) (x .base + (n - 1)), used-is (h .packs), h .packs .used-in, h .short)
+
+  -- and made of bytes, where the buffer is
+  pub argument-bytes : ((i : ℕ) → getD bytes i 0 < 256) → (n i : ℕ) → getD (arg n args) i 0 < 256
+  argument-bytes b n i =
+      subst (λ (w : Bytes). getD w i 0 < 256) (sym (argument-at n)) (bytes-of (h .strings) (λ j. subst (λ (w : Bytes). getD w j 0 < 256) (h .packs .bytes-are) (front-bytes bytes b (x .strings .used) j)) (x .base + (n - 1)) i)
 
 pub argument-links : {bytes : Bytes} {ends : List ℕ} {x : Arguments} → SomeArguments bytes ends x → ArgumentLinks ends x
 argument-links {bytes} h = record { bytes = bytes; args = h .args; holds = h .holds }

@@ -1,6 +1,6 @@
 -- Results in front of the text ahead: refused where buffer 1 lacks room, else written just before the pending text.
 use Prim.Native.Nat.{ℕ, _+_, _-_, _≤_, _<_}
-use mathlib.Core.Path.{_≡_, refl, ap, _∙_}
+use mathlib.Core.Path.{_≡_, refl, sym, ap, subst, _∙_}
 use mathlib.Core.Bool.{Bool, true}
 use mathlib.Core.List.{List, [], _++_}
 use native.Mathlib.Omega.{arith}
@@ -23,6 +23,9 @@ use Rattle.rules.specs.Macros.{giving, callDefn, callShift, callTranslit}
 use Rattle.numerals.specs.Answers.{isRadix, lengthOf, Written}
 use Rattle.numerals.specs.declared.Length.{Length}
 use Rattle.numerals.specs.declared.Length.the-variants as measured
+use Rattle.matching.specs.Partners.{partnerTable, replaced}
+use Rattle.matching.proofs.Partners.{table-puts}
+use Rattle.expander.specs.declared.arguments.Arguments.{Arguments}
 use Rattle.expander.specs.declared.cuts.Cut.{Cut}
 use Rattle.expander.specs.declared.cuts.Cut.the-variants as cut
 use Rattle.expander.specs.declared.defn.DefnLength.the-variants as defnLength
@@ -33,12 +36,14 @@ use Rattle.expander.specs.declared.machine.Machine.{Machine}
 use Rattle.expander.specs.declared.machine.Turn.{Turn}
 use Rattle.expander.specs.declared.packed.Packed.{Packed}
 use Rattle.expander.specs.Limits.{mostLent}
+use Rattle.expander.specs.Arguments.{ArgumentsIn}
 use Rattle.expander.specs.Defn.{measuredAs}
 use Rattle.expander.specs.Filled.{Filled}
 use Rattle.expander.specs.Giving.{givenTurn}
 use Rattle.expander.specs.Machine.{Memory, memory, Means, Gives}
 use Rattle.expander.specs.Results.{figureResult, FigureRadix, Shows, cutResult, CutInside, Cuts}
 use Rattle.expander.specs.Table.{rows, DefinitionsIn}
+use Rattle.expander.proofs.ArgumentLaws.{argument-bytes}
 use Rattle.expander.proofs.FilledLaws.{filled-long, filled-from, part-fills}
 use Rattle.expander.proofs.MachineLaws.{over-pending, gives-next, gives-room}
 use Rattle.expander.proofs.Packing.{string-fits}
@@ -165,6 +170,13 @@ unfolding cutResult
 cut-fails {bytes} h e = h .is ∙ ap (cutResult bytes) e
 
 -- ---- the macros
+
+-- the table of translit's second and third arguments replaces a text as the rules do
+pub table-is : {bytes : Bytes} {ends : List ℕ} {x : Arguments} {args : List Bytes} → ArgumentsIn bytes ends x args → ((i : ℕ) → getD bytes i 0 < 256)
+    → {y z t : Bytes} → y ≡ arg 2 args → z ≡ arg 3 args → t ≡ partnerTable y z → (w : Bytes) → replaced t w ≡ transliterated y z w
+table-is h b {y} {z} {t} e f g w =
+    ap (λ (u : Bytes). replaced u w) g
+    ∙ table-puts y z (λ i. subst (λ (v : Bytes). getD v i 0 < 256) (sym e) (argument-bytes h b 2 i)) (λ i. subst (λ (v : Bytes). getD v i 0 < 256) (sym f) (argument-bytes h b 3 i)) w
 
 module _ (s : State) (args : List Bytes) where
   pub translit-gives : {x y z : Bytes} → x ≡ arg 1 args → y ≡ arg 2 args → z ≡ arg 3 args → callTranslit args s ≡ next (resulting (transliterated y z x) s)

@@ -3,8 +3,6 @@ ghost use mathlib.Core.Path.{_≡_};
 ghost use mathlib.Core.List.{[], _∷_};
 ghost use Prim.Native.Nat.{_<_};
 ghost use lib.ListN.{length};
-ghost use Rattle.rules.specs.Bytes.{Bytes};
-ghost use Rattle.rules.specs.Results.{transliterated};
 ghost use Rattle.matching.specs.Places.{placed};
 ghost use Rattle.matching.specs.Partners.{partnerTable, entryFor, replaced, Fitted};
 
@@ -40,8 +38,7 @@ pub fn first_place(needle: &[u8], text: &[u8]) -> Place
 // A table of what stands for each byte: an entry below 256 is that byte, 256 says the byte itself, 257 nothing. For a byte of `from` its partner
 // stands there, the byte at the same place of `to`. They are entered from the last to the first, so that of a repeated byte the first counts.
 pub fn partners_of(from: &[u8], to: &[u8]) -> [u16; 256]
-    ensures table { λ r. ⌜ r ≡ partnerTable (now (from .entry)) (now (to .entry)) ⌝ }
-    ensures puts { λ r. ⌜ ((s : Bytes) → replaced r s ≡ transliterated (now (from .entry)) (now (to .entry)) s) ⌝ }
+    ensures { λ r. ⌜ r ≡ partnerTable (now (from .entry)) (now (to .entry)) ⌝ }
 {
     let mut table = [256u16; 256];
     let mut i = from.len();

@@ -1,7 +1,7 @@
 -- `matching::partners_of` meets its contract: the loop keeps that the table has the entries of the bytes from i on. Assumes nothing.
 use Prim.Native.Nat.{_-_}
 use native.Mathlib.Omega.{arith}
-use Rattle.matching.proofs.Replacing.{Entering, enter-start, enter-byte, enter-none, enter-done, enter-puts}
+use Rattle.matching.proofs.Replacing.{Entering, enter-start, enter-byte, enter-none, enter-done}
 use borrow.Author.Needs.{needs}
 use Rattle.matching.proofs.partners_of.Statement.{statement}
 use Rattle.matching.proofs.partners_of.Tie as tie
@@ -47,7 +47,6 @@ loop-again c =
     (c .before .before .before .loop-test .taken)
     (c .before .before .shared-slice-known .given (l .i - 1) .fits)
     (c .before .if1 .taken)
-    (c .shared-slice-known2 .given (l .i - 1) .fits)
 
 mul-table-2 : tie.Need-mul-table-2 Inv-loop μ-loop
 mul-table-2 c = omega (arith, c .before .shared-slice-known .given (c .before .before .before .loop .i - 1))
@@ -64,7 +63,7 @@ loop-again-2 c =
     enter-none (l .inv) (c .before .before .loop-test .taken) (c .before .shared-slice-known .given (l .i - 1) .fits) (c .if1 .left)
 
 returns : tie.Need-returns Inv-loop μ-loop
-returns c = (enter-done (c .before .loop .inv) (c .loop-test .left), enter-puts (c .before .loop .inv) (c .loop-test .left))
+returns c = enter-done (c .before .loop .inv) (c .loop-test .left)
 
 pub partners-of-spec : {M : Type 1} → statement M
 partners-of-spec =

@@ -1,6 +1,6 @@
 -- `matching::put` meets its contract: the entry is a byte, or it keeps the byte. Assumes nothing.
 use native.Mathlib.Omega.{arith}
-use Rattle.matching.proofs.Replacing.{entry-byte, entry-same}
+use Rattle.matching.proofs.Partners.{entry-byte, entry-same}
 use borrow.Author.Needs.{needs}
 use Rattle.matching.proofs.put.Statement.{statement}
 use Rattle.matching.proofs.put.Tie as tie

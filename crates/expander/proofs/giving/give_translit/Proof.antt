@@ -4,7 +4,7 @@ use mathlib.Core.Path.{refl, sym, ap, _∙_}
 use lib.ListN.{length}
 use native.Mathlib.Omega.{arith}
 use Rattle.expander.proofs.Parts.{fitted-whole}
-use Rattle.expander.proofs.GivingLaws.{giving-room, giving-part, gap-long, translit-gives}
+use Rattle.expander.proofs.GivingLaws.{giving-room, giving-part, gap-long, table-is, translit-gives}
 use Rattle.expander.proofs.TurnLaws.{gives-by}
 use borrow.Author.Needs.{needs}
 use Rattle.expander.proofs.giving.give_translit.Statement.{statement}
@@ -27,9 +27,13 @@ translit-length-requires c κs = search needs
 
 returns : tie.Need-returns
 returns c =
+    let k = c .before in
     λ a s b m args r x.
-    gives-by (translit-gives s args (c .before .before .before .before .before .before .argument .ensures args x) (c .before .before .before .before .before .argument2 .ensures args x) (c .before .before .before .before .argument3 .ensures args x)) refl
-    (giving-room r _ _ (sym (c .before .translit-length .ensures ∙ ap length (c .before .before .before .partners-of .ensures .1 _))) (c .if1 .taken))
+    let e = k .before .before .before .before .before .argument .ensures args x in
+    let f = k .before .before .before .before .argument2 .ensures args x in
+    let g = k .before .before .before .argument3 .ensures args x in
+    let w = table-is x (λ i. k .before .before .before .before .before .before .before .shared-slice-known .given i .fits) f g (k .before .before .partners-of .ensures) _ in
+    gives-by (translit-gives s args e f g) refl (giving-room r _ _ (sym (k .translit-length .ensures ∙ ap length w)) (c .if1 .taken))
 
 sub-translit : tie.Need-sub-translit
 sub-translit c = search needs
@@ -52,13 +56,15 @@ returns-2 c =
     let start = k .before .before .before .before .before .before .before .before .before .args in
     let n = k .translit-length in
     let from = start .p .from in
-    let e = k .before .before .partners-of .ensures .1 _ in
-    let l = sym (n .ensures ∙ ap length e) in
     λ a s b m args r x.
+    let e = k .before .before .before .before .before .argument .ensures args x in
+    let f = k .before .before .before .before .argument2 .ensures args x in
+    let g = k .before .before .before .argument3 .ensures args x in
+    let w = table-is x (λ i. k .before .before .before .before .before .before .before .shared-slice-known .given i .fits) f g (k .before .before .partners-of .ensures) _ in
+    let l = sym (n .ensures ∙ ap length w) in
     let fits : n .result ≤ from = omega (arith, c .before .before .before .before .before .if1 .left) in
-    gives-by (translit-gives s args (k .before .before .before .before .before .argument .ensures args x) (k .before .before .before .before .argument2 .ensures args x) (k .before .before .before .argument3 .ensures args x)) refl
-    (giving-part r _ _ l fits
-    (fitted-whole (c .before .before .translit .ensures) e (l ∙ sym (gap-long (start .pending .now) from (n .result) fits (r .source .from-in)))))
+    gives-by (translit-gives s args e f g) refl
+    (giving-part r _ _ l fits (fitted-whole (c .before .before .translit .ensures) w (l ∙ sym (gap-long (start .pending .now) from (n .result) fits (r .source .from-in)))))
 
 pub give-translit-spec : {M : Type 1} → statement M
 give-translit-spec =
