@@ -11,8 +11,9 @@ import re
 import sys
 import tempfile
 
-import incremental_edits as edits
-import refused
+sys.dont_write_bytecode = True
+import incremental_edits as edits  # noqa: E402
+import refused  # noqa: E402
 
 LEAVES = ["answers", "ascii", "numerals", "matching", "expression"]
 ENSURES = re.compile(r"^    ensures .*\n", re.M)

@@ -11,7 +11,8 @@ import os
 import re
 import sys
 
-import refused
+sys.dont_write_bytecode = True
+import refused  # noqa: E402
 
 HERE = os.path.dirname(os.path.dirname(os.path.abspath(__file__)))
 ROOT = sys.argv[1] if len(sys.argv) > 1 else HERE

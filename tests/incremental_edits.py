@@ -19,7 +19,8 @@ import sys
 import tempfile
 import time
 
-import refused
+sys.dont_write_bytecode = True
+import refused  # noqa: E402
 
 ROOT = os.path.dirname(os.path.dirname(os.path.abspath(__file__)))
 BELOW = ["rules", "ascii", "numerals", "expression", "matching", "answers"]
