@@ -99,9 +99,9 @@ module _ {bytes : Bytes} {ends : List ℕ} {x : Arguments} {args : List Bytes} (
       omega (arith, ap length (argument-at n l), short-of (h .strings) (x .base + (n - 1)), used-is (h .packs), h .packs .used-in, h .short)
 
   -- and made of bytes, where the buffer is
-  pub argument-bytes : ((i : ℕ) → getD bytes i 0 < 256) → (n i : ℕ) → getD (arg n args) i 0 < 256
-  argument-bytes b n i =
-      subst (λ (w : Bytes). getD w i 0 < 256) (sym (argument-at n)) (bytes-of (h .strings) (λ j. subst (λ (w : Bytes). getD w j 0 < 256) (h .packs .bytes-are) (front-bytes bytes b (x .strings .used) j)) (x .base + (n - 1)) i)
+  pub argument-bytes : ((i : ℕ) → getD bytes i 0 < 256) → (n : ℕ) → 1 ≤ n → (i : ℕ) → getD (arg n args) i 0 < 256
+  argument-bytes b n l i =
+      subst (λ (w : Bytes). getD w i 0 < 256) (sym (argument-at n l)) (bytes-of (h .strings) (λ j. subst (λ (w : Bytes). getD w j 0 < 256) (h .packs .bytes-are) (front-bytes bytes b (x .strings .used) j)) (x .base + (n - 1)) i)
 
 pub argument-links : {bytes : Bytes} {ends : List ℕ} {x : Arguments} → SomeArguments bytes ends x → ArgumentLinks ends x
 argument-links {bytes} h = record { bytes = bytes; args = h .args; holds = h .holds }

@@ -176,7 +176,7 @@ pub table-is : {bytes : Bytes} {ends : List ℕ} {x : Arguments} {args : List By
     → {y z t : Bytes} → y ≡ arg 2 args → z ≡ arg 3 args → t ≡ partnerTable y z → (w : Bytes) → replaced t w ≡ transliterated y z w
 table-is h b {y} {z} {t} e f g w =
     ap (λ (u : Bytes). replaced u w) g
-    ∙ table-puts y z (λ i. subst (λ (v : Bytes). getD v i 0 < 256) (sym e) (argument-bytes h b 2 i)) (λ i. subst (λ (v : Bytes). getD v i 0 < 256) (sym f) (argument-bytes h b 3 i)) w
+    ∙ table-puts y z (λ i. subst (λ (v : Bytes). getD v i 0 < 256) (sym e) (argument-bytes h b 2 (omega arith) i)) (λ i. subst (λ (v : Bytes). getD v i 0 < 256) (sym f) (argument-bytes h b 3 (omega arith) i)) w
 
 module _ (s : State) (args : List Bytes) where
   pub translit-gives : {x y z : Bytes} → x ≡ arg 1 args → y ≡ arg 2 args → z ≡ arg 3 args → callTranslit args s ≡ next (resulting (transliterated y z x) s)
