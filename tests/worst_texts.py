@@ -16,6 +16,7 @@ END = 1  # the step that ends a run
 MACROS = ("changecom changequote decr define defn divert divnum dnl errprint eval ifdef ifelse incr index len m4exit m4wrap popdef pushdef shift substr translit "
           "undefine undivert").split()
 MOST_ARGUMENTS = 256
+LENT = 65536  # bytes of each buffer
 MANY = 64  # arguments, where each is long beside what it costs for itself
 SIGNS = b"`'" + bytes(b for b in range(256) if b not in b"`'")  # every byte, in an order that is balanced in quotes
 
@@ -217,6 +218,14 @@ def undivert_to_nowhere(n):
     return closed(before)
 
 
+def undivert_into_little(n):
+    """The output has room for streams 8 to 1, but for a byte less than waits in all nine: these are counted first. The end would not fit, so m4exit drops stream 9."""
+    numbers = range(8, 0, -1)
+    written = b"x" * (LENT - 9 * (n // 9) + 1)
+    before = joined(Piece(b"`%s'" % written, 1), nine_streams(n), made(b"divert", b"0"), opened(b"undivert", *(b"%d" % k for k in numbers)))
+    return closed(before, Piece(b"m4exit", 1), steps=0, number=1, output=written + in_order(n, numbers))
+
+
 def undivert_all(n):
     """Without arguments, beside a run that drops the streams."""
     before = joined(nine_streams(n), made(b"divert", b"0"))
@@ -289,6 +298,7 @@ WORST = {
     "undivert to the output": undivert_to_output,
     "undivert to a stream": undivert_to_stream,
     "undivert to nowhere": undivert_to_nowhere,
+    "undivert into little room": undivert_into_little,
     "undivert, all nine": undivert_all,
     "the end, nine streams": the_end,
     "a text of references": text_of_references,
