@@ -2,6 +2,7 @@
 use crate::arguments;
 use crate::arguments::Arguments;
 use crate::arguments::Span;
+use crate::limits::LARGEST;
 use crate::table;
 use crate::table::Definitions;
 use crate::table::Meaning;
@@ -106,11 +107,10 @@ pub(crate) fn substr(bytes: &[u8], ends: &[u32], x: Arguments) -> Cut
 {
     let text = arguments::place_of(ends, x, 1);
     let size = (text.end - text.start) as u32;
-    let Natural::Number(from) = arguments::natural_argument(bytes, ends, x, 2, 0, 2147483647) else {
+    let Natural::Number(from) = arguments::natural_argument(bytes, ends, x, 2, 0, LARGEST) else {
         return Cut::NoNumber;
     };
-    let Natural::Number(count) = arguments::natural_or(bytes, ends, x, 3, size, 0, 2147483647)
-    else {
+    let Natural::Number(count) = arguments::natural_or(bytes, ends, x, 3, size, 0, LARGEST) else {
         return Cut::NoNumber;
     };
     part_of(text, from as usize, count as usize)

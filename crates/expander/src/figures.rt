@@ -1,6 +1,9 @@
 // The macros whose result is a number: the number, to be written later, or why there is none.
 use crate::arguments;
 use crate::arguments::Arguments;
+use crate::limits::LARGEST;
+use crate::limits::LOWEST;
+use crate::limits::MINUS_ONE;
 use matching::Place;
 use numerals::Decimal;
 use numerals::Natural;
@@ -41,7 +44,7 @@ pub(crate) fn decr(bytes: &[u8], ends: &[u32], x: Arguments) -> Figure
     let Decimal::Number(bits) = arguments::decimal_argument(bytes, ends, x, 1) else {
         return Figure::NoNumber;
     };
-    if bits == 2147483648 {
+    if bits == LOWEST {
         return Figure::NoNumber;
     }
     let less = std::num::wrapping_sub_u32(bits, 1);
@@ -55,7 +58,7 @@ pub(crate) fn incr(bytes: &[u8], ends: &[u32], x: Arguments) -> Figure
     let Decimal::Number(bits) = arguments::decimal_argument(bytes, ends, x, 1) else {
         return Figure::NoNumber;
     };
-    if bits == 2147483647 {
+    if bits == LARGEST {
         return Figure::NoNumber;
     }
     let more = std::num::wrapping_add_u32(bits, 1);
@@ -91,8 +94,8 @@ pub(crate) fn index(bytes: &[u8], ends: &[u32], x: Arguments) -> Figure
             let bits = n as u32;
             plain(bits)
         }
-        Place::Nowhere => plain(4294967295),
-        Place::TooLong => plain(4294967295),
+        Place::Nowhere => plain(MINUS_ONE),
+        Place::TooLong => plain(MINUS_ONE),
     }
 }
 
@@ -116,7 +119,7 @@ fn shown(bytes: &[u8], ends: &[u32], x: Arguments, value: Evaluated) -> Figure
     let Natural::Number(radix) = arguments::natural_or(bytes, ends, x, 2, 10, 2, 36) else {
         return Figure::NoNumber;
     };
-    let Natural::Number(least) = arguments::natural_or(bytes, ends, x, 3, 0, 0, 2147483647) else {
+    let Natural::Number(least) = arguments::natural_or(bytes, ends, x, 3, 0, 0, LARGEST) else {
         return Figure::NoNumber;
     };
     valued(value, radix, least)

@@ -20,3 +20,10 @@ pub(crate) const TABLE_ENDS: usize = 2 * MOST_LENT;
 const MACROS: u32 = 24;
 
 pub(crate) const ALL_OWN: u32 = (1 << MACROS) - 1;
+
+// Numbers as bits: the largest, the lowest, and -1.
+pub(crate) const LARGEST: u32 = 2147483647;
+
+pub(crate) const LOWEST: u32 = 2147483648;
+
+pub(crate) const MINUS_ONE: u32 = 4294967295;

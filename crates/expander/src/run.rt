@@ -22,9 +22,9 @@ ghost use Rattle.expander.specs.Run.{Roomy, Leaves};
 
 // How a run ended: its answer, the completed steps, and the by-value part of the standing state.
 pub(crate) struct Halted {
-    pub answer: Answer,
-    pub steps: u32,
-    pub machine: Machine,
+    pub(crate) answer: Answer,
+    pub(crate) steps: u32,
+    pub(crate) machine: Machine,
 }
 
 // The machine at the start of a run, over a buffer for pending text of `from` bytes.

@@ -7,6 +7,9 @@ ghost use Rattle.rules.specs.Words.{signedValue, wrapped, truth};
 
 const HALF: u32 = 2147483648;
 
+// The largest bits, those of -1.
+const ALL: u32 = 4294967295;
+
 pub(crate) fn add(x: u32, y: u32) -> u32
     ensures { λ r. ⌜ r ≡ wrapped (signedValue x +ℤ signedValue y) ⌝ }
 {
@@ -34,7 +37,7 @@ pub(crate) fn multiply(x: u32, y: u32) -> u32
 fn magnitude(x: u32) -> u32
     ensures { λ r. ⌜ r ≡ natAbs (signedValue x) ⌝ }
 {
-    if x < HALF { x } else { 4294967295 - x + 1 }
+    if x < HALF { x } else { ALL - x + 1 }
 }
 
 pub(crate) fn divide(x: u32, y: u32) -> u32
@@ -73,7 +76,7 @@ pub(crate) fn shift_right(x: u32, n: u32) -> u32
     if x < HALF {
         x >> n
     } else {
-        4294967295 - ((4294967295 - x) >> n)
+        ALL - ((ALL - x) >> n)
     }
 }
 

@@ -9,6 +9,11 @@ ghost use Rattle.rules.specs.Words.{signedValue};
 ghost use Rattle.rules.specs.Numerals.{digitWorth, behind, natural, upTo, asSigned, number, digitByte, digitsIn, zeroFilled, writtenIn, decimal};
 ghost use Rattle.numerals.specs.Answers.{naturalOf, foundIn, worthOf, decimalOf, isRadix, lengthOf, Written};
 
+// The largest number, and the bits of the lowest.
+const LARGEST: u32 = 2147483647;
+
+const LOWEST: u32 = 2147483648;
+
 // One or more digits: the number that they write, where it is below 2 ^ 32.
 pub enum Natural {
     Number(u32),
@@ -88,7 +93,7 @@ fn unsigned(n: Natural) -> Decimal
     let Natural::Number(m) = n else {
         return Decimal::NoNumber;
     };
-    if m <= 2147483647 {
+    if m <= LARGEST {
         Decimal::Number(m)
     } else {
         Decimal::NoNumber
@@ -101,7 +106,7 @@ fn negated(n: Natural) -> Decimal
     let Natural::Number(m) = n else {
         return Decimal::NoNumber;
     };
-    if m <= 2147483648 {
+    if m <= LOWEST {
         Decimal::Number(std::num::wrapping_sub_u32(0, m))
     } else {
         Decimal::NoNumber
@@ -131,11 +136,7 @@ fn is_radix(radix: u32) -> bool
 fn magnitude(x: u32) -> u32
     ensures { λ r. ⌜ r ≡ natAbs (signedValue x) ⌝ }
 {
-    if x < 2147483648 {
-        x
-    } else {
-        4294967295 - x + 1
-    }
+    if x < LOWEST { x } else { 4294967295 - x + 1 }
 }
 
 fn digit_count(v: u32, radix: u32) -> usize
@@ -163,7 +164,7 @@ fn length_in(x: u32, radix: u32, least: u32) -> usize
     ensures { λ r. ⌜ r ≡ length (writtenIn radix least (signedValue x)) ⌝ }
 {
     let n = larger(least as usize, digit_count(magnitude(x), radix));
-    if x < 2147483648 { n } else { n + 1 }
+    if x < LOWEST { n } else { n + 1 }
 }
 
 // How many bytes `write_number` takes for a number.
@@ -240,7 +241,7 @@ fn fill_text(out: &mut [u8], x: u32, radix: u32)
     ensures { λ _. ⌜ ((least : ℕ) → length (writtenIn radix least (signedValue x)) ≡ length (now (out .entry)) → now (out .exit) ≡ writtenIn radix least (signedValue x)) ⌝ }
 {
     let m = magnitude(x);
-    if x < 2147483648 {
+    if x < LOWEST {
         fill(out, m, radix);
     } else {
         fill_minus(out, m, radix);
