@@ -125,102 +125,104 @@ fn fits(calls: &[u8], ends: &[u32], owners: &[u8], output: &[u8], k: Sinks, x: A
     count_streams(calls, ends, &mut counts, x) <= free
 }
 
-// Stream i goes behind the output, which has room for it.
-fn move_out(streams: &mut [u8], owners: &mut [u8], output: &mut [u8], k: Sinks, i: u8) -> Sinks
-    requires { ⌜ (k .waiting ≤ length (now streams)) × (k .waiting ≤ length (now owners)) × (k .output + ownedCount i (take (k .waiting) (now owners)) ≤ length (now output)) ⌝ }
-    ensures { λ r. ⌜ ((u : Streams) → SinksIn (now (streams .entry)) (now (owners .entry)) (now (output .entry)) k u → k .current ≡ 0 → IsStream i → SinksIn (now (streams .exit)) (now (owners .exit)) (now (output .exit)) r (moved i u)) ⌝ }
-{
-    let used = k.waiting;
-    let at = k.output;
-    let end = at + streams::count(owners, used, i);
-    streams::extract(streams, owners, used, i, &mut output[at..end]);
-    let waiting = streams::compact(streams, owners, used, i);
-    Sinks {
-        current: k.current,
-        waiting,
-        output: end,
-    }
-}
-
-// Stream i is moved to the current one.
-fn move_one(
-    streams: &mut [u8],
-    owners: &mut [u8],
-    output: &mut [u8],
-    scratch: &mut [u8],
-    k: Sinks,
-    i: u8,
-) -> Sinks
-    requires { ⌜ SomeSinks (now streams) (now owners) (now output) (now scratch) k (moved i) × IsStream i ⌝ }
-    ensures { λ r. ⌜ ((u : Streams) → SinksIn (now (streams .entry)) (now (owners .entry)) (now (output .entry)) k u → SinksIn (now (streams .exit)) (now (owners .exit)) (now (output .exit)) r (moved i u)) ⌝ }
-{
-    let current = k.current;
-    let used = k.waiting;
-    if current == 0 {
-        return move_out(streams, owners, output, k, i);
-    }
-    if 9 < current {
+impl Sinks {
+    // Stream i goes behind the output, which has room for it.
+    fn move_out(self, streams: &mut [u8], owners: &mut [u8], output: &mut [u8], i: u8) -> Sinks
+        requires { ⌜ (self .waiting ≤ length (now streams)) × (self .waiting ≤ length (now owners)) × (self .output + ownedCount i (take (self .waiting) (now owners)) ≤ length (now output)) ⌝ }
+        ensures { λ r. ⌜ ((u : Streams) → SinksIn (now (streams .entry)) (now (owners .entry)) (now (output .entry)) self u → self .current ≡ 0 → IsStream i → SinksIn (now (streams .exit)) (now (owners .exit)) (now (output .exit)) r (moved i u)) ⌝ }
+    {
+        let used = self.waiting;
+        let at = self.output;
+        let end = at + streams::count(owners, used, i);
+        streams::extract(streams, owners, used, i, &mut output[at..end]);
         let waiting = streams::compact(streams, owners, used, i);
-        return Sinks {
-            current,
+        Sinks {
+            current: self.current,
             waiting,
-            output: k.output,
-        };
+            output: end,
+        }
     }
-    let to = current as u8;
-    if to != i {
-        streams::move_stream(streams, owners, used, i, to, scratch);
-    }
-    k
-}
 
-// The same; a stream that was moved before costs no pass.
-fn move_new(
-    streams: &mut [u8],
-    owners: &mut [u8],
-    output: &mut [u8],
-    scratch: &mut [u8],
-    seen: &mut [u8; 10],
-    k: Sinks,
-    i: u32,
-) -> Sinks
-    requires { ⌜ SomeSinks (now streams) (now owners) (now output) (now scratch) k (moved i) × IsStream i ⌝ }
-    ensures { λ r. ⌜ ((u : Streams) → SinksIn (now (streams .entry)) (now (owners .entry)) (now (output .entry)) k u → Seen (now (seen .entry)) u → SinksIn (now (streams .exit)) (now (owners .exit)) (now (output .exit)) r (moved i u) × Seen (now (seen .exit)) (moved i u)) ⌝ }
-{
-    let at = i as usize;
-    if seen[at] != 0 {
-        return k;
+    // Stream i is moved to the current one.
+    fn move_one(
+        self,
+        streams: &mut [u8],
+        owners: &mut [u8],
+        output: &mut [u8],
+        scratch: &mut [u8],
+        i: u8,
+    ) -> Sinks
+        requires { ⌜ SomeSinks (now streams) (now owners) (now output) (now scratch) self (moved i) × IsStream i ⌝ }
+        ensures { λ r. ⌜ ((u : Streams) → SinksIn (now (streams .entry)) (now (owners .entry)) (now (output .entry)) self u → SinksIn (now (streams .exit)) (now (owners .exit)) (now (output .exit)) r (moved i u)) ⌝ }
+    {
+        let current = self.current;
+        let used = self.waiting;
+        if current == 0 {
+            return self.move_out(streams, owners, output, i);
+        }
+        if 9 < current {
+            let waiting = streams::compact(streams, owners, used, i);
+            return Sinks {
+                current,
+                waiting,
+                output: self.output,
+            };
+        }
+        let to = current as u8;
+        if to != i {
+            streams::move_stream(streams, owners, used, i, to, scratch);
+        }
+        self
     }
-    seen[at] = 1;
-    move_one(streams, owners, output, scratch, k, i as u8)
-}
 
-// The streams that the arguments name, or all nine, in turn.
-fn move_streams(
-    calls: &[u8],
-    ends: &[u32],
-    streams: &mut [u8],
-    owners: &mut [u8],
-    output: &mut [u8],
-    scratch: &mut [u8],
-    seen: &mut [u8; 10],
-    sinks: Sinks,
-    x: Arguments,
-) -> Sinks
-    requires { ⌜ StreamArguments (now calls) (now ends) x ⌝ }
-    requires { ⌜ ((args : List Bytes) → ArgumentsIn (now calls) (now ends) x args → SomeSinks (now streams) (now owners) (now output) (now scratch) sinks (movedInTurn (turns args))) ⌝ }
-    requires { ⌜ now seen ≡ replicate 10 0 ⌝ }
-    ensures { λ r. ⌜ ((u : Streams) (args : List Bytes) → SinksIn (now (streams .entry)) (now (owners .entry)) (now (output .entry)) sinks u → ArgumentsIn (now (calls .entry)) (now (ends .entry)) x args → SinksIn (now (streams .exit)) (now (owners .exit)) (now (output .exit)) r (movedInTurn (turns args) u)) ⌝ }
-{
-    let n = turn_count(x);
-    let mut k = sinks;
-    let mut j = 0;
-    while j < n {
-        let i = turn_stream(calls, ends, x, j);
-        k = move_new(streams, owners, output, scratch, seen, k, i);
-        j += 1;
+    // The same; a stream that was moved before costs no pass.
+    fn move_new(
+        self,
+        streams: &mut [u8],
+        owners: &mut [u8],
+        output: &mut [u8],
+        scratch: &mut [u8],
+        seen: &mut [u8; 10],
+        i: u32,
+    ) -> Sinks
+        requires { ⌜ SomeSinks (now streams) (now owners) (now output) (now scratch) self (moved i) × IsStream i ⌝ }
+        ensures { λ r. ⌜ ((u : Streams) → SinksIn (now (streams .entry)) (now (owners .entry)) (now (output .entry)) self u → Seen (now (seen .entry)) u → SinksIn (now (streams .exit)) (now (owners .exit)) (now (output .exit)) r (moved i u) × Seen (now (seen .exit)) (moved i u)) ⌝ }
+    {
+        let at = i as usize;
+        if seen[at] != 0 {
+            return self;
+        }
+        seen[at] = 1;
+        self.move_one(streams, owners, output, scratch, i as u8)
     }
-    k
+
+    // The streams that the arguments name, or all nine, in turn.
+    fn move_streams(
+        self,
+        calls: &[u8],
+        ends: &[u32],
+        streams: &mut [u8],
+        owners: &mut [u8],
+        output: &mut [u8],
+        scratch: &mut [u8],
+        seen: &mut [u8; 10],
+        x: Arguments,
+    ) -> Sinks
+        requires { ⌜ StreamArguments (now calls) (now ends) x ⌝ }
+        requires { ⌜ ((args : List Bytes) → ArgumentsIn (now calls) (now ends) x args → SomeSinks (now streams) (now owners) (now output) (now scratch) self (movedInTurn (turns args))) ⌝ }
+        requires { ⌜ now seen ≡ replicate 10 0 ⌝ }
+        ensures { λ r. ⌜ ((u : Streams) (args : List Bytes) → SinksIn (now (streams .entry)) (now (owners .entry)) (now (output .entry)) self u → ArgumentsIn (now (calls .entry)) (now (ends .entry)) x args → SinksIn (now (streams .exit)) (now (owners .exit)) (now (output .exit)) r (movedInTurn (turns args) u)) ⌝ }
+    {
+        let n = turn_count(x);
+        let mut k = self;
+        let mut j = 0;
+        while j < n {
+            let i = turn_stream(calls, ends, x, j);
+            k = k.move_new(streams, owners, output, scratch, seen, i);
+            j += 1;
+        }
+        k
+    }
 }
 
 // divert: another current stream.
@@ -257,17 +259,7 @@ pub(crate) fn undivert(
         return m.refused(Answer::Room(7));
     }
     let mut seen = [0u8; 10];
-    let k = move_streams(
-        calls,
-        ends,
-        streams,
-        owners,
-        output,
-        scratch,
-        &mut seen,
-        m.sinks,
-        x,
-    );
+    let k = m.sinks.move_streams(calls, ends, streams, owners, output, scratch, &mut seen, x);
     m.with_sinks(k).on()
 }
 

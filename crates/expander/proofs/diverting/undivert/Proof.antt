@@ -104,7 +104,7 @@ same-length-6 c = search needs
 returns-3 : tie.Need-returns-3
 returns-3 c =
     let k = c .before .before .before .before .before .before .before .before .before .before .move-streams in
-    let l = k .kept .1 .1 in
+    let l = k .kept .1 .1 .1 in
     λ a s b args r h.
     gives-by refl (c .on .ensures ∙ ap (turned went.On) (c .before .with-sinks .ensures))
     (undivert-on r args (all-named (c .before .before .before .before .before .before .before .before .before .before .before .before .before .before .before .before .before .before .before .before) args h) (k .ensures (s .streams) args (r .sinks) h) (l .0) (l .1 .0) (l .1 .1 .0))

@@ -1,9 +1,9 @@
--- `expander::diverting::move_out` meets its contract: the text stands behind the output and is taken out. Assumes nothing.
+-- `expander::sinks::Sinks::move_out` meets its contract: the text stands behind the output and is taken out. Assumes nothing.
 use native.Mathlib.Omega.{arith}
 use Rattle.expander.proofs.DivertingLaws.{out-moves}
 use borrow.Author.Needs.{needs}
-use Rattle.expander.proofs.diverting.move_out.Statement.{statement}
-use Rattle.expander.proofs.diverting.move_out.Tie as tie
+use Rattle.expander.proofs.sinks.Sinks.move_out.Statement.{statement}
+use Rattle.expander.proofs.sinks.Sinks.move_out.Tie as tie
 
 count-requires : tie.Need-count-requires
 count-requires c κs = search needs

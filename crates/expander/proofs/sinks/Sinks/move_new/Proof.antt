@@ -1,8 +1,8 @@
--- `expander::diverting::move_new` meets its contract: a stream that is marked is left alone; another is marked and moved. Assumes nothing.
+-- `expander::sinks::Sinks::move_new` meets its contract: a stream that is marked is left alone; another is marked and moved. Assumes nothing.
 use Rattle.expander.proofs.DivertingLaws.{seen-moves, seen-more}
 use borrow.Author.Needs.{needs}
-use Rattle.expander.proofs.diverting.move_new.Statement.{statement}
-use Rattle.expander.proofs.diverting.move_new.Tie as tie
+use Rattle.expander.proofs.sinks.Sinks.move_new.Statement.{statement}
+use Rattle.expander.proofs.sinks.Sinks.move_new.Tie as tie
 
 element-copy-out-if1 : tie.Need-element-copy-out-if1
 element-copy-out-if1 c = search needs

@@ -1,10 +1,10 @@
--- `expander::diverting::move_one` meets its contract: to the output, nowhere, behind the current stream, or it is the current one. Assumes nothing.
+-- `expander::sinks::Sinks::move_one` meets its contract: to the output, nowhere, behind the current stream, or it is the current one. Assumes nothing.
 use native.Mathlib.Omega.{arith}
 use mathlib.Core.Path.{sym}
 use Rattle.expander.proofs.DivertingLaws.{out-long, lost-moves, stream-moves, same-moves}
 use borrow.Author.Needs.{needs}
-use Rattle.expander.proofs.diverting.move_one.Statement.{statement}
-use Rattle.expander.proofs.diverting.move_one.Tie as tie
+use Rattle.expander.proofs.sinks.Sinks.move_one.Statement.{statement}
+use Rattle.expander.proofs.sinks.Sinks.move_one.Tie as tie
 
 move-out-requires : tie.Need-move-out-requires
 move-out-requires c κs =

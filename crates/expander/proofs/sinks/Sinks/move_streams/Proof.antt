@@ -1,4 +1,4 @@
--- `expander::diverting::move_streams` meets its contract: the loop keeps what the turns before made, for all streams and arguments that the buffers may hold. Assumes nothing.
+-- `expander::sinks::Sinks::move_streams` meets its contract: the loop keeps what the turns before made, for all streams and arguments that the buffers may hold. Assumes nothing.
 use Prim.Native.Nat.{_-_, _≤_, _<_}
 use native.Mathlib.Omega.{arith}
 use mathlib.Core.Path.{_≡_, refl, sym, subst, _∙_}
@@ -12,8 +12,8 @@ use Rattle.expander.specs.Sinks.{SinksIn}
 use Rattle.expander.specs.Diverting.{turns}
 use Rattle.expander.proofs.DivertingLaws.{Turning, turning-begins, turning-fits, turning-on, turning-ends}
 use Rattle.expander.proofs.Turns.{turn-each, few-turns}
-use Rattle.expander.proofs.diverting.move_streams.Statement.{statement}
-use Rattle.expander.proofs.diverting.move_streams.Tie as tie
+use Rattle.expander.proofs.sinks.Sinks.move_streams.Statement.{statement}
+use Rattle.expander.proofs.sinks.Sinks.move_streams.Tie as tie
 
 abbrev Inv-loop : tie.InvT-loop
 Inv-loop calls ends streams₀ owners₀ output₀ scratch₀ seen₀ x n k₀ j₀ streams owners output scratch seen k j =
@@ -79,10 +79,10 @@ loop-again c =
     let l = k .before .before .before .before .before .before .before in
     let i = l .before .loop in
     let r = k .move-new in (
-      r .kept .0 ∙ i .inv .0,
-      r .kept .1 .0 ∙ i .inv .1,
-      r .kept .1 .1 .0 ∙ i .inv .2,
-      r .kept .1 .1 .1 .0 ∙ i .inv .3,
+      r .kept .1 .0 ∙ i .inv .0,
+      r .kept .1 .1 .0 ∙ i .inv .1,
+      r .kept .1 .1 .1 .0 ∙ i .inv .2,
+      r .kept .1 .1 .1 .1 .0 ∙ i .inv .3,
       omega (arith, l .loop-test .taken),
       λ u args m h.
           let t = i .inv .5 u args m h in
