@@ -11,6 +11,7 @@ import os
 import re
 
 ITEM = re.compile(r'^impl (\w+) |^\}$|^( *)(pub |pub\(crate\) )?(?:extern "C" )?fn (\w+)\(', re.M)
+TYPE = re.compile(r"^(?:pub |pub\(crate\) )?(?:struct|enum) (\w+)", re.M)
 CALL = re.compile(r"(?:\b(\w+)::)?\b(\w+)\(")
 ERROR = re.compile(r"^\S+/proofs/((\S+)\.antt:\d+:\d+): (?:error: (?:`([^`\n]+)`: )?|(?=`([^`\n]+)` is not admitted: ))(.*)$", re.M)
 NO_PROOF = re.compile(r"^fn (\S+): no proof: .*`search` does not close (.*)$", re.M)
@@ -32,15 +33,18 @@ class Function:
 
 
 def functions_of(folder):
-    """{'MODULE/NAME': function} of a crate, a method's as 'MODULE/TYPE/NAME'."""
+    """{'MODULE/NAME': function} of a crate, a method's as 'MODULE/TYPE/NAME' with the module of its type, where its proof stands, whichever file has it."""
+    texts = {path: open(path, encoding="utf-8").read() for path in sorted(glob.glob(os.path.join(folder, "src", "*.rt")))}
+    modules = {path: os.path.basename(path)[: -len(".rt")] for path in texts}
+    homes = {name: modules[path] for path, text in texts.items() for name in TYPE.findall(text)}
     found = {}
-    for path in sorted(glob.glob(os.path.join(folder, "src", "*.rt"))):
-        text, module, owner = open(path, encoding="utf-8").read(), os.path.basename(path)[: -len(".rt")], None
+    for path, text in texts.items():
+        owner = None
         for item in ITEM.finditer(text):
             if item.group(4):
-                parts = [None if module in ("lib", "main") else module, owner, item.group(4)]
-                name = "/".join(filter(None, parts))
-                found[name] = Function(name, module, path, item, text)
+                home = homes.get(owner, modules[path])
+                name = "/".join(filter(None, [None if home in ("lib", "main") else home, owner, item.group(4)]))
+                found[name] = Function(name, modules[path], path, item, text)
             else:
                 owner = item.group(1)
     return found
@@ -79,6 +83,11 @@ def named_by(edit):
     return lines[0][len("function: ") :].strip().replace("::", "/") if len(lines) == 1 else None
 
 
+def has_remark(edit):
+    with open(edit, encoding="utf-8") as f:
+        return re.match(r"(function|file|old|new):|\s*$", f.readline()) is None
+
+
 def stands_at(old, text, start, end):
     """Where an old text stands in a body: as a whole line, or else as a part of one."""
     lines = [m.start(1) for m in re.finditer("^(%s)$" % re.escape(old), text[start:end], re.M)]
@@ -88,6 +97,8 @@ def stands_at(old, text, start, end):
 def places_of(edit, folder, functions):
     """[(path, place, old, new, function)] of an edit, and why it can't be tried, or None."""
     named, found = named_by(edit), []
+    if not has_remark(edit):
+        return found, "its first line is no remark that says which mistake it makes"
     if named not in functions:
         return found, "its line 'function:' names no function of the crate"
     parts = [functions[f] for f in sorted(parts_of(named, functions))]
