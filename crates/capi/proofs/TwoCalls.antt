@@ -1,4 +1,4 @@
--- Demand 3 of `quenhovach_expand` itself, in the six numbers of its report: room never shapes text. As for `expand`, it is stated over what
+-- Demand 3 of `quenhovach_expand` itself, in what it gives back and the six numbers of its report: room never shapes text. As for `expand`, it is stated over what
 -- a caller learns from the proved contract.
 use Prim.Native.Nat.{ℕ}
 use mathlib.Core.Path.{_≡_, refl, subst}
@@ -10,7 +10,7 @@ use denote.Ref.{now}
 use denote.Triple.Clauses.{AtExit}
 use Rattle.rules.specs.Bytes.{Bytes}
 use Rattle.rules.specs.declared.Report.{Report}
-use Rattle.rules.specs.Answers.{isStopped, numbers}
+use Rattle.rules.specs.Answers.{answerNumber, isStopped, numbers}
 use Rattle.rules.specs.Run.{Setting}
 use Rattle.rules.specs.Room.{Lendable, NowhereSmaller, stoppedBy}
 use Rattle.rules.specs.Contract.{Buffers, settingOf, reportOf, runIn, written, Agree}
@@ -22,18 +22,21 @@ use Rattle.capi.proofs.quenhovach_expand.Kinds as kinds
 use Rattle.capi.proofs.quenhovach_expand.Reads.{Learnt}
 
 -- the numbers of two reports agree as the reports do
-in-numbers : {a b : Setting} {r t : Report} {x y : Buffers} → Agree a b r t x y → AgreeInNumbers a b (numbers r) (numbers t) x y
+in-numbers :
+    {a b : Setting} {n m : ℕ} {r t : Report} {x y : Buffers} → n ≡ answerNumber (r .answer) → m ≡ answerNumber (t .answer) → Agree a b r t x y
+    → AgreeInNumbers a b n m (numbers r) (numbers t) x y
 unfolding numbers isStopped stoppedBy stoppedAt written writtenBytes
-in-numbers h = record { same = h .same; further = h .further; again = h .again }
+in-numbers e f h = record { given = (e, f); same = h .same; further = h .further; again = h .again }
 
 -- of any function that promises `Reported`
 pub reports-agree :
     (text : Bytes) (n m : ℕ) (before after before′ after′ : Buffers) (k k′ : ℕ) (r r′ : List ℕ) → Lendable (settingOf before′ m)
     → NowhereSmaller (settingOf before n) (settingOf before′ m) → Reported text n before after k r → Reported text m before′ after′ k′ r′
-    → AgreeInNumbers (settingOf before n) (settingOf before′ m) r r′ after after′
+    → AgreeInNumbers (settingOf before n) (settingOf before′ m) k k′ r r′ after after′
+unfolding reportOf
 reports-agree text n m b x b′ x′ k k′ r r′ l w e f =
     rw (e .report-is, f .report-is)
-    (in-numbers
+    (in-numbers (e .number-is) (f .number-is)
     (calls-agree text n m b x b′ x′ (reportOf (runIn text b n)) (reportOf (runIn text b′ m)) l w (record { report = refl; buffers = e .buffers-are })
     (record { report = refl; buffers = f .buffers-are })))
 
@@ -75,7 +78,7 @@ pub room-never-shapes-reports :
     (κs κs′ : Lfts 9) (a : Arguments κs) (a′ : Arguments κs′) (n : ResD signature κs) (n′ : ResD signature κs′) (x : Lasting κs) (x′ : Lasting κs′)
     → Learnt κs a n x → Learnt κs′ a′ n′ x′ → textOf κs′ a′ ≡ textOf κs a → Lendable (settingOf (lentTo κs′ a′) (budgetOf κs′ a′))
     → NowhereSmaller (settingOf (lentTo κs a) (budgetOf κs a)) (settingOf (lentTo κs′ a′) (budgetOf κs′ a′))
-    → AgreeInNumbers (settingOf (lentTo κs a) (budgetOf κs a)) (settingOf (lentTo κs′ a′) (budgetOf κs′ a′)) (reportIn κs x) (reportIn κs′ x′) (leftFrom κs x)
+    → AgreeInNumbers (settingOf (lentTo κs a) (budgetOf κs a)) (settingOf (lentTo κs′ a′) (budgetOf κs′ a′)) n n′ (reportIn κs x) (reportIn κs′ x′) (leftFrom κs x)
     (leftFrom κs′ x′)
 room-never-shapes-reports κs κs′ a a′ n n′ x x′ first second same lendable wider =
     reports-agree (textOf κs a) (budgetOf κs a) (budgetOf κs′ a′) (lentTo κs a) (leftFrom κs x) (lentTo κs′ a′) (leftFrom κs′ x′) n n′ (reportIn κs x) (reportIn κs′ x′)

@@ -28,8 +28,10 @@ writtenBytes r b = take (getD r 4 0) (b .output) ∷ take (getD r 5 0) (b .error
 unfoldable pub stoppedAt : Setting → List ℕ → ℕ
 stoppedAt a r = stopper (lengths a) (a .budget) (number r) (detail r)
 
--- r and x are the report and the buffers after the first call, under the setting a; t and y after the second, under b, nowhere smaller
-pub record AgreeInNumbers (a b : Setting) (r t : List ℕ) (x y : Buffers) : Type 0 where
+-- n, r and x are what the first call gives back, its report and the buffers after it, under the setting a; m, t and y after the second, under b,
+-- nowhere smaller
+pub record AgreeInNumbers (a b : Setting) (n m : ℕ) (r t : List ℕ) (x y : Buffers) : Type 0 where
+  pub given : (n ≡ number r) × (m ≡ number t)
   pub same : isStoppedNumber (number r) ≡ false → (t ≡ r) × (writtenBytes t y ≡ writtenBytes r x)
   pub further : isStoppedNumber (number r) ≡ true → steps r ≤ steps t
   pub again : isStoppedNumber (number r) ≡ true → stoppedAt a r ≡ stoppedAt b r → t ≡ r

@@ -16,10 +16,14 @@ enum Input {
 }
 
 // One byte more than a text may have: a longer one is then answered 2.
-fn text_buffer() -> [u8; 65537]
+const MOST_READ: usize = 65537;
+
+const BUDGET: u32 = 16777216;
+
+fn text_buffer() -> [u8; MOST_READ]
     ensures { λ r. ⌜ 65537 ≡ length r ⌝ }
 {
-    [0; 65537]
+    [0; MOST_READ]
 }
 
 // Reads standard input to its end, or until the buffer is full.
@@ -76,7 +80,7 @@ fn expand_text(text: &[u8]) {
         &mut wrap,
         &mut errors,
         &mut output,
-        16777216,
+        BUDGET,
     );
     let n = r.output as usize;
     let k = r.errors as usize;

@@ -22,11 +22,11 @@ use Rattle.rules.specs.declared.Evaluated.the-variants as evaluated
 use Rattle.rules.specs.Bytes.{Bytes}
 use Rattle.rules.specs.Answers.{noNumber}
 use Rattle.rules.specs.Streams.{joined}
-use Rattle.rules.specs.Words.{signedValue, wrapped}
+use Rattle.rules.specs.Words.{largest, signedValue, wrapped}
 use Rattle.rules.specs.Numerals.{number, decimal}
 use Rattle.rules.specs.Expression.{evaluation}
 use Rattle.rules.specs.Arguments.{arg, numberOr, bounded}
-use Rattle.rules.specs.Results.{Result, fails, counted, isNumber, needing, largest, decrResult, incrResult, divnumResult, evalResult, indexResult, lenResult, placeOr, shownResult, isUnreadable}
+use Rattle.rules.specs.Results.{Result, fails, counted, isNumber, needing, decrResult, incrResult, divnumResult, evalResult, indexResult, lenResult, placeOr, shownResult, isUnreadable}
 use Rattle.matching.specs.declared.Place.{Place}
 use Rattle.matching.specs.declared.Place.the-variants as place
 use Rattle.matching.specs.Places.{placed}

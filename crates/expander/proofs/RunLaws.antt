@@ -35,6 +35,7 @@ use Rattle.expander.specs.declared.events.Special.{Special}
 use Rattle.expander.specs.declared.stretch.Stop.the-variants as stop
 use Rattle.expander.specs.declared.stretch.Stretch.{Stretch}
 use Rattle.expander.specs.Front.{Front}
+use Rattle.expander.specs.Limits.{allOwn}
 use Rattle.expander.specs.Machine.{Memory, Limits, Means, Sound, Came, Gives}
 use Rattle.expander.specs.Verdict.{Verdict, going, over, denied, verdict, followed}
 use Rattle.expander.specs.Run.{Running, Leaves, halted, finishedReport, stoppedReport, haltedReport, Ran, SpecialNext, Reached, Stretched}
@@ -117,7 +118,7 @@ pub started :
       marks = marks;
       source = record { from = from; taken = 0 };
       calls = record { strings = record { count = 0; used = 0 }; opens = 0 };
-      table = record { packed = record { count = 0; used = 0 }; own = 16777215 };
+      table = record { packed = record { count = 0; used = 0 }; own = allOwn };
       sinks = record { current = 0; waiting = 0; output = 0 };
       wrap = 0;
       errors = 0;

@@ -183,8 +183,8 @@ pub record Reach (text pending : Bytes) (p : Position) (start n width : ℕ) : T
   pub some : start + n ≤ aheadOf text pending p
   pub whole : width ≤ aheadOf text pending p
 
--- what a function leaves, from the memory `before`, whose outcome is o, once room is judged. A refused step has written nothing: the
--- standing state is still meant
+-- what a function leaves, from the memory `before`, by the verdict on its outcome. A refused step has written nothing; of its machine nothing is
+-- said, since the caller has the one before it
 unfoldable pub Came : Setting → Memory → Memory → Turn → Verdict → Type 0
 Came a before b t (going s) = (t .went ≡ went.On) × Means a b (t .machine) s
 Came a before b t (over x s) = (t .went ≡ went.Ended x) × Means a b (t .machine) s

@@ -8,9 +8,9 @@ use lib.ListN.{length, take, drop}
 use Rattle.rules.specs.declared.Evaluated.{Evaluated}
 use Rattle.rules.specs.Bytes.{Bytes}
 use Rattle.rules.specs.Answers.{noNumber, noExpression, divisor}
-use Rattle.rules.specs.Words.{signedValue}
+use Rattle.rules.specs.Words.{largest, signedValue}
 use Rattle.rules.specs.Numerals.{writtenIn}
-use Rattle.rules.specs.Results.{Result, yields, fails, needing, largest, shownResult}
+use Rattle.rules.specs.Results.{Result, yields, fails, needing, shownResult}
 use Rattle.rules.specs.Arguments.{numberOr, bounded}
 use Rattle.numerals.specs.Answers.{isRadix}
 use Rattle.expander.specs.declared.figures.Figure.{Figure}

@@ -78,7 +78,7 @@ pub record Stretched (a : Setting) (b : Memory) (whole : Ended) (budget count : 
   pub few : r .left ≤ budget
   pub reached : Reached a b whole (count + (budget - r .left)) r (r .stop)
 
--- the same, copied out
+-- a run's report, and the lent buffers with its error text and output copied out
 pub record Wrote (e : Ended) (errors output errors′ output′ : Bytes) (r : Report) : Type 0 where
   pub report : r ≡ reportOf e
   pub errors-are : errors′ ≡ fronted (errorsOf e) errors

@@ -11,6 +11,7 @@ ghost use lib.ListN.{length};
 ghost use Rattle.rules.specs.Bytes.{Bytes};
 ghost use Rattle.rules.specs.Arguments.{arg, numberOr, bounded};
 ghost use Rattle.rules.specs.Numerals.{number};
+ghost use Rattle.rules.specs.Words.{largest};
 ghost use Rattle.numerals.specs.Answers.{decimalOf, naturalOf};
 ghost use Rattle.expander.specs.Arguments.{ArgumentsIn, SomeArguments, ArgumentLinks, SpanIs, bitsWithin};
 ghost use Rattle.expander.specs.Limits.{mostLent};
@@ -76,7 +77,7 @@ pub(crate) fn decimal_or(
     n: usize,
     default: u32,
 ) -> Decimal
-    requires { ⌜ SomeArguments (now bytes) (now ends) x × (1 ≤ n) × (n ≤ mostLent) × (default ≤ 2147483647) ⌝ }
+    requires { ⌜ SomeArguments (now bytes) (now ends) x × (1 ≤ n) × (n ≤ mostLent) × (default ≤ largest) ⌝ }
     ensures { λ r. ⌜ ((args : List Bytes) → ArgumentsIn (now (bytes .entry)) (now (ends .entry)) x args → r ≡ decimalOf (numberOr (pos default) n args)) ⌝ }
 {
     if count(x) < n {
@@ -110,7 +111,7 @@ pub(crate) fn natural_argument(
     low: u32,
     high: u32,
 ) -> Natural
-    requires { ⌜ SomeArguments (now bytes) (now ends) x × (1 ≤ n) × (n ≤ mostLent) × (high ≤ 2147483647) ⌝ }
+    requires { ⌜ SomeArguments (now bytes) (now ends) x × (1 ≤ n) × (n ≤ mostLent) × (high ≤ largest) ⌝ }
     ensures { λ r. ⌜ ((args : List Bytes) → ArgumentsIn (now (bytes .entry)) (now (ends .entry)) x args → r ≡ naturalOf (bounded low high (number (arg n args)))) ⌝ }
 {
     within(decimal_argument(bytes, ends, x, n), low, high)
@@ -126,7 +127,7 @@ pub(crate) fn natural_or(
     low: u32,
     high: u32,
 ) -> Natural
-    requires { ⌜ SomeArguments (now bytes) (now ends) x × (1 ≤ n) × (n ≤ mostLent) × (default ≤ 2147483647) × (high ≤ 2147483647) ⌝ }
+    requires { ⌜ SomeArguments (now bytes) (now ends) x × (1 ≤ n) × (n ≤ mostLent) × (default ≤ largest) × (high ≤ largest) ⌝ }
     ensures { λ r. ⌜ ((args : List Bytes) → ArgumentsIn (now (bytes .entry)) (now (ends .entry)) x args → r ≡ naturalOf (bounded low high (numberOr (pos default) n args))) ⌝ }
 {
     within(decimal_or(bytes, ends, x, n, default), low, high)

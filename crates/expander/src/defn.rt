@@ -19,7 +19,7 @@ ghost use Rattle.expander.specs.Arguments.{ArgumentsIn, SomeArguments, S
 ghost use Rattle.expander.specs.Table.{TableIn, SoundDefinitions};
 ghost use Rattle.expander.specs.Substitution.{Lays};
 ghost use Rattle.expander.specs.Defn.{measuredAs, namedResult};
-ghost use Rattle.expander.specs.Limits.{macroCount};
+ghost use Rattle.expander.specs.Limits.{macroCount, mostLent};
 ghost use Rattle.expander.specs.declared.defn.DefnLength.the-variants as defnLength;
 
 // How long texts are, or that one of the meanings is predefined and has no text.
@@ -46,7 +46,7 @@ fn named_length(
 ) -> DefnLength
     requires { ⌜ ShortQuotes marks × SoundDefinitions (now definitions) (now «table_ends») (t .packed) × (t .own < 2 ^ macroCount) ⌝ }
     ensures { λ r. ⌜ ((u : Table) → TableIn (now (definitions .entry)) (now («table_ends» .entry)) (t .packed) (t .own) u → r ≡ measuredAs (namedResult (markTexts marks) u (now (name .entry)))) ⌝ }
-    ensures { λ r. ⌜ ((n : ℕ) → r ≡ defnLength.Bytes n → n ≤ 65546) ⌝ }
+    ensures { λ r. ⌜ ((n : ℕ) → r ≡ defnLength.Bytes n → n ≤ mostLent + 10) ⌝ }
 {
     let p = t.packed;
     let own = t.own;

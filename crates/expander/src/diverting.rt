@@ -17,7 +17,7 @@ ghost use Rattle.rules.specs.Bytes.{Bytes};
 ghost use Rattle.rules.specs.Arguments.{arg};
 ghost use Rattle.rules.specs.State.{State, stop, withStreams};
 ghost use Rattle.rules.specs.Run.{Setting};
-ghost use Rattle.expander.specs.Limits.{mostLent};
+ghost use Rattle.expander.specs.Limits.{mostLent, callEndsLength};
 ghost use Rattle.expander.specs.Arguments.{ArgumentsIn, SomeArguments};
 ghost use Rattle.expander.specs.Machine.{Memory, Means, Gives, Sound, stringsAt, sinksAt};
 ghost use Rattle.rules.specs.Macros.{callDivert, callUndivert};
@@ -68,7 +68,7 @@ fn turn_count(x: Arguments) -> usize
 
 // The stream that is moved in turn k, from 0.
 fn turn_stream(calls: &[u8], ends: &[u32], x: Arguments, k: usize) -> u32
-    requires { ⌜ SomeArguments (now calls) (now ends) x × (k ≤ 320) ⌝ }
+    requires { ⌜ SomeArguments (now calls) (now ends) x × (k ≤ callEndsLength) ⌝ }
     ensures { λ r. ⌜ ((args : List Bytes) → ArgumentsIn (now (calls .entry)) (now (ends .entry)) x args → k < length (turns args) → r ≡ getD (turns args) k 0) ⌝ }
 {
     if arguments::count(x) == 0 {

@@ -29,7 +29,7 @@ pub(crate) fn own(owners: &mut [u8], from: usize, n: usize, i: u8)
 }
 
 // s behind stream i; returns how much is in use then.
-pub(crate) fn append(bytes: &mut [u8], owners: &mut [u8], used: usize, i: u8, s: &[u8]) -> usize
+fn append(bytes: &mut [u8], owners: &mut [u8], used: usize, i: u8, s: &[u8]) -> usize
     requires { ⌜ (used + length (now s) ≤ length (now bytes)) × (used + length (now s) ≤ length (now owners)) ⌝ }
     ensures { λ r. ⌜ (r ≡ used + length (now (s .entry))) × ((ws : List Bytes) → IsStream i → StreamsIn (now (bytes .entry)) (now (owners .entry)) used ws → StreamsIn (now (bytes .exit)) (now (owners .exit)) r (extended i (now (s .entry)) ws)) ⌝ }
 {

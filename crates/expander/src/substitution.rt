@@ -13,6 +13,7 @@ ghost use Rattle.rules.specs.Bytes.{Bytes};
 ghost use Rattle.rules.specs.Marks.{markTexts};
 ghost use Rattle.rules.specs.Numerals.{decimal};
 ghost use Rattle.rules.specs.Arguments.{substituted, commas, quotedEach};
+ghost use Rattle.rules.specs.Words.{largest};
 ghost use Rattle.expander.specs.Arguments.{ArgumentsIn, SomeArguments, ArgumentLinks, ShortQuotes};
 ghost use Rattle.expander.specs.Substitution.{parameterText, parameterWidth, OneDigit, Leads, Lays};
 ghost use Rattle.expander.specs.Limits.{mostLent};
@@ -93,7 +94,7 @@ fn parameter_length(name: &[u8], ends: &[u32], x: Arguments, marks: Marks, p: Pa
 
 // A number in decimal, into a buffer at a place; returns the place behind it.
 fn fill_decimal(n: usize, dst: &mut [u8], at: usize) -> usize
-    requires { ⌜ (n ≤ 2147483647) × (at + length (decimal (pos n)) ≤ length (now dst)) ⌝ }
+    requires { ⌜ (n ≤ largest) × (at + length (decimal (pos n)) ≤ length (now dst)) ⌝ }
     ensures { λ r. ⌜ Lays (now (dst .entry)) at (decimal (pos n)) (now (dst .exit)) r ⌝ }
 {
     let bits = n as u32;

@@ -17,7 +17,7 @@ pub(crate) fn apply_unary(u: Unary, w: Worked) -> Worked
         Unary::Minus => Worked::Number(words::negate(x)),
         Unary::Plus => w,
         Unary::Not => Worked::Number(words::truth_of(x == 0)),
-        Unary::Complement => Worked::Number(4294967295 - x),
+        Unary::Complement => Worked::Number(words::ALL - x),
     }
 }
 

@@ -4,6 +4,7 @@ ghost use Prim.Native.Nat.{_≤_};
 ghost use lib.ListN.{length};
 ghost use Rattle.rules.specs.Numerals.{natural, upTo};
 ghost use Rattle.rules.specs.Expression.{isX, literal, literalRead, literalAt};
+ghost use Rattle.rules.specs.Words.{largestBits};
 ghost use Rattle.expression.specs.Places.{ParsedWithin};
 use numerals::Natural;
 use rules::Parsed;
@@ -17,7 +18,7 @@ fn is_x(b: u8) -> bool
 
 // One or more digits of a radix, of a literal that ends at `end`.
 fn number_in(radix: u32, digits: &[u8], end: usize) -> Parsed
-    ensures { λ r. ⌜ r ≡ literalRead (upTo 4294967295 (natural radix (now (digits .entry)))) end ⌝ }
+    ensures { λ r. ⌜ r ≡ literalRead (upTo largestBits (natural radix (now (digits .entry)))) end ⌝ }
 {
     let number = numerals::read_natural(digits, radix);
     match number {

@@ -8,7 +8,7 @@ ghost use Rattle.rules.specs.Words.{signedValue, wrapped, truth};
 const HALF: u32 = 2147483648;
 
 // The largest bits, those of -1.
-const ALL: u32 = 4294967295;
+pub(crate) const ALL: u32 = 4294967295;
 
 pub(crate) fn add(x: u32, y: u32) -> u32
     ensures { λ r. ⌜ r ≡ wrapped (signedValue x +ℤ signedValue y) ⌝ }

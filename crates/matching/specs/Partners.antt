@@ -13,14 +13,21 @@ unfoldable pub isAmong : ℕ → Bytes → Bool
 isAmong x [] = false
 isAmong x (b ∷ bs) = elim (eqb b x) [ true ↦ true | false ↦ isAmong x bs ]
 
--- what stands for a byte, as an entry: the byte that stands there, or 257 for nothing
+-- entries that are no byte: the byte itself stands there, or nothing
+abbrev pub stays : ℕ
+stays = 256
+
+abbrev pub nothing : ℕ
+nothing = 257
+
+-- what stands for a byte, as an entry: the byte that stands there, or that it is nothing
 unfoldable pub standing : Bytes → ℕ
-standing [] = 257
+standing [] = nothing
 standing (y ∷ ys) = y
 
--- the entry of the byte x: what the rules put for it, or 256 for a byte that stays
+-- the entry of the byte x: what the rules put for it, if it is replaced
 unfoldable pub entryOf : Bytes → Bytes → ℕ → ℕ
-entryOf bs ys x = elim (isAmong x bs) [ true ↦ standing (partner bs ys x) | false ↦ 256 ]
+entryOf bs ys x = elim (isAmong x bs) [ true ↦ standing (partner bs ys x) | false ↦ stays ]
 
 -- the entries of n bytes from x on
 unfoldable pub entries : Bytes → Bytes → ℕ → ℕ → List ℕ
@@ -31,9 +38,9 @@ entries bs ys x (suc n) = entryOf bs ys x ∷ entries bs ys (suc x) n
 unfoldable pub partnerTable : Bytes → Bytes → List ℕ
 partnerTable bs ys = entries bs ys 0 256
 
--- what an entry puts for the byte x: the byte that it is, x itself (256), or nothing
+-- what an entry puts for the byte x: the byte that it is, x itself, or nothing
 unfoldable pub entryFor : ℕ → ℕ → Bytes
-entryFor x e = elim (ltb e 256) [ true ↦ e ∷ [] | false ↦ elim (eqb e 256) [ true ↦ x ∷ [] | false ↦ [] ] ]
+entryFor x e = elim (ltb e 256) [ true ↦ e ∷ [] | false ↦ elim (eqb e stays) [ true ↦ x ∷ [] | false ↦ [] ] ]
 
 -- what a table puts for x: a byte has an entry, and what is no byte stays
 unfoldable pub putBy : List ℕ → ℕ → Bytes

@@ -13,7 +13,14 @@ unfoldable pub placeOf : Option ℕ → Place
 placeOf none = Nowhere
 placeOf (some n) = At n
 
--- no answer only where the needle has more than 32,768 bytes and the text is no shorter
+-- the longest needle that takes the small table of borders, and the longest that is looked for
+abbrev pub shortNeedle : ℕ
+shortNeedle = 64
+
+abbrev pub longestNeedle : ℕ
+longestNeedle = 32768
+
+-- no answer only where the needle is longer and the text no shorter
 unfoldable pub placed : Bytes → Bytes → Place
 placed needle text =
-    elim (leb (length needle) (length text) && ltb 32768 (length needle)) [ true ↦ TooLong | false ↦ placeOf (firstPlace needle text) ]
+    elim (leb (length needle) (length text) && ltb longestNeedle (length needle)) [ true ↦ TooLong | false ↦ placeOf (firstPlace needle text) ]

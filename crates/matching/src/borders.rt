@@ -5,12 +5,17 @@ ghost use mathlib.Core.Path.{_≡_};
 ghost use Prim.Native.Nat.{_≤_, _<_};
 ghost use lib.ListN.{length};
 ghost use Rattle.rules.specs.Tokens.{firstPlace};
-ghost use Rattle.matching.specs.Places.{placeOf};
+ghost use Rattle.matching.specs.Places.{shortNeedle, longestNeedle, placeOf};
 ghost use Rattle.matching.specs.Borders.{Bordered};
+
+// Needles that take the small table of borders, and those that take the large one.
+pub(crate) const SHORT: usize = 64;
+
+pub(crate) const LONGEST: usize = 32768;
 
 // For each front of `needle`, how long its longest border is.
 fn fill(needle: &[u8], table: &mut [u16])
-    requires { ⌜ (0 < length (now needle)) × (length (now needle) ≤ 32768) × (length (now needle) ≤ length (now table)) ⌝ }
+    requires { ⌜ (0 < length (now needle)) × (length (now needle) ≤ longestNeedle) × (length (now needle) ≤ length (now table)) ⌝ }
     ensures { λ _. ⌜ Bordered (now (needle .entry)) (now (table .exit)) (length (now (needle .entry))) ⌝ }
 {
     table[0] = 0;
@@ -56,7 +61,7 @@ fn search(needle: &[u8], table: &[u16], text: &[u8]) -> Place
 
 // Both, in a table of the caller's.
 fn place(needle: &[u8], text: &[u8], table: &mut [u16]) -> Place
-    requires { ⌜ (0 < length (now needle)) × (length (now needle) ≤ 32768) × (length (now needle) ≤ length (now table)) ⌝ }
+    requires { ⌜ (0 < length (now needle)) × (length (now needle) ≤ longestNeedle) × (length (now needle) ≤ length (now table)) ⌝ }
     ensures { λ r. ⌜ r ≡ placeOf (firstPlace (now (needle .entry)) (now (text .entry))) ⌝ }
 {
     fill(needle, &mut *table);
@@ -64,18 +69,18 @@ fn place(needle: &[u8], text: &[u8], table: &mut [u16]) -> Place
 }
 
 pub(crate) fn place_short(needle: &[u8], text: &[u8]) -> Place
-    requires { ⌜ (0 < length (now needle)) × (length (now needle) ≤ 64) ⌝ }
+    requires { ⌜ (0 < length (now needle)) × (length (now needle) ≤ shortNeedle) ⌝ }
     ensures { λ r. ⌜ r ≡ placeOf (firstPlace (now (needle .entry)) (now (text .entry))) ⌝ }
 {
-    let mut table = [0u16; 64];
+    let mut table = [0u16; SHORT];
     place(needle, text, &mut table)
 }
 
 // Apart from the other, so that clearing the long table is not paid for a short needle.
 pub(crate) fn place_long(needle: &[u8], text: &[u8]) -> Place
-    requires { ⌜ (0 < length (now needle)) × (length (now needle) ≤ 32768) ⌝ }
+    requires { ⌜ (0 < length (now needle)) × (length (now needle) ≤ longestNeedle) ⌝ }
     ensures { λ r. ⌜ r ≡ placeOf (firstPlace (now (needle .entry)) (now (text .entry))) ⌝ }
 {
-    let mut table = [0u16; 32768];
+    let mut table = [0u16; LONGEST];
     place(needle, text, &mut table)
 }

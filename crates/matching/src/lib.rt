@@ -4,7 +4,7 @@ ghost use mathlib.Core.List.{[], _∷_};
 ghost use Prim.Native.Nat.{_<_};
 ghost use lib.ListN.{length};
 ghost use Rattle.matching.specs.Places.{placed};
-ghost use Rattle.matching.specs.Partners.{partnerTable, entryFor, replaced, Fitted};
+ghost use Rattle.matching.specs.Partners.{nothing, partnerTable, entryFor, replaced, Fitted};
 
 mod borders;
 
@@ -26,21 +26,26 @@ pub fn first_place(needle: &[u8], text: &[u8]) -> Place
     if needle.len() == 0 {
         return Place::At(0);
     }
-    if needle.len() <= 64 {
+    if needle.len() <= borders::SHORT {
         return borders::place_short(needle, text);
     }
-    if needle.len() <= 32768 {
+    if needle.len() <= borders::LONGEST {
         return borders::place_long(needle, text);
     }
     Place::TooLong
 }
 
-// A table of what stands for each byte: an entry below 256 is that byte, 256 says the byte itself, 257 nothing. For a byte of `from` its partner
+// Entries of a table of partners that are no byte: the byte itself stands there, or nothing.
+const STAYS: u16 = 256;
+
+const NOTHING: u16 = 257;
+
+// A table of what stands for each byte: an entry below 256 is that byte, else `STAYS` or `NOTHING`. For a byte of `from` its partner
 // stands there, the byte at the same place of `to`. They are entered from the last to the first, so that of a repeated byte the first counts.
 pub fn partners_of(from: &[u8], to: &[u8]) -> [u16; 256]
     ensures { λ r. ⌜ r ≡ partnerTable (now (from .entry)) (now (to .entry)) ⌝ }
 {
-    let mut table = [256u16; 256];
+    let mut table = [STAYS; 256];
     let mut i = from.len();
     while 0 < i {
         i -= 1;
@@ -48,7 +53,7 @@ pub fn partners_of(from: &[u8], to: &[u8]) -> [u16; 256]
         if i < to.len() {
             table[b] = to[i] as u16;
         } else {
-            table[b] = 257;
+            table[b] = NOTHING;
         }
     }
     table
@@ -63,7 +68,7 @@ pub fn translit_length(table: &[u16; 256], s: &[u8]) -> usize
     while i < s.len() {
         let b = s[i] as usize;
         i += 1;
-        if table[b] < 257 {
+        if table[b] < NOTHING {
             n += 1;
         }
     }
@@ -72,10 +77,10 @@ pub fn translit_length(table: &[u16; 256], s: &[u8]) -> usize
 
 // What an entry that deletes nothing puts for the byte b.
 fn put(t: u16, b: u8) -> u8
-    requires { ⌜ t < 257 ⌝ }
+    requires { ⌜ t < nothing ⌝ }
     ensures { λ r. ⌜ entryFor b t ≡ r ∷ [] ⌝ }
 {
-    if t < 256 {
+    if t < STAYS {
         return t as u8;
     }
     b
@@ -92,7 +97,7 @@ pub fn translit(table: &[u16; 256], s: &[u8], out: &mut [u8]) -> bool
         let b = s[i];
         let t = table[b as usize];
         i += 1;
-        if t < 257 {
+        if t < NOTHING {
             if j == out.len() {
                 return false;
             }

@@ -5,7 +5,7 @@ ghost use mathlib.Core.Bool.{true};
 ghost use Prim.Native.Nat.{ℕ, _+_, _-_, _≤_, _<_, max};
 ghost use lib.IntN.{pos, negℤ, natAbs};
 ghost use lib.ListN.{length, take, replicate};
-ghost use Rattle.rules.specs.Words.{signedValue};
+ghost use Rattle.rules.specs.Words.{largest, largestBits, signedValue};
 ghost use Rattle.rules.specs.Numerals.{digitWorth, behind, natural, upTo, asSigned, number, digitByte, digitsIn, zeroFilled, writtenIn, decimal};
 ghost use Rattle.numerals.specs.Answers.{naturalOf, foundIn, worthOf, decimalOf, isRadix, lengthOf, Written};
 
@@ -13,6 +13,9 @@ ghost use Rattle.numerals.specs.Answers.{naturalOf, foundIn, worthOf, de
 const LARGEST: u32 = 2147483647;
 
 const LOWEST: u32 = 2147483648;
+
+// The largest bits, those of -1.
+const LARGEST_BITS: u32 = 4294967295;
 
 // One or more digits: the number that they write, where it is below 2 ^ 32.
 pub enum Natural {
@@ -51,7 +54,7 @@ fn digit_worth(b: u8) -> u32
 
 // The byte b behind the digits of v.
 fn one_more(radix: u32, v: u32, b: u8) -> Natural
-    ensures { λ r. ⌜ r ≡ naturalOf (upTo 4294967295 (behind radix v (b ∷ []))) ⌝ }
+    ensures { λ r. ⌜ r ≡ naturalOf (upTo largestBits (behind radix v (b ∷ []))) ⌝ }
 {
     let d = digit_worth(b);
     if 36 <= d {
@@ -70,7 +73,7 @@ fn one_more(radix: u32, v: u32, b: u8) -> Natural
 
 // The digits of a radix that are the whole slice.
 pub fn read_natural(s: &[u8], radix: u32) -> Natural
-    ensures { λ r. ⌜ r ≡ naturalOf (upTo 4294967295 (natural radix (now (s .entry)))) ⌝ }
+    ensures { λ r. ⌜ r ≡ naturalOf (upTo largestBits (natural radix (now (s .entry)))) ⌝ }
 {
     if s.len() == 0 {
         return Natural::NoNumber;
@@ -88,7 +91,7 @@ pub fn read_natural(s: &[u8], radix: u32) -> Natural
 }
 
 fn unsigned(n: Natural) -> Decimal
-    ensures { λ r. ⌜ r ≡ decimalOf (asSigned pos (upTo 2147483647 (foundIn n))) ⌝ }
+    ensures { λ r. ⌜ r ≡ decimalOf (asSigned pos (upTo largest (foundIn n))) ⌝ }
 {
     let Natural::Number(m) = n else {
         return Decimal::NoNumber;
@@ -101,7 +104,7 @@ fn unsigned(n: Natural) -> Decimal
 }
 
 fn negated(n: Natural) -> Decimal
-    ensures { λ r. ⌜ r ≡ decimalOf (asSigned (λ m. negℤ (pos m)) (upTo 2147483648 (foundIn n))) ⌝ }
+    ensures { λ r. ⌜ r ≡ decimalOf (asSigned (λ m. negℤ (pos m)) (upTo (largest + 1) (foundIn n))) ⌝ }
 {
     let Natural::Number(m) = n else {
         return Decimal::NoNumber;
@@ -136,7 +139,7 @@ fn is_radix(radix: u32) -> bool
 fn magnitude(x: u32) -> u32
     ensures { λ r. ⌜ r ≡ natAbs (signedValue x) ⌝ }
 {
-    if x < LOWEST { x } else { 4294967295 - x + 1 }
+    if x < LOWEST { x } else { LARGEST_BITS - x + 1 }
 }
 
 fn digit_count(v: u32, radix: u32) -> usize

@@ -1,11 +1,11 @@
 -- How far the readers of an expression come: what they read ends within the list. Assumes nothing.
-use Prim.Native.Nat.{ℕ, zero, suc, _+_, _-_, _*_, _≤_, _<_}
+use Prim.Native.Nat.{ℕ, zero, suc, _+_, _-_, _≤_, _<_}
 use native.Mathlib.Omega.{arith}
 use mathlib.Core.Path.{_≡_, refl}
 use mathlib.Core.Bool.{Bool, true, false, cond}
 use mathlib.Core.List.{[], _∷_}
 use mathlib.Core.Option.{Option, none, some}
-use lib.Dec.{T, leb, ltb, eqb, leb→le}
+use lib.Dec.{ltb, eqb}
 use lib.ListN.{length, getD, take, drop, length-drop}
 use borrow.Author.Tests.{eqb-true}
 use Rattle.rules.specs.declared.Worked.{Worked}
@@ -119,14 +119,6 @@ operator-within s at h = (omega (arith, past-within s at h), go (getD s p 0) (ge
         let one : p + 1 ≤ length s = omega (arith, i (omega arith)) in
         let two : p + 2 ≤ length s = omega (arith, j (omega arith)) in
         search (either Fits, fits) depth 16
-
--- an operator has a byte at least: none has a level above 10 for each of its bytes
-pub operator-moves : (s : Bytes) (at : ℕ) → 1 ≤ (operatorAt s at) .level → at < (operatorAt s at) .end
-unfolding operatorAt operatorOf pastBlanks
-operator-moves s at h = omega (arith, leveled (getD s (pastBlanks s at) 0) (getD s (pastBlanks s at + 1) 0))
-  where
-    leveled : (b c : ℕ) → (operatorOf b c) .level ≤ 10 * (operatorOf b c) .end
-    leveled b c = leb→le _ _ (search (either (λ (o : Operator). T (leb (o .level) (10 * o .end)))) depth 16)
 
 closed-within : (s : Bytes) (n : ℕ) (r : Parsed) → Within 1 (length s) (closedBy s n r)
 unfolding closedBy

@@ -45,7 +45,10 @@ unfoldable pub firstWrong : ℕ → List Case → ℕ
 firstWrong n [] = 0
 firstWrong n (c ∷ cs) = elim (caseHolds c) [ true ↦ firstWrong (suc n) cs | false ↦ n ]
 
--- 01 "Budget and room are ample unless said"
+-- 01 "Budget and room are ample unless said": those of the program `expand`
+abbrev pub ampleBudget : ℕ
+ampleBudget = 16777216
+
 unfoldable pub budgeted : ℕ → Setting
 budgeted n =
     record {
@@ -60,7 +63,7 @@ budgeted n =
     }
 
 unfoldable pub ample : Setting
-ample = budgeted 16777216
+ample = budgeted ampleBudget
 
 -- lengths of the buffers 1, 2, 3 and 7, the others 0, as the third case names them
 unfoldable pub lending : ℕ → ℕ → ℕ → ℕ → Setting
@@ -73,7 +76,7 @@ lending pending calls definitions output =
       wrap = 0;
       errors = 0;
       output = output;
-      budget = 16777216;
+      budget = ampleBudget;
     }
 
 unfoldable pub case : String → Setting → Expected → Case

@@ -17,6 +17,7 @@ use Rattle.rules.specs.declared.Operator.{Operator}
 use Rattle.rules.specs.declared.Evaluated.{Evaluated}
 use Rattle.rules.specs.declared.Evaluated.the-variants as evaluated
 use Rattle.rules.specs.Bytes.{Bytes, isBlank, isDigit, nameLength}
+use Rattle.rules.specs.Words.{largestBits}
 use Rattle.rules.specs.Numerals.{natural, upTo}
 use Rattle.rules.specs.Operators.{operatorOf, unaryApplied, applied}
 
@@ -39,7 +40,7 @@ behindZero (x ∷ xs) = cond (isX x) (natural 16 xs) (natural 8 (x ∷ xs))
 -- 01 "Literals are decimal, octal or hexadecimal up to 4294967295"
 unfoldable pub literal : Bytes → Option ℕ
 literal [] = none
-literal (x ∷ xs) = upTo 4294967295 (cond (eqb x 48) (behindZero xs) (natural 10 (x ∷ xs)))
+literal (x ∷ xs) = upTo largestBits (cond (eqb x 48) (behindZero xs) (natural 10 (x ∷ xs)))
 
 unfoldable pub literalRead : Option ℕ → ℕ → Parsed
 literalRead none end = Unreadable

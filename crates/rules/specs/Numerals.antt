@@ -7,6 +7,7 @@ use lib.Dec.{leb, ltb, eqb}
 use lib.IntN.{ℤ, pos, negsuc, negℤ}
 use lib.ListN.{length, replicate}
 use Rattle.rules.specs.Bytes.{Bytes, isDigit, isLower, isUpper}
+use Rattle.rules.specs.Words.{largest}
 
 -- what a digit is worth: 0 to 9, then 10 to 35 for the letters. Another byte is no digit, whatever the radix
 unfoldable pub digitWorth : ℕ → Option ℕ
@@ -41,8 +42,8 @@ unfoldable pub number : Bytes → Option ℤ
 number [] = none
 number (x ∷ xs) =
     elim (eqb x 45) [
-      | true ↦ asSigned (λ n. negℤ (pos n)) (upTo 2147483648 (natural 10 xs))
-      | false ↦ asSigned pos (upTo 2147483647 (natural 10 (x ∷ xs)))
+      | true ↦ asSigned (λ n. negℤ (pos n)) (upTo (largest + 1) (natural 10 xs))
+      | false ↦ asSigned pos (upTo largest (natural 10 (x ∷ xs)))
     ]
 
 -- 0 to 9, then a to z: 01 "Digits above 9 are lower case"

@@ -1,5 +1,5 @@
 -- The operators of eval: their tokens, how closely they bind, and what they come to.
-use Prim.Native.Nat.{ℕ, _+_, _-_, _^_}
+use Prim.Native.Nat.{ℕ, _-_, _^_}
 use mathlib.Core.Bool.{not, cond}
 use lib.Bits.{bitAnd, bitOr, bitXor}
 use lib.Dec.{ltb, eqb}
@@ -14,7 +14,7 @@ use Rattle.rules.specs.declared.Strict.the-variants.{Mul, Div, Rem, Add,
 use Rattle.rules.specs.declared.Binary.{Binary}
 use Rattle.rules.specs.declared.Binary.the-variants as binary
 use Rattle.rules.specs.declared.Operator.{Operator}
-use Rattle.rules.specs.Words.{signedValue, wrapped, truth}
+use Rattle.rules.specs.Words.{largestBits, signedValue, wrapped, truth}
 
 -- an operator with its level and how long its token is; level 0: none
 abbrev pub operator : Binary → ℕ → ℕ → Operator
@@ -54,7 +54,7 @@ unaryApplied u Divisor = Divisor
 unaryApplied Minus (Number x) = Number (wrapped (negℤ (signedValue x)))
 unaryApplied Plus (Number x) = Number x
 unaryApplied Not (Number x) = Number (truth (eqb x 0))
-unaryApplied Complement (Number x) = Number (4294967295 - x)
+unaryApplied Complement (Number x) = Number (largestBits - x)
 
 -- both sides are worked out. 01 "zero divisor, or shift count outside 0 to 31": y is a count's bits, so a negative one is above 31;
 -- "Division truncates toward zero", "`>>` keeps the sign", "Truth is 1 or 0"

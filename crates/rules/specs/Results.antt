@@ -13,7 +13,7 @@ use Rattle.rules.specs.Bytes.{Bytes, sameBytes}
 use Rattle.rules.specs.Answers.{Fault, noNumber, noExpression, divisor, noText}
 use Rattle.rules.specs.Marks.{MarkTexts, quoted}
 use Rattle.rules.specs.Tokens.{firstPlace}
-use Rattle.rules.specs.Words.{signedValue}
+use Rattle.rules.specs.Words.{largest, signedValue}
 use Rattle.rules.specs.Numerals.{number, decimal, writtenIn}
 use Rattle.rules.specs.Expression.{evaluation}
 use Rattle.rules.specs.Table.{text, predefined, Table, meaningOf, isDefined}
@@ -27,10 +27,6 @@ pub data Result : Type 0 where
 unfoldable pub needing : Option ℕ → (ℕ → Result) → Result
 needing none f = fails noNumber
 needing (some n) f = f n
-
--- the largest number
-abbrev pub largest : ℕ
-largest = 2147483647
 
 -- 01 "within -2147483648 to 2147483647"
 unfoldable pub isNumber : ℤ → Bool

@@ -83,9 +83,14 @@ fn lent(text: &[u8], one: usize, two: usize, three: usize, seven: usize, budget:
     );
 }
 
-// The same in ample room.
+// Ample room.
+const MOST_LENT: usize = 65536;
+
+const BUDGET: u32 = 16777216;
+
+// The same in it.
 fn show(text: &[u8]) {
-    lent(text, 65536, 65536, 65536, 65536, 16777216);
+    lent(text, MOST_LENT, MOST_LENT, MOST_LENT, MOST_LENT, BUDGET);
 }
 
 // 01, "Worked texts", without a P.
