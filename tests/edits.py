@@ -26,7 +26,7 @@ def fault_of(edit, folder, functions):
         return "it left no log", ""
     said = open(log, encoding="utf-8", errors="replace").read()
     if "logic=not-proved" not in said or not REFUSAL.search(said):
-        return "its log has no refusal of a proof"
+        return "its log has no refusal of a proof", ""
     if not functions:
         return "refused because the proof file does not fit the edited code" if "has no `Need-" in said else None, ""
     places, fault = refused.places_of(edit, folder, functions)

@@ -68,11 +68,11 @@ def in_order(n, streams):
 
 
 def changecom(n):
-    return closed(opened(b"changecom", b"!", b"?", b"a" * n), Piece(b"!`a'?", 1), output=b"!`a'?", grows=False)
+    return closed(opened(b"changecom", b"!!!!!", b"?????", b"a" * n), Piece(b"!!!!!`a'?????", 1), output=b"!!!!!`a'?????", grows=False)
 
 
 def changequote(n):
-    return closed(opened(b"changequote", b"[", b"]", b"a" * n), Piece(b"[a`]", 1), output=b"a`", grows=False)
+    return closed(opened(b"changequote", b"[[[[[", b"]]]]]", b"a" * n), Piece(b"[[[[[a`]]]]]", 1), output=b"a`", grows=False)
 
 
 def decr(n):
@@ -122,12 +122,16 @@ def evaluate(n):
 
 
 def evaluate_wide(n):
-    """The number gets n digits, and each is a step."""
+    """The number gets n digits. Each of them is a step then, so the two runs differ by these too."""
     return closed(opened(b"eval", b"1", b"10", b"%d" % n), given=n, output=b"0" * (n - 1) + b"1")
 
 
-def ifdef(n):
+def ifdef_searches(n):
     return closed(joined(words(n), opened(b"ifdef", b"name99999", b"a", b"b")), given=1, output=b"b")
+
+
+def ifdef_copies(n):
+    return closed(opened(b"ifdef", b"len", b"b" * n), given=1, output=b"b" * n)
 
 
 def ifelse_compares(n):
@@ -280,7 +284,8 @@ WORST = {
     "errprint, 64 arguments": errprint,
     "eval, a long chain": evaluate,
     "eval, many digits": evaluate_wide,
-    "ifdef": ifdef,
+    "ifdef, a search": ifdef_searches,
+    "ifdef, a long text": ifdef_copies,
     "ifelse, 85 comparisons": ifelse_compares,
     "ifelse, a long text": ifelse_copies,
     "incr": incr,
