@@ -650,6 +650,7 @@ COMPLAINTS = [
     (["-", "b"], "one template only; 'b' is a second one"),
     (["-o"], "-o: its value is missing"),
     (["-o", ""], "-o: its value is missing"),
+    ([""], "the template's name is empty"),
     (["--report="], "--report: its value is missing"),
     (["-o", "a", "-o", "b"], "-o: it is given twice"),
     (["--output", "a"], "--output: it takes the sheet's length, 0 to 65536; the sheet's file is given with -o"),

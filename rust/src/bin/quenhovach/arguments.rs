@@ -109,6 +109,9 @@ impl Given {
             let second = name.to_string_lossy();
             return Err(format!("one template only; '{second}' is a second one"));
         }
+        if name.is_empty() {
+            return Err("the template's name is empty".to_string());
+        }
         self.input = Some(name);
         Ok(())
     }
