@@ -1,7 +1,7 @@
 //! The arithmetic of eval: reading an expression, working it out, writing its value.
 
 use crate::answer::Refusal;
-use crate::bytes::{is_blank, is_digit, is_word};
+use crate::bytes::{digit_value, is_blank, is_digit, is_word};
 use crate::expansion::Expansion;
 
 /// "At most 32 parentheses and unary operators may enclose a literal."
@@ -105,10 +105,8 @@ fn literal(token: &[u8]) -> Result<i32, Refusal> {
         return Err(Refusal::Expression);
     }
     let mut value = 0u64;
-    for &digit in digits {
-        let digit = char::from(digit)
-            .to_digit(radix)
-            .ok_or(Refusal::Expression)?;
+    for &byte in digits {
+        let digit = digit_value(byte, radix).ok_or(Refusal::Expression)?;
         value = (value * u64::from(radix) + u64::from(digit)).min(1 << 32);
     }
     let value = u32::try_from(value).map_err(|_| Refusal::Expression)?;

@@ -1,5 +1,6 @@
 //! Results that go in front of the text ahead, and defined text with its arguments put in.
 
+use crate::bytes::digit_value;
 use crate::marks::Pair;
 use crate::LIMIT;
 
@@ -117,19 +118,22 @@ fn add_parameter(
     arguments: &[Vec<u8>],
     quote: &Pair,
 ) -> bool {
-    match selector {
+    let Some(selector) = selector else {
+        return false;
+    };
+    match (selector, digit_value(selector, 10)) {
         // "`$0` is the name"
-        Some(b'0') => result.add(name),
+        (_, Some(0)) => result.add(name),
         // "`$1` to `$9` arguments (null if absent)"
-        Some(digit @ b'1'..=b'9') => {
-            if let Some(argument) = arguments.get(usize::from(digit - b'1')) {
+        (_, Some(digit)) => {
+            if let Some(argument) = arguments.get(usize::from(digit) - 1) {
                 result.add(argument);
             }
         }
         // "`$#` their number"
-        Some(b'#') => result.add(arguments.len().to_string().as_bytes()),
-        Some(b'*') => add_joined(result, arguments),
-        Some(b'@') => add_joined_quoted(result, arguments, quote),
+        (b'#', None) => result.add(arguments.len().to_string().as_bytes()),
+        (b'*', None) => add_joined(result, arguments),
+        (b'@', None) => add_joined_quoted(result, arguments, quote),
         _ => return false,
     }
     true
@@ -152,6 +156,24 @@ mod tests {
         assert_eq!(substituted("$*$@$#", &[]), "0");
         assert_eq!(substituted("$$1$10$a$", &["x"]), "$xx0$a$");
         assert_eq!(substituted("$1", &["$2", "b"]), "$2");
+        assert_eq!(
+            substituted(
+                "$9$8$1$0",
+                &["1", "2", "3", "4", "5", "6", "7", "8", "9", "10"]
+            ),
+            "981f"
+        );
+    }
+
+    #[test]
+    fn bytes_that_mean_something_behind_a_dollar() {
+        let quote = Pair::default_quote();
+        let stands_for_itself = |byte: &u8| {
+            let text = [b'$', *byte];
+            substitute(&text, b"f", &[], &quote) == Expansion::of(&text)
+        };
+        let others: Vec<u8> = (0..=255).filter(|byte| !stands_for_itself(byte)).collect();
+        assert_eq!(others, b"#*0123456789@");
     }
 
     #[test]

@@ -7,7 +7,7 @@
 //! The modules follow the paper: [`bytes`], [`marks`] and [`tokens`] read; [`calls`],
 //! [`definitions`], [`streams`] and [`ahead`] hold; [`numbers`], [`eval`], [`expansion`] and
 //! [`macros`] work; [`step`] and [`run`] join them. [`table`], [`random`], [`generate`] and
-//! [`demand3`] serve the two programs.
+//! [`demand3`] serve the programs `vectors` and `random`.
 
 pub mod ahead;
 pub mod answer;

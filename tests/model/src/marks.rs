@@ -1,7 +1,7 @@
 //! Quote and comment marks.
 
 use crate::answer::Refusal;
-use crate::bytes::{is_blank, is_word};
+use crate::bytes::{class, Class};
 
 /// A begin mark and its end mark.
 #[derive(Clone, Debug, PartialEq, Eq)]
@@ -56,7 +56,7 @@ impl Pair {
 /// 01: "No byte of it may be a letter, digit, underscore, parenthesis, comma, space, tab or
 /// newline".
 fn may_stand_in_mark(byte: u8) -> bool {
-    !is_word(byte) && !is_blank(byte) && !matches!(byte, b'(' | b')' | b',')
+    class(byte) == Class::Other && !matches!(byte, b'(' | b')' | b',')
 }
 
 /// 01: "A mark is 1 to 5 bytes long." and "An empty mark is refused."

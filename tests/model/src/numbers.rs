@@ -2,7 +2,7 @@
 //! to 2147483647".
 
 use crate::answer::Refusal;
-use crate::bytes::is_digit;
+use crate::bytes::digit_value;
 
 /// Reads all of the bytes as one number; "an empty one is refused (7)".
 pub fn read(bytes: &[u8]) -> Result<i32, Refusal> {
@@ -10,12 +10,14 @@ pub fn read(bytes: &[u8]) -> Result<i32, Refusal> {
         Some((b'-', digits)) => (true, digits),
         _ => (false, bytes),
     };
-    if digits.is_empty() || !digits.iter().all(|&byte| is_digit(byte)) {
+    if digits.is_empty() {
         return Err(Refusal::Number);
     }
-    let size = digits.iter().fold(0i64, |size, &digit| {
-        (size * 10 + i64::from(digit - b'0')).min(1 << 32)
-    });
+    let mut size = 0i64;
+    for &byte in digits {
+        let digit = digit_value(byte, 10).ok_or(Refusal::Number)?;
+        size = (size * 10 + i64::from(digit)).min(1 << 32);
+    }
     let value = if minus { -size } else { size };
     i32::try_from(value).map_err(|_| Refusal::Number)
 }
