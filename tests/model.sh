@@ -1,5 +1,5 @@
 #!/usr/bin/env bash
-# model.sh [SEED COUNT]: the independent model in tests/model: its own tests, all vectors, demand 3 on random pairs of settings, and
+# model.sh [SEED COUNT]: the independent model in tests/model: its own tests, all vectors, the class of every byte, demand 3 on random pairs of settings, and
 # COUNT random texts (default 250, seed 1) on which the definitions of crates/rules must agree with it.
 # Ends with 'N passed, M failed'; exit status 0 only if M is 0.
 set -u
@@ -48,6 +48,15 @@ target/release/vectors ../vectors.tsv >"$work/vectors" 2>&1
 status=$?
 echo "vectors: $(tail -n 1 "$work/vectors")"
 tally "$status" "$work/vectors"
+
+# what the program `vectors` has to print of each byte: its number, its class, and more
+if target/release/classes >"$work/classes" && [ "$(wc -l <"$work/classes")" -eq 256 ] && head -n 256 ../../crates/vectors/stdout | cut -d ' ' -f 1,2 | diff "$work/classes" -; then
+    echo 'the class of each of the 256 bytes: as the stored vectors have it'
+    passed=$((passed + 1))
+else
+    echo 'the class of a byte is not that of the stored vectors'
+    failed=$((failed + 1))
+fi
 
 if target/release/random --demand3 "$seed" 5000 >"$work/demand3" 2>&1 && [ "$(tail -n 1 "$work/demand3")" = '5000 pairs, 0 violations' ]; then
     echo 'demand 3 on 5000 random pairs of settings: none breaks it'

@@ -4,21 +4,39 @@ use native.Mathlib.Omega.{arith}
 use native.Mathlib.Numerals.{add-one}
 use native.Mathlib.Nat.{zero-add}
 use mathlib.Core.Path.{_≡_, refl, sym, ap, _∙_}
-use mathlib.Core.List.{[], _∷_, _++_, append-nil}
-use mathlib.Core.Bool.{Bool, true, false, _||_}
+use mathlib.Core.List.{List, [], _∷_, _++_, map, append-nil}
+use mathlib.Core.Bool.{Bool, true, false}
+use mathlib.Core.Logic.{inl, inr}
 use lib.Dec.{eqb, eqb·zero-suc, eqb·suc-suc}
-use lib.ListN.{length, take, drop, getD, set, drop-of-length-le}
+use lib.ListN.{length, replicate, take, drop, getD, set, drop-of-length-le}
 use lib.Seq.{drop-cons, paste-suc, take-length, drop-length}
 use borrow.Author.Tests.{eq-eqb, ne-eqb}
-use Rattle.rules.specs.Bytes.{Bytes, sameBytes, beginsName, continuesName, nameLength, allContinue, isName}
+use types.Run.{OneOf}
+use denote.Enum.Declared.{tagOf}
+use Rattle.rules.specs.declared.Class.{Class}
+use Rattle.rules.specs.declared.Class.the-variants as class
+use Rattle.rules.proofs.Class.{the-type}
+use Rattle.rules.specs.Bytes.{Bytes, classNumber, sameBytes, beginsName, continuesName, nameLength, allContinue, isName}
 use Rattle.ascii.specs.Copied.{Copied}
 
--- one class or another: r is the first test's answer
-pub first-class : (a b : Bool) {r : Bool} → r ≡ a → r ≡ true → true ≡ a || b
-first-class a b e t = rw (sym e ∙ t)
+-- a test that says b of each of these numbers says b of one of them
+says-of : (test : ℕ → Bool) (b : Bool) (ks : List ℕ) {n : ℕ} → OneOf ks n → map test ks ≡ replicate (length ks) b → b ≡ test n
+says-of test b [] h f = absurd h
+says-of test b (k ∷ []) h f = sym (ap test h ∙ ap (λ (l : List Bool). getD l 0 b) f)
+says-of test b (k ∷ k′ ∷ ks) (inl h) f = sym (ap test h ∙ ap (λ (l : List Bool). getD l 0 b) f)
+says-of test b (k ∷ k′ ∷ ks) (inr h) f = says-of test b (k′ ∷ ks) h (ap (drop 1) f)
 
-pub second-class : (a b : Bool) {r t : Bool} → r ≡ a → r ≡ false → t ≡ b → t ≡ a || b
-second-class a b e f g = rw (sym e ∙ f) g
+class-number : (c : Class) → tagOf the-type c ≡ classNumber c
+unfolding classNumber
+class-number class.Letter = refl
+class-number class.Digit = refl
+class-number class.Underscore = refl
+class-number class.Blank = refl
+class-number class.Other = refl
+
+-- what a test of classes by their numbers says, where a class came to an arm
+pub arm-says : (test : ℕ → Bool) (b : Bool) (ks : List ℕ) {r c : Class} → r ≡ c → OneOf ks (tagOf the-type r) → map test ks ≡ replicate (length ks) b → b ≡ test (classNumber c)
+arm-says test b ks {r} e h f = says-of test b ks h f ∙ ap test (class-number r) ∙ ap (λ (c : Class). test (classNumber c)) e
 
 name-more : (x : ℕ) (xs : Bytes) → continuesName x ≡ true → nameLength (x ∷ xs) ≡ suc (nameLength xs)
 unfolding nameLength

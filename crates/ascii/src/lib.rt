@@ -1,65 +1,107 @@
-// Byte classes and the shape of a name, by ranges, and two slices compared and copied. Every reader asks here what a byte is.
+// What class a byte has, and the shape of a name; and two slices compared and copied.
+use rules::Class;
 ghost use mathlib.Core.Path.{_≡_};
-ghost use Rattle.rules.specs.Bytes.{ranging, isUpper, isLower, isLetter, isDigit, isUnderscore, isBlank, beginsName, continuesName, nameLength, isName, sameBytes};
+ghost use Rattle.rules.specs.Bytes.{isUpper, isLower, classOf, isLetter, isDigit, isUnderscore, isBlank, beginsName, continuesName, nameLength, isName, sameBytes};
 ghost use Rattle.ascii.specs.Copied.{Copied};
 
-fn in_range(first: u8, last: u8, x: u8) -> bool
-    ensures { λ r. ⌜ r ≡ ranging first last x ⌝ }
+// The class of a byte, by ranges: every reader asks here. The bytes below the digits come first, so that the compiler makes each test below as short as
+// one with a range of its own (docs/DECISIONS.md, "Document 02").
+pub fn class_of(x: u8) -> Class
+    ensures { λ r. ⌜ r ≡ classOf x ⌝ }
 {
-    if first <= x { x <= last } else { false }
+    if x < b'0' {
+        return match x {
+            b'\t' | b'\n' | b' ' => Class::Blank,
+            _ => Class::Other,
+        };
+    }
+    if x <= b'9' {
+        return Class::Digit;
+    }
+    if is_upper(x) {
+        return Class::Letter;
+    }
+    if is_lower(x) {
+        return Class::Letter;
+    }
+    match x {
+        b'_' => Class::Underscore,
+        _ => Class::Other,
+    }
 }
 
+// The two cases of a letter, which only the worth of a digit in a radix tells apart.
 pub fn is_upper(x: u8) -> bool
     ensures { λ r. ⌜ r ≡ isUpper x ⌝ }
 {
-    in_range(65, 90, x)
+    match x {
+        b'A'..=b'Z' => true,
+        _ => false,
+    }
 }
 
 pub fn is_lower(x: u8) -> bool
     ensures { λ r. ⌜ r ≡ isLower x ⌝ }
 {
-    in_range(97, 122, x)
+    match x {
+        b'a'..=b'z' => true,
+        _ => false,
+    }
 }
 
 pub fn is_letter(x: u8) -> bool
     ensures { λ r. ⌜ r ≡ isLetter x ⌝ }
 {
-    if is_upper(x) { true } else { is_lower(x) }
+    match class_of(x) {
+        Class::Letter => true,
+        _ => false,
+    }
 }
 
 pub fn is_digit(x: u8) -> bool
     ensures { λ r. ⌜ r ≡ isDigit x ⌝ }
 {
-    in_range(48, 57, x)
+    match class_of(x) {
+        Class::Digit => true,
+        _ => false,
+    }
 }
 
 pub fn is_underscore(x: u8) -> bool
     ensures { λ r. ⌜ r ≡ isUnderscore x ⌝ }
 {
-    in_range(95, 95, x)
+    match class_of(x) {
+        Class::Underscore => true,
+        _ => false,
+    }
 }
 
 // A space, tab or newline.
 pub fn is_blank(x: u8) -> bool
     ensures { λ r. ⌜ r ≡ isBlank x ⌝ }
 {
-    if in_range(9, 10, x) {
-        true
-    } else {
-        in_range(32, 32, x)
+    match class_of(x) {
+        Class::Blank => true,
+        _ => false,
     }
 }
 
 pub fn begins_name(x: u8) -> bool
     ensures { λ r. ⌜ r ≡ beginsName x ⌝ }
 {
-    if is_letter(x) { true } else { is_underscore(x) }
+    match class_of(x) {
+        Class::Letter | Class::Underscore => true,
+        _ => false,
+    }
 }
 
 pub fn continues_name(x: u8) -> bool
     ensures { λ r. ⌜ r ≡ continuesName x ⌝ }
 {
-    if begins_name(x) { true } else { is_digit(x) }
+    match class_of(x) {
+        Class::Letter | Class::Digit | Class::Underscore => true,
+        _ => false,
+    }
 }
 
 // How many bytes at the front go on with a name.

@@ -1,4 +1,4 @@
--- What the token ahead calls for, by what the code goes by: the class of a byte, a name's meaning, the token. Assumes nothing.
+-- What the token ahead calls for, by what the code goes by: the role of a byte in a call, a name's meaning, the token. Assumes nothing.
 use Prim.Native.Nat.{ℕ, _-_, _≤_, _<_}
 use mathlib.Core.Path.{_≡_, sym, ap, subst, _∙_}
 use mathlib.Core.Bool.{Bool, true, false}
@@ -15,8 +15,8 @@ use Rattle.rules.specs.Source.{ahead}
 use Rattle.rules.specs.State.{Call, State, taking, withSource}
 use Rattle.rules.specs.Step.{act, step}
 use Rattle.rules.specs.Table.{Meaning, meaningOf}
-use Rattle.expander.specs.declared.events.Class.{Class}
-use Rattle.expander.specs.declared.events.Class.the-variants as class
+use Rattle.expander.specs.declared.events.Role.{Role}
+use Rattle.expander.specs.declared.events.Role.the-variants as role
 use Rattle.expander.specs.declared.events.Event.{Event}
 use Rattle.expander.specs.declared.events.Event.the-variants as event
 use Rattle.expander.specs.declared.events.Plain.the-variants as plain
@@ -28,28 +28,28 @@ use Rattle.expander.specs.declared.table.Meaning.the-variants as looked
 use Rattle.expander.specs.Calls.{CallsIn, bit}
 use Rattle.expander.specs.Events.{PlainWithin, SpecialWithin, EventWithin, PlainIs, SpecialIs, EventIs, NameFound}
 use Rattle.expander.specs.Machine.{Memory, Means, aheadOf}
-use Rattle.expander.specs.Step.{classed, Classifies, TokenWithin}
+use Rattle.expander.specs.Step.{byRole, HasRole, TokenWithin}
 use Rattle.expander.specs.Table.{Finds}
 use Rattle.expander.proofs.CallsLaws.{depth-in}
-use Rattle.expander.proofs.StepLaws.{no-calls, some-calls, calls-top, class-is, class-deep, byte-none, byte-some, named-nothing, known, named-known, named-opened, named-called, acts}
+use Rattle.expander.proofs.StepLaws.{no-calls, some-calls, calls-top, role-is, role-deep, byte-none, byte-some, named-nothing, known, named-known, named-opened, named-called, acts}
 
 -- ---- a byte
 
--- what a byte in a call calls for, by its class
-unfoldable pub classEvent : ℕ → Class → Event
-classEvent x class.Dropped = event.Plain plain.Skip
-classEvent x (class.Collected depth) = event.Plain (plain.Collect x depth)
-classEvent x class.Closes = event.Special special.Close
-classEvent x class.Separates = event.Plain plain.Separate
+-- what a byte in a call calls for, by its role
+unfoldable pub roleEvent : ℕ → Role → Event
+roleEvent x role.Dropped = event.Plain plain.Skip
+roleEvent x (role.Collected depth) = event.Plain (plain.Collect x depth)
+roleEvent x role.Closes = event.Special special.Close
+roleEvent x role.Separates = event.Plain plain.Separate
 
-pub class-within :
-    (text pending : Bytes) (m : Machine) (x : ℕ) (w : Class) → 0 < m .calls .opens → 1 ≤ aheadOf text pending (m .source)
-    → EventWithin text pending m (classEvent x w)
-unfolding classEvent EventWithin PlainWithin SpecialWithin
-class-within text pending m x class.Dropped o h = h
-class-within text pending m x (class.Collected depth) o h = (h, o)
-class-within text pending m x class.Closes o h = (h, o)
-class-within text pending m x class.Separates o h = (h, o)
+pub role-within :
+    (text pending : Bytes) (m : Machine) (x : ℕ) (w : Role) → 0 < m .calls .opens → 1 ≤ aheadOf text pending (m .source)
+    → EventWithin text pending m (roleEvent x w)
+unfolding roleEvent EventWithin PlainWithin SpecialWithin
+role-within text pending m x role.Dropped o h = h
+role-within text pending m x (role.Collected depth) o h = (h, o)
+role-within text pending m x role.Closes o h = (h, o)
+role-within text pending m x role.Separates o h = (h, o)
 
 module _ {a : Setting} {b : Memory} {m : Machine} {s : State} (r : Means a b m s) (x : ℕ) (e : step s ≡ act (token.Byte x) s) where
   -- no call is open
@@ -57,24 +57,24 @@ module _ {a : Setting} {b : Memory} {m : Machine} {s : State} (r : Means a b m s
   unfolding EventIs PlainIs act taking withSource
   emit-is z = e ∙ byte-none x (taking 1 s) (no-calls r z)
 
-  -- the innermost call's depth of parentheses, whether it collected a token, and the byte's class by these
-  module _ {depth collected : ℕ} {g : Class}
+  -- the innermost call's depth of parentheses, whether it collected a token, and the byte's role by these
+  module _ {depth collected : ℕ} {g : Role}
       (at : (bytes : Bytes) (ends : List ℕ) (c : Call) (cs : List Call) → CallsIn bytes ends (b .stack) (m .calls) (c ∷ cs) → depth ≡ c .depth)
       (has : (bytes : Bytes) (ends : List ℕ) (c : Call) (cs : List Call) → CallsIn bytes ends (b .stack) (m .calls) (c ∷ cs) → collected ≡ bit (c .collected))
-      (h : Classifies x depth collected g) where
-    call-step : {w : Class} → g ≡ w → (c : Call) (cs : List Call) → s .calls ≡ c ∷ cs → step s ≡ classed w x c cs (taking 1 s)
+      (h : HasRole x depth collected g) where
+    call-step : {w : Role} → g ≡ w → (c : Call) (cs : List Call) → s .calls ≡ c ∷ cs → step s ≡ byRole w x c cs (taking 1 s)
     unfolding act taking withSource
     call-step q c cs p =
         let k = calls-top r p in
-        e ∙ byte-some x (taking 1 s) c cs p ∙ class-is h q c cs (taking 1 s) (at _ _ c cs k) (has _ _ c cs k)
+        e ∙ byte-some x (taking 1 s) c cs p ∙ role-is h q c cs (taking 1 s) (at _ _ c cs k) (has _ _ c cs k)
 
-    pub class-event : (w : Class) → g ≡ w → 0 < m .calls .opens → EventIs s (classEvent x w)
-    unfolding classEvent EventIs PlainIs SpecialIs classed
-    class-event class.Dropped q o = let i = some-calls r o in call-step q (i .top) (i .rest) (i .is)
-    class-event (class.Collected depth) q o =
-        λ c cs p. let k = calls-top r p in (class-deep c h q (at _ _ c cs k) (depth-in k), call-step q c cs p)
-    class-event class.Closes q o = call-step q
-    class-event class.Separates q o = call-step q
+    pub role-event : (w : Role) → g ≡ w → 0 < m .calls .opens → EventIs s (roleEvent x w)
+    unfolding roleEvent EventIs PlainIs SpecialIs byRole
+    role-event role.Dropped q o = let i = some-calls r o in call-step q (i .top) (i .rest) (i .is)
+    role-event (role.Collected depth) q o =
+        λ c cs p. let k = calls-top r p in (role-deep c h q (at _ _ c cs k) (depth-in k), call-step q c cs p)
+    role-event role.Closes q o = call-step q
+    role-event role.Separates q o = call-step q
 
 -- ---- a name
 

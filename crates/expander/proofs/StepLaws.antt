@@ -29,15 +29,15 @@ use Rattle.expander.specs.declared.machine.Machine.{Machine}
 use Rattle.expander.specs.declared.machine.Turn.{Turn}
 use Rattle.expander.specs.declared.machine.Went.the-variants as went
 use Rattle.expander.specs.declared.source.Position.{Position}
-use Rattle.expander.specs.declared.events.Class.{Class}
-use Rattle.expander.specs.declared.events.Class.the-variants as class
+use Rattle.expander.specs.declared.events.Role.{Role}
+use Rattle.expander.specs.declared.events.Role.the-variants as role
 use Rattle.expander.specs.declared.table.Meaning.{Meaning as Looked}
 use Rattle.expander.specs.declared.table.Meaning.the-variants as looked
 use Rattle.expander.specs.Calls.{CallsIn, bit}
 use Rattle.expander.specs.Front.{Front}
 use Rattle.expander.specs.Machine.{Memory, Means, Sound, Gives, Reach, aheadOf, pendingAt, sourceSet, wrapSet, turned}
 use Rattle.expander.specs.Source.{SourceIn}
-use Rattle.expander.specs.Step.{classed, deepAt, Classifies, TokenWithin}
+use Rattle.expander.specs.Step.{byRole, deepAt, HasRole, TokenWithin}
 use Rattle.expander.specs.Table.{Finds, meaningFor}
 use Rattle.expander.specs.Tokens.{Within}
 use Rattle.expander.proofs.Parts.{part-all}
@@ -115,30 +115,30 @@ bit-some true f = refl
 bit-some false f = absurd (f refl)
 
 module _ (x d k : ℕ) where
-  pub class-left : x ≡ 40 → Classifies x d k (class.Collected (d + 1))
-  unfolding inCall classed deepAt
-  class-left e =
+  pub role-left : x ≡ 40 → HasRole x d k (role.Collected (d + 1))
+  unfolding inCall byRole deepAt
+  role-left e =
       record {
         is = λ c cs s ed ek. rw e (ap (λ (n : ℕ). next (withCalls (collecting (40 ∷ []) n c ∷ cs) s)) (omega (arith, ed)));
         deep = omega arith;
       }
 
-  pub class-closes : x ≡ 41 → d ≡ 0 → Classifies x d k class.Closes
-  unfolding inCall classed deepAt rightMet
-  class-closes e z = record { is = λ c cs s ed ek. rw e (ap (λ (n : ℕ). rightMet n c cs s) (ed ∙ z)); deep = omega arith }
+  pub role-closes : x ≡ 41 → d ≡ 0 → HasRole x d k role.Closes
+  unfolding inCall byRole deepAt rightMet
+  role-closes e z = record { is = λ c cs s ed ek. rw e (ap (λ (n : ℕ). rightMet n c cs s) (ed ∙ z)); deep = omega arith }
 
-  pub class-right : x ≡ 41 → (d ≡ 0 → ⊥) → Classifies x d k (class.Collected (d - 1))
-  unfolding inCall classed deepAt
-  class-right e f =
+  pub role-right : x ≡ 41 → (d ≡ 0 → ⊥) → HasRole x d k (role.Collected (d - 1))
+  unfolding inCall byRole deepAt
+  role-right e f =
       record { is = λ c cs s ed ek. rw e (ap (λ (n : ℕ). rightMet n c cs s) ed ∙ right-deep d c cs s f); deep = omega arith }
 
-  pub class-separates : x ≡ 44 → d ≡ 0 → Classifies x d k class.Separates
-  unfolding inCall classed deepAt commaAt
-  class-separates e z = record { is = λ c cs s ed ek. rw e (ap (λ (n : ℕ). commaAt n c cs s) (ed ∙ z)); deep = omega arith }
+  pub role-separates : x ≡ 44 → d ≡ 0 → HasRole x d k role.Separates
+  unfolding inCall byRole deepAt commaAt
+  role-separates e z = record { is = λ c cs s ed ek. rw e (ap (λ (n : ℕ). commaAt n c cs s) (ed ∙ z)); deep = omega arith }
 
-  pub class-comma : x ≡ 44 → (d ≡ 0 → ⊥) → Classifies x d k (class.Collected d)
-  unfolding inCall classed deepAt
-  class-comma e f =
+  pub role-comma : x ≡ 44 → (d ≡ 0 → ⊥) → HasRole x d k (role.Collected d)
+  unfolding inCall byRole deepAt
+  role-comma e f =
       record { is = λ c cs s ed ek. rw e (ap (λ (n : ℕ). commaAt n c cs s) ed ∙ comma-deep d c cs s f); deep = omega arith }
 
   module _ (e0 : x ≡ 40 → ⊥) (e1 : x ≡ 41 → ⊥) (e2 : x ≡ 44 → ⊥) where
@@ -149,9 +149,9 @@ module _ (x d k : ℕ) where
     kept-at : (c : Call) (cs : List Call) (s : State) → c .depth ≡ d → next (withCalls (collecting (x ∷ []) (c .depth) c ∷ cs) s) ≡ next (withCalls (collecting (x ∷ []) d c ∷ cs) s)
     kept-at c cs s ed = ap (λ (n : ℕ). next (withCalls (collecting (x ∷ []) n c ∷ cs) s)) ed
 
-    pub class-dropped : isBlank x ≡ true → k ≡ 0 → Classifies x d k class.Dropped
-    unfolding classed deepAt otherMet
-    class-dropped t z =
+    pub role-dropped : isBlank x ≡ true → k ≡ 0 → HasRole x d k role.Dropped
+    unfolding byRole deepAt otherMet
+    role-dropped t z =
         record { is = λ c cs s ed ek. other-in c cs s ∙ rw (t, bit-none (c .collected) (ek ∙ z), otherMet); deep = omega arith }
 
     blank-in : (c : Call) (cs : List Call) (s : State) → isBlank x ≡ true → c .collected ≡ true → otherMet x c cs s ≡ next (withCalls (collecting (x ∷ []) (c .depth) c ∷ cs) s)
@@ -159,27 +159,27 @@ module _ (x d k : ℕ) where
     blank-in c cs s t e =
         rw (t, otherMet) (ap (λ (b : Bool). elim b [ true ↦ next (withCalls (collecting (x ∷ []) (c .depth) c ∷ cs) s) | false ↦ next s ]) e)
 
-    pub class-blank : isBlank x ≡ true → (k ≡ 0 → ⊥) → Classifies x d k (class.Collected d)
-    unfolding classed deepAt
-    class-blank t f =
+    pub role-blank : isBlank x ≡ true → (k ≡ 0 → ⊥) → HasRole x d k (role.Collected d)
+    unfolding byRole deepAt
+    role-blank t f =
         record {
           is = λ c cs s ed ek. other-in c cs s ∙ blank-in c cs s t (bit-some (c .collected) (λ z. f (sym ek ∙ z))) ∙ kept-at c cs s ed;
           deep = omega arith;
         }
 
-    pub class-other : isBlank x ≡ false → Classifies x d k (class.Collected d)
-    unfolding classed deepAt otherMet
-    class-other t = record { is = λ c cs s ed ek. other-in c cs s ∙ rw (t, otherMet) (kept-at c cs s ed); deep = omega arith }
+    pub role-other : isBlank x ≡ false → HasRole x d k (role.Collected d)
+    unfolding byRole deepAt otherMet
+    role-other t = record { is = λ c cs s ed ek. other-in c cs s ∙ rw (t, otherMet) (kept-at c cs s ed); deep = omega arith }
 
--- what follows by the class
-pub class-is :
-    {x d k : ℕ} {r w : Class} → Classifies x d k r → r ≡ w → (c : Call) (cs : List Call) (s : State) → d ≡ c .depth → k ≡ bit (c .collected)
-    → inCall x c cs s ≡ classed w x c cs s
-class-is {x} h e c cs s ed ek = h .is c cs s (sym ed) (sym ek) ∙ ap (λ (y : Class). classed y x c cs s) e
+-- what follows by the role
+pub role-is :
+    {x d k : ℕ} {r w : Role} → HasRole x d k r → r ≡ w → (c : Call) (cs : List Call) (s : State) → d ≡ c .depth → k ≡ bit (c .collected)
+    → inCall x c cs s ≡ byRole w x c cs s
+role-is {x} h e c cs s ed ek = h .is c cs s (sym ed) (sym ek) ∙ ap (λ (y : Role). byRole y x c cs s) e
 
-pub class-deep : {x d k n : ℕ} {r : Class} (c : Call) → Classifies x d k r → r ≡ class.Collected n → d ≡ c .depth → c .depth ≤ length (c .current) → n ≤ length (c .current) + 1
+pub role-deep : {x d k n : ℕ} {r : Role} (c : Call) → HasRole x d k r → r ≡ role.Collected n → d ≡ c .depth → c .depth ≤ length (c .current) → n ≤ length (c .current) + 1
 unfolding deepAt
-class-deep c h e ed l = omega (arith, h .deep, ap deepAt e, ed, l)
+role-deep c h e ed l = omega (arith, h .deep, ap deepAt e, ed, l)
 
 -- ---- a byte
 

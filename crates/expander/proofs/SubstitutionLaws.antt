@@ -3,20 +3,21 @@ use Prim.Native.Nat.{ℕ, zero, suc, _+_, _-_, _/_, _%_, _≤_, _<_}
 use native.Mathlib.Numerals.{add-one}
 use native.Mathlib.Omega.{arith}
 use mathlib.Core.Path.{_≡_, refl, sym, ap, subst, _∙_}
-use mathlib.Core.Bool.{Bool, true, false, _&&_, true≢false}
+use mathlib.Core.Bool.{Bool, true, false}
 use mathlib.Core.List.{List, [], _∷_, _++_, append-assoc, append-nil}
 use mathlib.Core.Option.{Option, none, some}
-use borrow.Author.Tests.{eq-eqb, ne-eqb, leb-true}
+use borrow.Author.Tests.{eq-eqb, ne-eqb}
 use borrow.Rule.Slice.PartMut.{putMid}
-use lib.Dec.{leb, ltb}
+use lib.Dec.{ltb}
 use lib.IntN.{ℤ, pos}
 use lib.ListN.{length, take, drop, getD, set, replicate, length-append, length-take, length-drop, drop-of-length-le}
 use lib.Seq.{drop-cons, drop-drop, take-all, length-take-le}
-use Rattle.rules.specs.Bytes.{Bytes, isDigit, ranging}
+use Rattle.rules.specs.Bytes.{Bytes, isDigit}
 use Rattle.rules.specs.Marks.{MarkTexts}
 use Rattle.rules.specs.Words.{signedValue}
 use Rattle.rules.specs.Numerals.{digitsBy, digitsIn, digitByte, zeroFilled, writtenIn, decimal}
 use Rattle.rules.specs.Arguments.{parameter, parameterAt, substituted}
+use Rattle.rules.proofs.Classes.{digit-bounds, a-digit, no-digit}
 use Rattle.numerals.specs.Answers.{Written}
 use Rattle.expander.specs.Substitution.{parameterText, parameterWidth, OneDigit, Leads, Lays}
 use Rattle.expander.specs.declared.substitution.Parameter.{Parameter}
@@ -46,15 +47,6 @@ leads-last : (x : ℕ) → Leads (x ∷ []) (kind.Literal x)
 unfolding parameterText parameterWidth OneDigit substituted
 leads-last x = record { is = λ name args m. refl; within = omega arith; digit = tt }
 
-pub digit-range : {y : ℕ} → isDigit y ≡ true → (48 ≤ y) × (y ≤ 57)
-unfolding isDigit ranging
-digit-range {y} e = both (leb 48 y) (leb y 57) refl refl e
-  where
-    both : (a b : Bool) → leb 48 y ≡ a → leb y 57 ≡ b → a && b ≡ true → (48 ≤ y) × (y ≤ 57)
-    both true true p q r = (leb-true 48 y p, leb-true y 57 q)
-    both true false p q r = absurd (true≢false (sym r))
-    both false b p q r = absurd (true≢false (sym r))
-
 module _ (y : ℕ) (ys : Bytes) where
   -- `$` and a byte that has a meaning behind it
   leads-named : (p : Parameter) → ((name : Bytes) (args : List Bytes) (m : MarkTexts) → parameter name args m y ≡ some (parameterText name args m p))
@@ -67,26 +59,26 @@ module _ (y : ℕ) (ys : Bytes) where
   }
 
   pub leads-name : y ≡ 48 → Leads (36 ∷ y ∷ ys) kind.Name
-  unfolding parameter parameterText parameterWidth OneDigit isDigit ranging
-  leads-name e = leads-named kind.Name (λ name args m. rw e) refl tt
+  unfolding parameter parameterText parameterWidth OneDigit
+  leads-name e = leads-named kind.Name (λ name args m. rw (a-digit y (omega arith) (omega arith), eq-eqb y 48 e, parameter)) refl tt
 
   pub leads-count : y ≡ 35 → Leads (36 ∷ y ∷ ys) kind.Count
-  unfolding parameter parameterText parameterWidth OneDigit isDigit ranging
-  leads-count e = leads-named kind.Count (λ name args m. rw e) refl tt
+  unfolding parameter parameterText parameterWidth OneDigit
+  leads-count e = leads-named kind.Count (λ name args m. rw (no-digit y (λ h k. omega arith), eq-eqb y 35 e, parameter)) refl tt
 
   pub leads-all : y ≡ 42 → Leads (36 ∷ y ∷ ys) kind.All
-  unfolding parameter parameterText parameterWidth OneDigit isDigit ranging
-  leads-all e = leads-named kind.All (λ name args m. rw e) refl tt
+  unfolding parameter parameterText parameterWidth OneDigit
+  leads-all e = leads-named kind.All (λ name args m. rw (no-digit y (λ h k. omega arith), ne-eqb y 35 (λ q. omega arith), eq-eqb y 42 e, parameter)) refl tt
 
   pub leads-quoted : y ≡ 64 → Leads (36 ∷ y ∷ ys) kind.Quoted
-  unfolding parameter parameterText parameterWidth OneDigit isDigit ranging
-  leads-quoted e = leads-named kind.Quoted (λ name args m. rw e) refl tt
+  unfolding parameter parameterText parameterWidth OneDigit
+  leads-quoted e = leads-named kind.Quoted (λ name args m. rw (no-digit y (λ h k. omega arith), ne-eqb y 35 (λ q. omega arith), ne-eqb y 42 (λ q. omega arith), eq-eqb y 64 e, parameter)) refl tt
 
   -- a digit but 0
   pub leads-argument : isDigit y ≡ true → (y ≡ 48 → ⊥) → Leads (36 ∷ y ∷ ys) (kind.Argument (y - 48))
   unfolding parameter parameterText parameterWidth OneDigit
   leads-argument e n =
-      let r = digit-range e in
+      let r = digit-bounds y e in
       leads-named (kind.Argument (y - 48)) (λ name args m. rw (e, ne-eqb y 48 n, parameter)) refl (omega arith, omega arith)
 
   -- a byte without a meaning

@@ -8,28 +8,28 @@ use Rattle.rules.specs.Bytes.{Bytes}
 use Rattle.rules.specs.State.{Call, State, Outcome, next, withCalls}
 use Rattle.rules.specs.Step.{collecting, closed, commaMet, inCall}
 use Rattle.expander.specs.declared.source.Position.{Position}
-use Rattle.expander.specs.declared.events.Class.{Class}
-use Rattle.expander.specs.declared.events.Class.the-variants as class
+use Rattle.expander.specs.declared.events.Role.{Role}
+use Rattle.expander.specs.declared.events.Role.the-variants as role
 use Rattle.expander.specs.Calls.{bit}
 use Rattle.expander.specs.Machine.{aheadOf}
 
--- what follows from the byte x of a class
-unfoldable pub classed : Class → ℕ → Call → List Call → State → Outcome
-classed class.Dropped x c cs s = next s
-classed (class.Collected depth) x c cs s = next (withCalls (collecting (x ∷ []) depth c ∷ cs) s)
-classed class.Closes x c cs s = closed c cs s
-classed class.Separates x c cs s = commaMet c cs s
+-- what follows from the byte x of a role
+unfoldable pub byRole : Role → ℕ → Call → List Call → State → Outcome
+byRole role.Dropped x c cs s = next s
+byRole (role.Collected depth) x c cs s = next (withCalls (collecting (x ∷ []) depth c ∷ cs) s)
+byRole role.Closes x c cs s = closed c cs s
+byRole role.Separates x c cs s = commaMet c cs s
 
 -- the depth of parentheses that a byte leaves
-unfoldable pub deepAt : Class → ℕ
-deepAt class.Dropped = 0
-deepAt (class.Collected depth) = depth
-deepAt class.Closes = 0
-deepAt class.Separates = 0
+unfoldable pub deepAt : Role → ℕ
+deepAt role.Dropped = 0
+deepAt (role.Collected depth) = depth
+deepAt role.Closes = 0
+deepAt role.Separates = 0
 
--- r is the class of the byte x in a call with so many parentheses open in the argument, which collected a token or did not
-pub record Classifies (x depth collected : ℕ) (r : Class) : Type 0 where
-  pub is : (c : Call) (cs : List Call) (s : State) → c .depth ≡ depth → bit (c .collected) ≡ collected → inCall x c cs s ≡ classed r x c cs s
+-- r is the role of the byte x in a call with so many parentheses open in the argument, which collected a token or did not
+pub record HasRole (x depth collected : ℕ) (r : Role) : Type 0 where
+  pub is : (c : Call) (cs : List Call) (s : State) → c .depth ≡ depth → bit (c .collected) ≡ collected → inCall x c cs s ≡ byRole r x c cs s
   pub deep : deepAt r ≤ depth + 1
 
 -- the places of a token lie in the text ahead

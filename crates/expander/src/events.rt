@@ -21,7 +21,7 @@ ghost use Rattle.rules.specs.Step.{act, step};
 ghost use Rattle.expander.specs.Events.{EventWithin, EventIs};
 ghost use Rattle.expander.specs.Machine.{Memory, Means, Sound, Reach, aheadOf, textAt, pendingAt, stackAt, definitionsAt};
 ghost use Rattle.expander.specs.Source.{SourceIn};
-ghost use Rattle.expander.specs.Step.{Classifies, TokenWithin};
+ghost use Rattle.expander.specs.Step.{HasRole, TokenWithin};
 ghost use Rattle.expander.specs.Limits.{mostLent};
 
 // n bytes ahead from `start` on go where text goes, and `width` bytes are taken; a byte goes to the current stream; the innermost call
@@ -67,7 +67,7 @@ fn opens(text: &[u8], pending: &[u8], p: Position, n: usize) -> bool
 }
 
 // What a byte does in a call: nothing, it is collected at a depth of parentheses, it closes the call, or it ends the argument.
-enum Class {
+enum Role {
     Dropped,
     Collected(u32),
     Closes,
@@ -75,32 +75,32 @@ enum Class {
 }
 
 // What the byte x does in a call with so many parentheses open in the argument, which collected a token or did not.
-fn classify(x: u8, depth: u32, collected: u32) -> Class
+fn role_of(x: u8, depth: u32, collected: u32) -> Role
     requires { ⌜ depth < 4294967295 ⌝ }
-    ensures { λ r. ⌜ Classifies x depth collected r ⌝ }
+    ensures { λ r. ⌜ HasRole x depth collected r ⌝ }
 {
     match x {
-        40 => Class::Collected(depth + 1),
+        40 => Role::Collected(depth + 1),
         41 => {
             if depth == 0 {
-                return Class::Closes;
+                return Role::Closes;
             }
-            Class::Collected(depth - 1)
+            Role::Collected(depth - 1)
         }
         44 => {
             if depth == 0 {
-                return Class::Separates;
+                return Role::Separates;
             }
-            Class::Collected(depth)
+            Role::Collected(depth)
         }
         _ => {
             if ascii::is_blank(x) {
                 if collected == 0 {
-                    return Class::Dropped;
+                    return Role::Dropped;
                 }
-                return Class::Collected(depth);
+                return Role::Collected(depth);
             }
-            Class::Collected(depth)
+            Role::Collected(depth)
         }
     }
 }
@@ -116,11 +116,11 @@ fn byte_event(stack: &[u32], m: Machine, x: u8) -> Event
     }
     let depth = calls::depth(stack, m.calls);
     let collected = calls::has_collected(stack, m.calls);
-    match classify(x, depth, collected) {
-        Class::Dropped => Event::Plain(Plain::Skip),
-        Class::Collected(d) => Event::Plain(Plain::Collect { byte: x, depth: d }),
-        Class::Closes => Event::Special(Special::Close),
-        Class::Separates => Event::Plain(Plain::Separate),
+    match role_of(x, depth, collected) {
+        Role::Dropped => Event::Plain(Plain::Skip),
+        Role::Collected(d) => Event::Plain(Plain::Collect { byte: x, depth: d }),
+        Role::Closes => Event::Special(Special::Close),
+        Role::Separates => Event::Plain(Plain::Separate),
     }
 }
 

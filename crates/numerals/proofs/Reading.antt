@@ -5,7 +5,7 @@ use native.Mathlib.Nat.{le-of-eq, mul-le-mul, mul-le-mul-left}
 use native.Mathlib.Numerals.{add-one}
 use mathlib.Core.Path.{_≡_, refl, sym, ap, subst, _∙_}
 use mathlib.Core.List.{[], _∷_}
-use mathlib.Core.Bool.{Bool, true, false, _&&_}
+use mathlib.Core.Bool.{Bool, true, false}
 use mathlib.Core.Option.{Option, none, some}
 use mathlib.Core.Logic.{_⊎_, inl, inr}
 use lib.Dec.{leb, ltb}
@@ -13,30 +13,14 @@ use lib.IntN.{ℤ, pos, negℤ}
 use lib.ListN.{length, take, drop, getD, drop-of-length-le, length-drop}
 use lib.Seq.{drop-cons, take-all}
 use borrow.Author.Tests.{le-leb, lt-leb, leb-true, leb-false, lt-ltb, le-ltb, ltb-true, ltb-false, eq-eqb, ne-eqb}
-use Rattle.rules.specs.Bytes.{Bytes, ranging, isDigit, isLower, isUpper}
+use Rattle.rules.specs.Bytes.{Bytes, isDigit, isLower, isUpper}
 use Rattle.rules.specs.Words.{wrapped}
 use Rattle.rules.specs.Numerals.{digitWorth, behind, natural, upTo, asSigned, number}
+use Rattle.rules.proofs.Classes.{digit-bounds, upper-bounds, lower-bounds}
 use Rattle.numerals.specs.declared.Natural.{Natural}
 use Rattle.numerals.specs.declared.Natural.the-variants as found
 use Rattle.numerals.specs.declared.Decimal.the-variants as read
 use Rattle.numerals.specs.Answers.{naturalOf, foundIn, worthOf, decimalOf}
-
--- a byte of a range
-at-least : (first final x : ℕ) → ranging first final x ≡ true → first ≤ x
-unfolding ranging
-at-least first final x e = go (leb first x) refl e
-  where
-    go : (t : Bool) → leb first x ≡ t → t && leb x final ≡ true → first ≤ x
-    go true f g = leb-true first x f
-    go false f g = let z : _≡_ {A = ℕ} 0 1 = cc in absurd (omega arith)
-
-at-most : (first final x : ℕ) → ranging first final x ≡ true → x ≤ final
-unfolding ranging
-at-most first final x e = go (leb first x) refl e
-  where
-    go : (t : Bool) → leb first x ≡ t → t && leb x final ≡ true → x ≤ final
-    go true f g = leb-true x final g
-    go false f g = let z : _≡_ {A = ℕ} 0 1 = cc in absurd (omega arith)
 
 worth-none : {o : Option ℕ} → o ≡ none → worthOf o ≡ 36
 unfolding worthOf
@@ -53,8 +37,7 @@ module _ (x : ℕ) where
   digit-is e = rw e
 
   pub digit-worth : isDigit x ≡ true → (48 ≤ x) × (x - 48 ≡ worthOf (digitWorth x))
-  unfolding isDigit
-  digit-worth e = (at-least 48 57 x e, sym (worth-some (digit-is e)))
+  digit-worth e = (digit-bounds x e .0, sym (worth-some (digit-is e)))
 
   module _ (n : isDigit x ≡ false) where
     lower-is : isLower x ≡ true → digitWorth x ≡ some (x - 87)
@@ -62,8 +45,7 @@ module _ (x : ℕ) where
     lower-is e = rw (n, e)
 
     pub lower-worth : isLower x ≡ true → (97 ≤ x) × (x - 87 ≡ worthOf (digitWorth x))
-    unfolding isLower
-    lower-worth e = (at-least 97 122 x e, sym (worth-some (lower-is e)))
+    lower-worth e = (lower-bounds x e .0, sym (worth-some (lower-is e)))
 
     module _ (l : isLower x ≡ false) where
       upper-is : isUpper x ≡ true → digitWorth x ≡ some (x - 55)
@@ -75,8 +57,7 @@ module _ (x : ℕ) where
       other-is e = rw (n, l, e)
 
       pub upper-worth : isUpper x ≡ true → (65 ≤ x) × (x - 55 ≡ worthOf (digitWorth x))
-      unfolding isUpper
-      upper-worth e = (at-least 65 90 x e, sym (worth-some (upper-is e)))
+      upper-worth e = (upper-bounds x e .0, sym (worth-some (upper-is e)))
 
       pub other-worth : isUpper x ≡ false → 36 ≡ worthOf (digitWorth x)
       other-worth e = sym (worth-none (other-is e))
@@ -87,19 +68,19 @@ Small none = Unit {0}
 Small (some d) = d < 36
 
 small : (x : ℕ) → Small (digitWorth x)
-unfolding Small isDigit isLower isUpper
+unfolding Small
 small x = by-digit (isDigit x) refl
   where
     by-upper : isDigit x ≡ false → isLower x ≡ false → (t : Bool) → isUpper x ≡ t → Small (digitWorth x)
-    by-upper n l true e = let h = at-most 65 90 x e in subst Small (sym (upper-is x n l e)) (omega arith)
+    by-upper n l true e = let h = upper-bounds x e .1 in subst Small (sym (upper-is x n l e)) (omega arith)
     by-upper n l false e = subst Small (sym (other-is x n l e)) tt
 
     by-lower : isDigit x ≡ false → (t : Bool) → isLower x ≡ t → Small (digitWorth x)
-    by-lower n true e = let h = at-most 97 122 x e in subst Small (sym (lower-is x n e)) (omega arith)
+    by-lower n true e = let h = lower-bounds x e .1 in subst Small (sym (lower-is x n e)) (omega arith)
     by-lower n false e = by-upper n e (isUpper x) refl
 
     by-digit : (t : Bool) → isDigit x ≡ t → Small (digitWorth x)
-    by-digit true e = let h = at-most 48 57 x e in subst Small (sym (digit-is x e)) (omega arith)
+    by-digit true e = let h = digit-bounds x e .1 in subst Small (sym (digit-is x e)) (omega arith)
     by-digit false e = by-lower e (isLower x) refl
 
 -- a number on either side of a limit

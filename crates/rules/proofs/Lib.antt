@@ -1,5 +1,6 @@
 -- The laws of the book of rules.
 pub mod Book
+pub mod Classes
 pub mod Cases
 pub mod Reach
 pub mod Fuel

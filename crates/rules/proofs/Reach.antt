@@ -15,10 +15,11 @@ use Rattle.rules.specs.declared.Unary.{Unary}
 use Rattle.rules.specs.declared.Leading.{Leading}
 use Rattle.rules.specs.declared.Leading.the-variants.{Literal, Parenthesis, Sign, Wrong}
 use Rattle.rules.specs.declared.Operator.{Operator}
-use Rattle.rules.specs.Bytes.{Bytes, ranging, isBlank, isDigit, continuesName, nameLength}
+use Rattle.rules.specs.Bytes.{Bytes, isBlank, continuesName, nameLength}
 use Rattle.rules.specs.Operators.{operatorOf, unaryApplied, applied}
 use Rattle.rules.specs.Expression.{blanks, pastBlanks, literal, literalRead, literalAt, leadingOf, leadingAt, operatorAt}
 use Rattle.rules.specs.Expression.{closedBy, signedBy, operandBy, onward, operandAt, expressionAt, chainAt}
+use Rattle.rules.proofs.Classes.{no-digit}
 
 -- what was read, if it was, ends at a place from one to another
 abbrev pub Within : ℕ → ℕ → Parsed → Type 0
@@ -82,14 +83,14 @@ pub data Points (most : ℕ) : Leading → Type 0 where
   to-none : Points most Wrong
 
 pub leading-within : (s : Bytes) → Points (length s) (leadingAt s (pastBlanks s 0))
-unfolding leadingAt leadingOf isDigit ranging
+unfolding leadingAt leadingOf
 leading-within s = go (getD s p 0) (getD s (p + 1) 0) (inside s p)
   where
     p : ℕ
     p = pastBlanks s 0
 
     go : (b c : ℕ) → (0 < b → p < length s) → Points (length s) (leadingOf b c p)
-    go zero c l = to-none
+    go zero c l = rw (no-digit 0 (λ h k. omega arith)) to-none
     go (suc b) c l =
         let h : p ≤ length s = past-within s 0 (omega arith) .1 in
         let i : 1 ≤ p + 1 = omega arith in

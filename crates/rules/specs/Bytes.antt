@@ -2,9 +2,11 @@
 use Prim.Native.Nat.{ℕ, suc}
 use Prim.Native.Char.{code}
 use Prim.Native.String.{String, [] as no-more, _∷_ as _before_}
-use mathlib.Core.Bool.{Bool, true, false, _&&_, _||_}
+use mathlib.Core.Bool.{Bool, true, false, cond, _&&_, _||_}
 use mathlib.Core.List.{List, [], _∷_}
 use lib.Dec.{leb, eqb}
+use Rattle.rules.specs.declared.Class.{Class}
+use Rattle.rules.specs.declared.Class.the-variants as class
 
 -- a text: its bytes, each a number below 256
 abbrev pub Bytes : Type 0
@@ -26,25 +28,46 @@ sameBytes (x ∷ xs) (y ∷ ys) = elim (eqb x y) [ true ↦ sameBytes xs ys | fa
 unfoldable pub ranging : ℕ → ℕ → ℕ → Bool
 ranging first final x = leb first x && leb x final
 
--- ASCII only
+-- the two cases of a letter, which only the worth of a digit in a radix tells apart
 unfoldable pub isUpper : ℕ → Bool
-isUpper x = ranging 65 90 x
+isUpper x = ranging (code "A") (code "Z") x
 
 unfoldable pub isLower : ℕ → Bool
-isLower x = ranging 97 122 x
+isLower x = ranging (code "a") (code "z") x
+
+-- 02, request 5 "Letters, digits, underscore and blanks (space, tab, newline) are to be told apart by ranges": the class of a byte; 01 "(ASCII only)".
+-- No other page of the book has a range of bytes.
+unfoldable pub classOf : ℕ → Class
+classOf x =
+    cond (isUpper x || isLower x) class.Letter
+    (cond (ranging (code "0") (code "9") x) class.Digit
+    (cond (ranging (code "_") (code "_") x) class.Underscore
+    (cond (ranging (code "\t") (code "\n") x || ranging (code " ") (code " ") x) class.Blank
+    class.Other)))
+
+-- two classes are the same, by a number for each
+unfoldable pub classNumber : Class → ℕ
+classNumber class.Letter = 0
+classNumber class.Digit = 1
+classNumber class.Underscore = 2
+classNumber class.Blank = 3
+classNumber class.Other = 4
+
+unfoldable pub sameClass : Class → Class → Bool
+sameClass a b = eqb (classNumber a) (classNumber b)
 
 unfoldable pub isLetter : ℕ → Bool
-isLetter x = isUpper x || isLower x
+isLetter x = sameClass (classOf x) class.Letter
 
 unfoldable pub isDigit : ℕ → Bool
-isDigit x = ranging 48 57 x
+isDigit x = sameClass (classOf x) class.Digit
 
 unfoldable pub isUnderscore : ℕ → Bool
-isUnderscore x = ranging 95 95 x
+isUnderscore x = sameClass (classOf x) class.Underscore
 
 -- a space, tab or newline
 unfoldable pub isBlank : ℕ → Bool
-isBlank x = ranging 9 10 x || ranging 32 32 x
+isBlank x = sameClass (classOf x) class.Blank
 
 -- what a name begins with, and what goes on with it
 unfoldable pub beginsName : ℕ → Bool

@@ -1,6 +1,15 @@
 // The Rattle types that several crates share. What they mean is defined in specs/; the laws of that are proved in proofs/.
 // No function has a body here.
 
+// 02, request 5, "each of the 256 bytes gets just its class there, or `other`".
+pub enum Class {
+    Letter,
+    Digit,
+    Underscore,
+    Blank,
+    Other,
+}
+
 // 01 "A mark is 1 to 5 bytes long": the first `len` bytes are the mark. No mark (comments turned off): `len` is 0.
 pub struct Mark {
     pub bytes: [u8; 5],

@@ -1,6 +1,7 @@
-// Byte classes, names and slices: a line for each byte with its classes, then names, comparisons and copies.
+// Byte classes, names and slices: a line for each byte with its class, then names, comparisons and copies.
 use crate::writing::write;
 use libc::STDOUT_FILENO;
+use rules::Class;
 
 fn flag(is: bool, letter: &[u8]) {
     if is {
@@ -10,10 +11,20 @@ fn flag(is: bool, letter: &[u8]) {
     }
 }
 
-// The byte's number, and a letter for each class that it has: upper, lower, letter, digit, underscore, blank, begins and continues a name.
+fn write_class(c: Class) {
+    match c {
+        Class::Letter => write(b" letter "),
+        Class::Digit => write(b" digit "),
+        Class::Underscore => write(b" underscore "),
+        Class::Blank => write(b" blank "),
+        Class::Other => write(b" other "),
+    }
+}
+
+// The byte's number, its class, and a letter for each test that it passes: upper, lower, letter, digit, underscore, blank, begins and continues a name.
 fn class_line(x: u8) {
     io::print_decimal(STDOUT_FILENO, x as u64);
-    write(b" ");
+    write_class(ascii::class_of(x));
     flag(ascii::is_upper(x), b"U");
     flag(ascii::is_lower(x), b"l");
     flag(ascii::is_letter(x), b"L");

@@ -1,23 +1,24 @@
 -- `ascii::begins_name` meets its contract. Assumes nothing.
+use mathlib.Core.Path.{refl}
+use mathlib.Core.List.{[], _∷_}
+use mathlib.Core.Bool.{true, false, _||_}
+use lib.Dec.{eqb}
 use borrow.Author.Needs.{needs}
-use Rattle.rules.specs.Bytes.{beginsName}
-use Rattle.ascii.proofs.Laws.{first-class, second-class}
+use Rattle.rules.specs.Bytes.{sameClass, classNumber, isLetter, isUnderscore, beginsName}
+use Rattle.ascii.proofs.Laws.{arm-says}
 use Rattle.ascii.proofs.begins_name.Statement.{statement}
 use Rattle.ascii.proofs.begins_name.Tie as tie
 
-is-letter-requires : tie.Need-is-letter-requires
-is-letter-requires c κs = search needs
-
-is-underscore-requires : tie.Need-is-underscore-requires
-is-underscore-requires c κs = search needs
+class-of-requires : tie.Need-class-of-requires
+class-of-requires c κs = search needs
 
 returns : tie.Need-returns
-unfolding beginsName
-returns c = first-class _ _ (c .before .is-letter .ensures) (c .if1 .taken)
+unfolding beginsName isLetter isUnderscore sameClass classNumber
+returns c = arm-says (λ n. eqb n 0 || eqb n 2) true (0 ∷ 2 ∷ []) (c .before .class-of .ensures) (c .match .keys1) refl
 
 returns-2 : tie.Need-returns-2
-unfolding beginsName
-returns-2 c = second-class _ _ (c .before .before .is-letter .ensures) (c .before .if1 .left) (c .is-underscore .ensures)
+unfolding beginsName isLetter isUnderscore sameClass classNumber
+returns-2 c = arm-says (λ n. eqb n 0 || eqb n 2) false (1 ∷ 3 ∷ 4 ∷ []) (c .before .class-of .ensures) (c .match .keys2) refl
 
 pub begins-name-spec : {M : Type 1} → statement M
-begins-name-spec = tie.close (tie.spec is-letter-requires is-underscore-requires returns returns-2)
+begins-name-spec = tie.close (tie.spec class-of-requires returns returns-2)

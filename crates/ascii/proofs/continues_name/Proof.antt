@@ -1,23 +1,24 @@
 -- `ascii::continues_name` meets its contract. Assumes nothing.
+use mathlib.Core.Path.{refl}
+use mathlib.Core.List.{[], _∷_}
+use mathlib.Core.Bool.{true, false, _||_}
+use lib.Dec.{eqb}
 use borrow.Author.Needs.{needs}
-use Rattle.rules.specs.Bytes.{continuesName}
-use Rattle.ascii.proofs.Laws.{first-class, second-class}
+use Rattle.rules.specs.Bytes.{sameClass, classNumber, isLetter, isDigit, isUnderscore, beginsName, continuesName}
+use Rattle.ascii.proofs.Laws.{arm-says}
 use Rattle.ascii.proofs.continues_name.Statement.{statement}
 use Rattle.ascii.proofs.continues_name.Tie as tie
 
-begins-name-requires : tie.Need-begins-name-requires
-begins-name-requires c κs = search needs
-
-is-digit-requires : tie.Need-is-digit-requires
-is-digit-requires c κs = search needs
+class-of-requires : tie.Need-class-of-requires
+class-of-requires c κs = search needs
 
 returns : tie.Need-returns
-unfolding continuesName
-returns c = first-class _ _ (c .before .begins-name .ensures) (c .if1 .taken)
+unfolding continuesName beginsName isLetter isUnderscore isDigit sameClass classNumber
+returns c = arm-says (λ n. (eqb n 0 || eqb n 2) || eqb n 1) true (0 ∷ 1 ∷ 2 ∷ []) (c .before .class-of .ensures) (c .match .keys1) refl
 
 returns-2 : tie.Need-returns-2
-unfolding continuesName
-returns-2 c = second-class _ _ (c .before .before .begins-name .ensures) (c .before .if1 .left) (c .is-digit .ensures)
+unfolding continuesName beginsName isLetter isUnderscore isDigit sameClass classNumber
+returns-2 c = arm-says (λ n. (eqb n 0 || eqb n 2) || eqb n 1) false (3 ∷ 4 ∷ []) (c .before .class-of .ensures) (c .match .keys2) refl
 
 pub continues-name-spec : {M : Type 1} → statement M
-continues-name-spec = tie.close (tie.spec begins-name-requires is-digit-requires returns returns-2)
+continues-name-spec = tie.close (tie.spec class-of-requires returns returns-2)

@@ -1,23 +1,27 @@
 -- `ascii::is_blank` meets its contract. Assumes nothing.
+use mathlib.Core.Path.{refl}
+use mathlib.Core.List.{[], _∷_}
+use mathlib.Core.Bool.{true, false}
+use lib.Dec.{eqb}
 use borrow.Author.Needs.{needs}
-use Rattle.rules.specs.Bytes.{isBlank}
-use Rattle.ascii.proofs.Laws.{first-class, second-class}
+use Rattle.rules.specs.Bytes.{sameClass, classNumber, isBlank}
+use Rattle.ascii.proofs.Laws.{arm-says}
 use Rattle.ascii.proofs.is_blank.Statement.{statement}
 use Rattle.ascii.proofs.is_blank.Tie as tie
 
-in-range-requires : tie.Need-in-range-requires
-in-range-requires c κs = search needs
+class-of-requires : tie.Need-class-of-requires
+class-of-requires c κs = search needs
 
-in-range-requires-2 : tie.Need-in-range-requires-2
-in-range-requires-2 c κs = search needs
+enum-told : tie.Need-enum-told
+enum-told c = search needs
 
 returns : tie.Need-returns
-unfolding isBlank
-returns c = first-class _ _ (c .before .in-range .ensures) (c .if1 .taken)
+unfolding isBlank sameClass classNumber
+returns c = arm-says (λ n. eqb n 3) true (3 ∷ []) (c .before .before .class-of .ensures) (c .before .match .keys1) refl
 
 returns-2 : tie.Need-returns-2
-unfolding isBlank
-returns-2 c = second-class _ _ (c .before .before .in-range .ensures) (c .before .if1 .left) (c .in-range2 .ensures)
+unfolding isBlank sameClass classNumber
+returns-2 c = arm-says (λ n. eqb n 3) false (0 ∷ 1 ∷ 2 ∷ 4 ∷ []) (c .before .class-of .ensures) (c .match .keys2) refl
 
 pub is-blank-spec : {M : Type 1} → statement M
-is-blank-spec = tie.close (tie.spec in-range-requires in-range-requires-2 returns returns-2)
+is-blank-spec = tie.close (tie.spec class-of-requires enum-told returns returns-2)

@@ -1,15 +1,27 @@
 -- `ascii::is_digit` meets its contract. Assumes nothing.
+use mathlib.Core.Path.{refl}
+use mathlib.Core.List.{[], _∷_}
+use mathlib.Core.Bool.{true, false}
+use lib.Dec.{eqb}
 use borrow.Author.Needs.{needs}
-use Rattle.rules.specs.Bytes.{isDigit}
+use Rattle.rules.specs.Bytes.{sameClass, classNumber, isDigit}
+use Rattle.ascii.proofs.Laws.{arm-says}
 use Rattle.ascii.proofs.is_digit.Statement.{statement}
 use Rattle.ascii.proofs.is_digit.Tie as tie
 
-in-range-requires : tie.Need-in-range-requires
-in-range-requires c κs = search needs
+class-of-requires : tie.Need-class-of-requires
+class-of-requires c κs = search needs
+
+enum-told : tie.Need-enum-told
+enum-told c = search needs
 
 returns : tie.Need-returns
-unfolding isDigit
-returns c = c .in-range .ensures
+unfolding isDigit sameClass classNumber
+returns c = arm-says (λ n. eqb n 1) true (1 ∷ []) (c .before .before .class-of .ensures) (c .before .match .keys1) refl
+
+returns-2 : tie.Need-returns-2
+unfolding isDigit sameClass classNumber
+returns-2 c = arm-says (λ n. eqb n 1) false (0 ∷ 2 ∷ 3 ∷ 4 ∷ []) (c .before .class-of .ensures) (c .match .keys2) refl
 
 pub is-digit-spec : {M : Type 1} → statement M
-is-digit-spec = tie.close (tie.spec in-range-requires returns)
+is-digit-spec = tie.close (tie.spec class-of-requires enum-told returns returns-2)

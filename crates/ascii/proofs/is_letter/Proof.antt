@@ -1,23 +1,27 @@
 -- `ascii::is_letter` meets its contract. Assumes nothing.
+use mathlib.Core.Path.{refl}
+use mathlib.Core.List.{[], _∷_}
+use mathlib.Core.Bool.{true, false}
+use lib.Dec.{eqb}
 use borrow.Author.Needs.{needs}
-use Rattle.rules.specs.Bytes.{isLetter}
-use Rattle.ascii.proofs.Laws.{first-class, second-class}
+use Rattle.rules.specs.Bytes.{sameClass, classNumber, isLetter}
+use Rattle.ascii.proofs.Laws.{arm-says}
 use Rattle.ascii.proofs.is_letter.Statement.{statement}
 use Rattle.ascii.proofs.is_letter.Tie as tie
 
-is-upper-requires : tie.Need-is-upper-requires
-is-upper-requires c κs = search needs
+class-of-requires : tie.Need-class-of-requires
+class-of-requires c κs = search needs
 
-is-lower-requires : tie.Need-is-lower-requires
-is-lower-requires c κs = search needs
+enum-told : tie.Need-enum-told
+enum-told c = search needs
 
 returns : tie.Need-returns
-unfolding isLetter
-returns c = first-class _ _ (c .before .is-upper .ensures) (c .if1 .taken)
+unfolding isLetter sameClass classNumber
+returns c = arm-says (λ n. eqb n 0) true (0 ∷ []) (c .before .before .class-of .ensures) (c .before .match .keys1) refl
 
 returns-2 : tie.Need-returns-2
-unfolding isLetter
-returns-2 c = second-class _ _ (c .before .before .is-upper .ensures) (c .before .if1 .left) (c .is-lower .ensures)
+unfolding isLetter sameClass classNumber
+returns-2 c = arm-says (λ n. eqb n 0) false (1 ∷ 2 ∷ 3 ∷ 4 ∷ []) (c .before .class-of .ensures) (c .match .keys2) refl
 
 pub is-letter-spec : {M : Type 1} → statement M
-is-letter-spec = tie.close (tie.spec is-upper-requires is-lower-requires returns returns-2)
+is-letter-spec = tie.close (tie.spec class-of-requires enum-told returns returns-2)

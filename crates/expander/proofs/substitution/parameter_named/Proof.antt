@@ -2,7 +2,8 @@
 use mathlib.Core.Path.{_≡_, sym, _∙_}
 use mathlib.Core.Bool.{true}
 use Rattle.rules.specs.Bytes.{isDigit}
-use Rattle.expander.proofs.SubstitutionLaws.{digit-range, leads-name, leads-count, leads-all, leads-quoted, leads-argument, leads-dollar}
+use Rattle.rules.proofs.Classes.{digit-bounds}
+use Rattle.expander.proofs.SubstitutionLaws.{leads-name, leads-count, leads-all, leads-quoted, leads-argument, leads-dollar}
 use borrow.Author.Needs.{needs}
 use Rattle.expander.proofs.substitution.parameter_named.Statement.{statement}
 use Rattle.expander.proofs.substitution.parameter_named.Tie as tie
@@ -14,7 +15,7 @@ digit : (c : tie.Then1) → isDigit (c .before .before .before .args .y) ≡ tru
 digit c = sym (c .before .is-digit .ensures) ∙ c .if1 .taken
 
 sub-n : tie.Need-sub-n
-sub-n c = digit-range (digit c) .0
+sub-n c = digit-bounds _ (digit c) .0
 
 cast-t5 : tie.Need-cast-t5
 cast-t5 c = search needs
