@@ -1,7 +1,7 @@
 #!/usr/bin/env python3
 """trace.py [--helpers]: each name in the second column of the tables of docs/TRACE.md is declared in the file that the third column names.
 
-Declarations are, in a .antt file, names with a signature, records, their fields, data types and their constructors, at the top or in a module; in a .rt file
+Declarations are, in a .antt file, names with a signature, records, their fields, data types and their constructors, at the top or in a module; in a .rt or .rs file
 functions, structs, enums, variants, fields and consts; in a .py file what is defined at its top; in a .md file the headings. A word in a comment or in a body is
 none, which is tried first on a small file of each kind. With --helpers it also lists, for a reader's eye, the definitions of crates/rules/specs that no row names.
 Ends with 'N passed, M failed'; exit status 0 only if M is 0.
@@ -53,7 +53,7 @@ def declared_md(text):
     return set(re.findall(r"^#+ (.*)$", text, re.M))
 
 
-DECLARED = {".antt": declared_antt, ".rt": declared_rt, ".py": declared_py, ".md": declared_md}
+DECLARED = {".antt": declared_antt, ".rt": declared_rt, ".rs": declared_rt, ".py": declared_py, ".md": declared_md}
 
 # a file of each kind, and what it declares
 SAMPLES = {

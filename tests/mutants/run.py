@@ -44,6 +44,7 @@ TESTS = [
 # fits counts. Most parts compare random cases with the model; a trap and valgrind's exit status 9 show more than that.
 PARTS = [
     ("vectors.tsv", "", "vectors"),
+    ("each byte", "", "each byte"),
     ("third demand", "", "third demand"),
     ("lengths above", "", "huge lengths"),
     ("between inaccessible pages", "SIGSEGV", "trap"),
@@ -67,8 +68,8 @@ in tests/differential.sh. First the source as it stands was built in the same wa
 |---|---|---|
 """
 FOOT = """
-Of `differential` (tests/differential.sh) the table names what showed the fault: `vectors`, the lines of tests/vectors.tsv through the archive; `random cases`
-on which archive and model differ; `third demand`, two settings that break the letter's third demand; `trap`, a read or write outside of what is
+Of `differential` (tests/differential.sh) the table names what showed the fault: `vectors`, the lines of tests/vectors.tsv through the archive; `each byte` wherever
+its class is asked for, and `random cases`, on which archive and model differ; `third demand`, two settings that break the letter's third demand; `trap`, a read or write outside of what is
 lent, between inaccessible pages; `valgrind`, the same or the use of what was there before. `step_costs` takes more than a minute, and was tried only on
 what no other test caught.
 

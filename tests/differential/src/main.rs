@@ -11,6 +11,7 @@
 //!   settings, without the model.
 //! - `differential fences SEED COUNT [FIRST]`: random cases with what is lent against inaccessible
 //!   pages.
+//! - `differential bytes`: each of the 256 bytes in each place where a reader asks for its class.
 //! - `differential huge`: lengths above 4,294,967,295.
 //! - `differential memcheck SEED COUNT`: random cases in blocks of the heap, to be run under
 //!   valgrind. `memcheck-outside` and `memcheck-undefined` do the same with a mistake that valgrind
@@ -34,6 +35,7 @@ mod memcheck;
 mod noise;
 mod noticed;
 mod random;
+mod readers;
 mod setting;
 mod shrink;
 mod supervise;
@@ -43,7 +45,7 @@ use memcheck::Mistake;
 use std::process::ExitCode;
 
 const USE: &str = "use: differential compare|demand3|fences SEED COUNT [FIRST], \
-    memcheck SEED COUNT, vectors FILE, huge or noticed";
+    memcheck SEED COUNT, vectors FILE, bytes, huge or noticed";
 
 fn main() -> ExitCode {
     let arguments: Vec<String> = std::env::args().skip(1).collect();
@@ -62,6 +64,7 @@ fn run(words: &[&str]) -> Option<(usize, usize)> {
     match *words {
         ["vectors", path] => Some(compare::table(&std::fs::read_to_string(path).ok()?)),
         ["noticed"] => one(noticed::all_noticed()),
+        ["bytes"] => Some(readers::every_byte()),
         ["huge"] => one(fences::huge_lengths()),
         [command, seed, count] => random(command, seed, count, "0").and_then(one),
         [command, seed, count, first] => random(command, seed, count, first).and_then(one),
