@@ -2,7 +2,7 @@
 """byte_classes.py: ranges of bytes stand in one place of the code and in one of the book of rules; every reader asks there.
 
 Looked for, in every source and every page of definitions, are a range as a pattern, an order comparison with a byte literal or with a number at the edge
-of a class, several blanks in one arm, and the name of the book's own test of a range, in proofs too. A count may be 10 or 32 as well: numbers at the
+of a class, a class listed in one arm, and the name of the book's own test of a range, in proofs too. A count may be 10 or 32 as well: numbers at the
 edges of the blanks are not looked for, nor is 64. Lines that must be found and lines that must not are tried first, and the two places must have ranges:
 so a pattern that finds nothing any more fails. Ends with 'N passed, M failed'; exit status 0 only if M is 0.
 """
@@ -31,10 +31,12 @@ RANGE_IN_CODE = re.compile(
             r"%s\s*%s" % (BYTE, ORDER),
             r"%s\s*%s" % (ORDER, EDGE),
             r"%s\s*%s" % (EDGE, ORDER),
+            r"-\s*(?:%s|%s)\)?\s*%s" % (BYTE, EDGE, ORDER),
         ]
     )
 )
 RANGE_IN_BOOK = re.compile(r"\branging\b|\b(?:leb|ltb)\b.*\bcode\b|\b(?:leb|ltb)\s+(?:\S+\s+)?%s|[≤<]\s*%s|%s\s*[≤<]" % (EDGE, EDGE, EDGE))
+KINDS = ["b'[0-9]'", "b'[a-zA-Z]'"]
 ARM = re.compile(r"^\s*(%s(?:\s*\|\s*%s)*)\s*=>" % (LITERAL, LITERAL))
 TEXT = re.compile(r'b"(?:\\.|[^"\\])*"')
 
@@ -47,6 +49,8 @@ FOUND_IN_CODE = [
     "        9 | 10 | 32 => true,",
     r"        b' ' | b'\t' => i + 1,",
     "    x > 122",
+    "    (x - b'0') < 10",
+    "        b'0' | b'1' | b'2' => true,",
 ]
 PASSED_IN_CODE = [
     "    if d < 10 {",
@@ -62,14 +66,20 @@ FOUND_IN_BOOK = ["isLow x = ranging 97 122 x", "f x = leb 48 x && leb x 57", "g 
 PASSED_IN_BOOK = ["digitByte d = cond (ltb d 10) (48 + d) (87 + d)", "  pub most : r ≤ macroCount", "f x = eqb x 48", "-- 48 ≤ x"]
 
 
+def lists_a_class(line):
+    """An arm with two blanks, or with three letters or digits, of one class."""
+    arm = ARM.match(line)
+    literals = set(re.findall(LITERAL, arm.group(1))) if arm else set()
+    return len(BLANKS & literals) > 1 or any(sum(bool(re.fullmatch(kind, literal)) for literal in literals) > 2 for kind in KINDS)
+
+
 def code_ranges(text):
     """The lines of a source that have a range of bytes; comments, contracts and texts aside."""
     for number, line in enumerate(text.splitlines(), 1):
         line = TEXT.sub('""', line).split("//")[0]
         if line.lstrip().startswith(("requires", "ensures", "invariant", "ghost")):
             continue
-        arm = ARM.match(line)
-        if RANGE_IN_CODE.search(line) or (arm and len(BLANKS & set(re.findall(LITERAL, arm.group(1)))) > 1):
+        if RANGE_IN_CODE.search(line) or lists_a_class(line):
             yield number, line
 
 
