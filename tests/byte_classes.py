@@ -1,96 +1,112 @@
 #!/usr/bin/env python3
-"""byte_classes.py: ranges of bytes stand in one place of the code and in one of the book of rules; every reader asks there.
+"""byte_classes.py: ranges of bytes stand in one file of the code and on one page of the book of rules; every reader asks there.
 
-Looked for, in every source and every page of definitions, are a range as a pattern, an order comparison with a byte literal or with a number at the edge
-of a class, a class listed in one arm, and the name of the book's own test of a range, in proofs too. A count may be 10 or 32 as well: numbers at the
-edges of the blanks are not looked for, nor is 64. Lines that must be found and lines that must not are tried first, and the two places must have ranges:
-so a pattern that finds nothing any more fails. Ends with 'N passed, M failed'; exit status 0 only if M is 0.
+Looked for in every function and every definition, with all literals as numbers: an order comparison or a range with a byte literal; both ends of
+the letters or the digits among the numbers that are compared; a digit's or letter's first byte subtracted, and the rest compared with their count; a
+class listed. In the book also its own test of a range, in proofs too. A number that may be a count as well (10, 64, 65) is nothing by itself.
+What must be found and what must not is tried first, and the files that have ranges must be found to have them, so that a search that finds nothing
+any more fails. Ends with 'N passed, M failed'; exit status 0 only if M is 0.
 """
 import glob
 import os
 import re
 import sys
 
+sys.dont_write_bytecode = True
+import byte_classes_samples as samples  # noqa: E402
+
 ROOT = os.path.dirname(os.path.dirname(os.path.abspath(__file__)))
 
-# where ranges of bytes stand: the code, the book, and the laws of the book's classes
-CODE = "crates/ascii/src/lib.rt"
-BOOK = "crates/rules/specs/Bytes.antt"
-LAWS = ["crates/rules/proofs/Classes.antt", "crates/rules/proofs/Book.antt"]
+# where ranges of bytes stand: the code, the book, the laws of its classes, and the list of all definitions
+CODE = ["crates/ascii/src/lib.rt"]
+BOOK = ["crates/rules/specs/Bytes.antt"]
+PROOFS = ["crates/rules/proofs/Classes.antt", "crates/rules/proofs/Book.antt"]
 
-BYTE = r"b'(?:\\.|[^'\\])+'"
-LITERAL = r"(?:%s|\b\d+)" % BYTE
-ORDER = r"(?:(?<!<)<=|(?<!>)>=|(?<!<)<(?!<)|(?<!>)(?<!-)(?<!=)>(?!>))"
-EDGE = r"\b(?:4[78]|5[78]|65|9[014567]|12[23]|0x(?:2[fF]|3[09aA]|4[01]|5[aAbBeEfF]|6[01]|7[aAbB]))\b"
-BLANKS = {"9", "10", "32", r"b'\t'", r"b'\n'", "b' '"}
-RANGE_IN_CODE = re.compile(
-    "|".join(
-        [
-            r"%s\s*\.\.=?\s*%s" % (LITERAL, LITERAL),
-            r"%s\s*%s" % (ORDER, BYTE),
-            r"%s\s*%s" % (BYTE, ORDER),
-            r"%s\s*%s" % (ORDER, EDGE),
-            r"%s\s*%s" % (EDGE, ORDER),
-            r"-\s*(?:%s|%s)\)?\s*%s" % (BYTE, EDGE, ORDER),
-        ]
+# the numbers that a comparison has at the lower and at the upper end of a range
+ENDS = [({47, 48}, {57, 58}), ({64, 65}, {90, 91}), ({96, 97}, {122, 123})]
+FIRST, COUNTS = {48, 65, 97}, {9, 10, 25, 26}
+BLANKS, DIGITS, LETTERS = {9, 10, 32}, set(range(48, 58)), set(range(65, 91)) | set(range(97, 123))
+ESCAPES = {"n": 10, "t": 9, "r": 13, "0": 0, "\\": 92, "'": 39, '"': 34}
+
+# a byte is written @N once it is a number, other numbers N
+BEHIND = r"\(*@?\d+(?: as \w+)?\)*(?!\w)"
+NUMBER = r"(?<![\w.])" + BEHIND
+ORDER = r"(?:(?<!<)<=?(?![<=])|(?<![->=])>=?(?![>=]))"
+COMPARED = re.compile(r"%s\s*(%s)|(%s)(?=\s*%s)" % (ORDER, BEHIND, NUMBER, ORDER))
+RANGE = re.compile(r"\.\.=?\s*(%s)|(%s)(?=\s*\.\.)" % (BEHIND, NUMBER))
+EQUAL = re.compile(r"[=!]=\s*(%s)|(%s)(?=\s*[=!]=)" % (BEHIND, NUMBER))
+ARM = re.compile(r"(?<![\w.=])@?\d+(?:\s*\|\s*@?\d+)*(?=\s*=>)")
+SUBTRACTED = re.compile(r"-\s*(%s)|sub_\w+\([^()]*,\s*(%s)" % (BEHIND, BEHIND))
+FUNCTION = re.compile(r"^ *(?:pub(?:\(\w+\))? )?(?:extern \"C\" )?fn ", re.M)
+CONTRACT = re.compile(r"^ *(?:requires|ensures|invariant|variant|ghost)\b.*$", re.M)
+BOOK_ORDER = re.compile(r"\b(?:leb|ltb)\s+(\([^()]*(?:\([^()]*\)[^()]*)*\)|\S+)\s+(\([^()]*(?:\([^()]*\)[^()]*)*\)|\S+)")
+BOOK_SIGN = re.compile(r"[≤<]\s*(%s)|(%s)(?=\s*[≤<])" % (BEHIND, NUMBER))
+BOOK_EQUAL = re.compile(r"\beqb\s+\S+\s+(%s)" % BEHIND)
+
+
+def numbers(text):
+    """The numbers in a text, bytes as (N, True)."""
+    return {(int(n), bool(at)) for at, n in re.findall(r"(@?)\b(\d+)\b", text)}
+
+
+def found(pattern, text):
+    """The numbers in a pattern's groups."""
+    return numbers(" ".join(group for match in pattern.finditer(text) for group in match.groups() if group))
+
+
+def plain(these):
+    return {n for n, _ in these}
+
+
+def has_range(compared, subtracted, listed):
+    """What the numbers of a function or definition come to."""
+    values = plain(compared)
+    return (
+        any(is_byte for _, is_byte in compared)
+        or any(low & values and high & values for low, high in ENDS)
+        or bool(FIRST & plain(subtracted) and COUNTS & values)
+        or BLANKS <= plain(listed)
     )
-)
-RANGE_IN_BOOK = re.compile(r"\branging\b|\b(?:leb|ltb)\b.*\bcode\b|\b(?:leb|ltb)\s+(?:\S+\s+)?%s|[≤<]\s*%s|%s\s*[≤<]" % (EDGE, EDGE, EDGE))
-KINDS = ["b'[0-9]'", "b'[a-zA-Z]'"]
-ARM = re.compile(r"^\s*(%s(?:\s*\|\s*%s)*)\s*=>" % (LITERAL, LITERAL))
-TEXT = re.compile(r'b"(?:\\.|[^"\\])*"')
-
-FOUND_IN_CODE = [
-    "    if 48 <= x && x <= 57 {",
-    "    if x < b'A' {",
-    "    if b'0' <= s[i] {",
-    "        b'a'..=b'z' => true,",
-    "        65..91 => true,",
-    "        9 | 10 | 32 => true,",
-    r"        b' ' | b'\t' => i + 1,",
-    "    x > 122",
-    "    (x - b'0') < 10",
-    "        b'0' | b'1' | b'2' => true,",
-]
-PASSED_IN_CODE = [
-    "    if d < 10 {",
-    "        9 => write(b\"\\\\t\"),",
-    "    &s[1..end]",
-    "    if x == 48 {",
-    "    1 << 57",
-    "    x // 48 <= x",
-    "        b'0' => Parameter::Name,",
-    "fn value(b: u8) -> u8 {",
-]
-FOUND_IN_BOOK = ["isLow x = ranging 97 122 x", "f x = leb 48 x && leb x 57", "g x = ltb 0x60 x", 'h x = leb x (code "9")', "  pub low : 97 ≤ x", "  pub high : x < 58"]
-PASSED_IN_BOOK = ["digitByte d = cond (ltb d 10) (48 + d) (87 + d)", "  pub most : r ≤ macroCount", "f x = eqb x 48", "-- 48 ≤ x"]
 
 
-def lists_a_class(line):
-    """An arm with two blanks, or with three letters or digits, of one class."""
-    arm = ARM.match(line)
-    literals = set(re.findall(LITERAL, arm.group(1))) if arm else set()
-    return len(BLANKS & literals) > 1 or any(sum(bool(re.fullmatch(kind, literal)) for literal in literals) > 2 for kind in KINDS)
+def numbered(text):
+    """Source without comments and texts, every literal as a number."""
+    text = re.sub(r'b"(?:\\.|[^"\\])*"', '""', text)
+    text = re.sub(r"b'(?:\\x(\w\w)|\\(.)|([^'\\]))'", lambda m: "@%d" % (int(m[1], 16) if m[1] else ESCAPES[m[2]] if m[2] else ord(m[3])), text)
+    text = re.sub(r"//.*", "", text)
+    text = re.sub(r"\b0x([0-9a-fA-F_]+?)(?:[ui]\w+)?\b", lambda m: str(int(m[1].replace("_", ""), 16)), text)
+    text = re.sub(r"\b(\d[\d_]*)(?:[ui](?:8|16|32|64|size))?\b", lambda m: m[1].replace("_", ""), text)
+    for name, kind, value in re.findall(r"const (\w+): (\w+) = @?(\d+);", text):
+        text = re.sub(r"\b%s\b" % name, "@" + value if kind == "u8" else value, text)
+    return text
 
 
 def code_ranges(text):
-    """The lines of a source that have a range of bytes; comments, contracts and texts aside."""
-    for number, line in enumerate(text.splitlines(), 1):
-        line = TEXT.sub('""', line).split("//")[0]
-        if line.lstrip().startswith(("requires", "ensures", "invariant", "ghost")):
-            continue
-        if RANGE_IN_CODE.search(line) or lists_a_class(line):
-            yield number, line
+    """The functions of a source that have a range of bytes, by their first lines."""
+    for block in re.split(r"(?m)^(?=%s)" % FUNCTION.pattern.lstrip("^"), numbered(text)):
+        body = CONTRACT.sub("", block)
+        arms = [plain(numbers(arm)) for arm in ARM.findall(body)]
+        listed = found(EQUAL, body) | {(n, False) for arm in arms for n in arm}
+        in_one_arm = any(len(arm & DIGITS) > 2 or len(arm & LETTERS) > 5 for arm in arms)
+        contracts = "\n".join(CONTRACT.findall(block))
+        if in_one_arm or has_range(found(COMPARED, body) | found(RANGE, body), found(SUBTRACTED, body), listed) or any(book_ranges(contracts)):
+            yield block.strip().split("\n")[0]
 
 
 def book_ranges(text):
-    for number, line in enumerate(text.splitlines(), 1):
-        if RANGE_IN_BOOK.search(line.split("--")[0]):
-            yield number, line
+    """The definitions of a page that have a range of bytes, by their first lines."""
+    text = re.sub(r"--.*", "", text)
+    text = re.sub(r'\(?\bcode "(?:\\(.)|([^"\\]))"\)?', lambda m: "@%d" % (ESCAPES[m[1]] if m[1] else ord(m[2])), text)
+    text = re.sub(r"\b0x([0-9a-fA-F]+)\b", lambda m: str(int(m[1], 16)), text)
+    for block in re.split(r"\n\s*\n", text):
+        joined = " ".join(block.split())
+        compared = found(BOOK_ORDER, joined) | found(BOOK_SIGN, joined)
+        if re.search(r"\branging\b", joined) or has_range(compared, found(SUBTRACTED, joined), found(BOOK_EQUAL, joined)):
+            yield block.strip().split("\n")[0]
 
 
 def proof_ranges(text):
-    return ((number, line) for number, line in enumerate(text.splitlines(), 1) if re.search(r"\branging\b", line))
+    return (line.strip() for line in text.splitlines() if re.search(r"\branging\b", line))
 
 
 def files(pattern):
@@ -104,34 +120,30 @@ def read(path):
 
 def main():
     passed, failed = 0, []
-    for search, samples, wanted in [
-        (code_ranges, FOUND_IN_CODE, True),
-        (code_ranges, PASSED_IN_CODE, False),
-        (book_ranges, FOUND_IN_BOOK, True),
-        (book_ranges, PASSED_IN_BOOK, False),
+    for search, texts, wanted in [
+        (code_ranges, samples.FOUND_IN_CODE, True),
+        (code_ranges, samples.PASSED_IN_CODE, False),
+        (book_ranges, samples.FOUND_IN_BOOK, True),
+        (book_ranges, samples.PASSED_IN_BOOK, False),
     ]:
-        for line in samples:
-            if any(search(line)) == wanted:
+        for text in texts:
+            if bool(list(search(text))) == wanted:
                 passed += 1
             else:
-                failed.append("%s: %r" % ("not found" if wanted else "found, and is no range of bytes", line))
+                failed.append("%s: %r" % ("not found" if wanted else "found, and is no range of bytes", text))
     for search, pattern, places in [
-        (code_ranges, "crates/*/src/**/*.rt", [CODE]),
-        (book_ranges, "crates/*/specs/**/*.antt", [BOOK]),
-        (proof_ranges, "crates/*/proofs/**/*.antt", LAWS),
+        (code_ranges, "crates/*/src/**/*.rt", CODE),
+        (book_ranges, "crates/*/specs/**/*.antt", BOOK),
+        (proof_ranges, "crates/*/proofs/**/*.antt", PROOFS),
     ]:
         paths = files(pattern)
-        for place in places:
-            if place not in paths:
-                failed.append("%s: no such file" % place)
+        failed += ["%s: no such file" % place for place in places if place not in paths]
         for path in paths:
-            lines = list(search(read(path)))
-            if bool(lines) == (path in places):
+            found_there = list(search(read(path)))
+            if bool(found_there) == (path in places):
                 passed += 1
-            elif path in places:
-                failed.append("%s: has no range of bytes" % path)
             else:
-                failed += ["%s:%d: a range of bytes: %s" % (path, number, line.strip()) for number, line in lines]
+                failed += ["%s: a range of bytes: %s" % (path, head) for head in found_there] if found_there else ["%s: has no range of bytes" % path]
     for line in failed:
         print(line)
     print("%d passed, %d failed" % (passed, len(failed)))

@@ -4,8 +4,8 @@
 #
 # COUNT random cases (default 400000, seed 1) are compared with the model: every number, and every byte of the text, of the seven
 # buffers and around them. A quarter as many pairs of settings are held to the letter's third demand, and a hundredth of the cases
-# are run between inaccessible pages; some hundred go through valgrind. It also runs tests/vectors.tsv, each byte in every place where its class is asked for, and shows that each of these
-# checks can fail. A longer run is `tests/differential.sh SEED COUNT`, 10,000 cases take one to two seconds; how to repeat a failing
+# are run between inaccessible pages; some hundred go through valgrind. It also runs tests/vectors.tsv, and each byte wherever its
+# class is asked for, and shows that each of these checks can fail. A longer run is `tests/differential.sh SEED COUNT`, 10,000 cases take one to two seconds; how to repeat a failing
 # case is printed with it (the program is target/differential/release/differential).
 # Ends with 'N passed, M failed', counting parts; exit status 0 only if M is 0.
 set -u

@@ -1,6 +1,6 @@
 #!/usr/bin/env bash
-# model.sh [SEED COUNT]: the independent model in tests/model: its own tests, all vectors, the class of every byte, demand 3 on random pairs of settings, and
-# COUNT random texts (default 250, seed 1) on which the definitions of crates/rules must agree with it.
+# model.sh [SEED COUNT]: the independent model in tests/model: its own tests, all vectors, the class of every byte, demand 3 on
+# random pairs of settings, and COUNT random texts (default 250, seed 1) on which the definitions of crates/rules must agree with it.
 # Ends with 'N passed, M failed'; exit status 0 only if M is 0.
 set -u
 cd "$(dirname "$0")/model" || exit 2
@@ -50,7 +50,8 @@ echo "vectors: $(tail -n 1 "$work/vectors")"
 tally "$status" "$work/vectors"
 
 # what the program `vectors` has to print of each byte: its number, its class, and more
-if target/release/classes >"$work/classes" && [ "$(wc -l <"$work/classes")" -eq 256 ] && head -n 256 ../../crates/vectors/stdout | cut -d ' ' -f 1,2 | diff "$work/classes" -; then
+head -n 256 ../../crates/vectors/stdout | cut -d ' ' -f 1,2 >"$work/stored"
+if target/release/classes >"$work/classes" && [ "$(wc -l <"$work/classes")" -eq 256 ] && diff "$work/classes" "$work/stored"; then
     echo 'the class of each of the 256 bytes: as the stored vectors have it'
     passed=$((passed + 1))
 else

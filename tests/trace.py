@@ -68,6 +68,7 @@ SAMPLES = {
         "impl S {\n    pub(crate) fn method(self, given: u8) -> u8 {\n        let local: u8 = helper(given);\n        local\n    }\n}\n",
         {"LIMIT", "S", "field", "E", "Case", "Held", "Placed", "end", "Short", "n", "m", "method"},
     ),
+    ".rs": ("//! said\nuse crate::Used;\nconst TOP: u8 = 1;\n\n/// said\npub fn f(given: u8) -> u8 {\n    let local = helper(given);\n    local\n}\n", {"TOP", "f"}),
     ".py": ("# said\nimport used\nTOP = 1\n\n\ndef f(given):\n    local = helper(given)\n", {"TOP", "f"}),
     ".md": ("# A page\n\nsaid\n\n## A part of it\n", {"A page", "A part of it"}),
 }

@@ -4,8 +4,8 @@ ghost use mathlib.Core.Path.{_≡_};
 ghost use Rattle.rules.specs.Bytes.{isUpper, isLower, classOf, isLetter, isDigit, isUnderscore, isBlank, beginsName, continuesName, nameLength, isName, sameBytes};
 ghost use Rattle.ascii.specs.Copied.{Copied};
 
-// The class of a byte, by ranges: every reader asks here. The bytes below the digits come first, so that the compiler makes each test below as short as
-// one with a range of its own (docs/DECISIONS.md, "Document 02").
+// The class of a byte, by ranges: every reader asks here. First come the bytes below the digits, then the digits, then letters and underscore: so the compiler
+// makes each test below as short as one with a range of its own (docs/DECISIONS.md, "Document 02").
 pub fn class_of(x: u8) -> Class
     ensures { λ r. ⌜ r ≡ classOf x ⌝ }
 {

@@ -14,7 +14,7 @@ use Rattle.rules.proofs.Book.{book}
 
 -- the bytes of a range
 module _ (first final x : ℕ) where
-  pub range-bounds : ranging first final x ≡ true → (first ≤ x) × (x ≤ final)
+  range-bounds : ranging first final x ≡ true → (first ≤ x) × (x ≤ final)
   unfolding ranging
   range-bounds e = go (leb first x) refl e
     where
@@ -190,6 +190,8 @@ module _ (x : ℕ) where
 
 -- 02, request 5 "No answer changes, nor what is promised of it": each test is what it was before there were classes, with ranges of its own
 pub record ByRanges (x : ℕ) : Type 0 where
+  pub upper : isUpper x ≡ ranging 65 90 x
+  pub lower : isLower x ≡ ranging 97 122 x
   pub letter : isLetter x ≡ ranging 65 90 x || ranging 97 122 x
   pub digit : isDigit x ≡ ranging 48 57 x
   pub underscore : isUnderscore x ≡ ranging 95 95 x
@@ -198,9 +200,11 @@ pub record ByRanges (x : ℕ) : Type 0 where
   pub continues : continuesName x ≡ ((ranging 65 90 x || ranging 97 122 x) || ranging 95 95 x) || ranging 48 57 x
 
 pub by-ranges : (x : ℕ) → ByRanges x
-unfolding beginsName continuesName
+unfolding isUpper isLower beginsName continuesName
 by-ranges x =
     record {
+      upper = refl;
+      lower = refl;
       letter = letter-is x;
       digit = digit-is x;
       underscore = underscore-is x;

@@ -45,7 +45,7 @@ classOf x =
     (cond (ranging (code "\t") (code "\n") x || ranging (code " ") (code " ") x) class.Blank
     class.Other)))
 
--- two classes are the same, by a number for each
+-- a number for each class, by which two are compared
 unfoldable pub classNumber : Class → ℕ
 classNumber class.Letter = 0
 classNumber class.Digit = 1
