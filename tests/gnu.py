@@ -27,9 +27,8 @@ STORED_SEEDS = range(100)
 sys.dont_write_bytecode = True
 sys.path.insert(0, FOLDER)
 import texts  # noqa: E402
+from pages import Given, did, plain, says  # noqa: E402
 
-# what a run of either program gave; for GNU m4 `told` says whether it wrote messages of its own, for `expand` `answer` is the number of its answer
-Given = collections.namedtuple("Given", "output errors code told answer", defaults=(False, None))
 passed = failed = 0
 
 
@@ -142,14 +141,6 @@ def store():
 Example = collections.namedtuple("Example", "line text given")
 
 
-def plain(words):
-    """The bytes of an example: \\n, \\t and \\xNN are single bytes, 'N times S' is S repeated."""
-    times = re.fullmatch(r"([\d,]+) times (.*)", words)
-    if times:
-        return int(times.group(1).replace(",", "")) * plain(times.group(2))
-    return re.sub(r"\\(n|t|x[0-9a-f]{2})", lambda m: {"n": "\n", "t": "\t"}.get(m.group(1)) or chr(int(m.group(1)[1:], 16)), words).encode("latin-1")
-
-
 def examples():
     """Each indented line of the page. What it says of GNU holds of -G too, unless it says so."""
     with open(PAGE, encoding="utf-8") as f:
@@ -159,24 +150,6 @@ def examples():
                 yield Example(number, plain(row.group(1)), [says(words) for words in (row.group(2), row.group(3), row.group(4) or row.group(3))])
             elif line.startswith("    "):
                 yield Example(number, b"", None)
-
-
-def says(words):
-    """What the page says of a run: the bytes of its output and of its error text, whether there is a message, and the status; or the number of a refusal."""
-    refusal = re.fullmatch(r"refused (\d+)", words)
-    if refusal:
-        return int(refusal.group(1))
-    result = re.fullmatch(r'"(.*?)"(?:, errors "(.*)")?(, message)?(?:, status (\d+))?', words)
-    if result:
-        return plain(result.group(1)), plain(result.group(2) or ""), bool(result.group(3)), int(result.group(4) or 0)
-    return plain(words), b"", False, 0
-
-
-def did(given):
-    """The same of what a program gave. A refusal that wrote something is none."""
-    if given.answer in (None, 0, 1) or given.output or given.errors:
-        return given.output, given.errors, given.told, given.code
-    return given.answer
 
 
 def check_example(example):
