@@ -9,10 +9,10 @@ import subprocess
 import sys
 import tempfile
 
-ROOT = os.path.dirname(os.path.dirname(os.path.abspath(__file__)))
+sys.dont_write_bytecode = True
+from built import COMMAND, ROOT, build  # noqa: E402
+
 EXAMPLES = os.path.join(ROOT, "examples")
-BUILT = os.path.join(ROOT, "target", "rust")
-COMMAND = os.path.join(BUILT, "release", "quenhovach")
 
 # Template, exit status, completed steps and place. The sheet is stored beside it, and the error text if there is any. Steps and places were held
 # to the independent model, tests/model, which gave the same.
@@ -114,9 +114,7 @@ def templates():
 
 
 def main():
-    build = ["cargo", "build", "--release", "--offline", "--locked", "--quiet"]
-    built = subprocess.run(build, cwd=os.path.join(ROOT, "rust"), env=dict(os.environ, CARGO_TARGET_DIR=BUILT))
-    check("the command is built", built.returncode, 0)
+    check("the command is built", build(), True)
     check("every template is tried", templates(), sorted(ENDS))
     with tempfile.TemporaryDirectory() as folder:
         for name in ENDS:
