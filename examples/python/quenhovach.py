@@ -1,0 +1,209 @@
+"""The m4 expander for Python 3.9 and newer, over the shared object libquenhovach.so. One file, no dependencies; x86-64 Linux with the GNU C library.
+
+    sheet = expand(template)                      # bytes in, bytes out
+    expander = Expander(pending=4096, budget=10000)
+    sheet = expand(template, expander)            # the same in chosen buffers, as often as you like
+
+`expand` returns a text only where the run is done. A refusal raises `Refused`, and m4exit raises `Exited`, whatever its number: what a template wrote
+before it ended itself can't be taken for its sheet by a caller who did not think of that.
+
+A call needs 1 MiB of stack. The main thread has what `ulimit -s` says, mostly 8 MiB; so has a thread, unless `threading.stack_size` was set to less.
+Before each call the stack that is left is measured, and RuntimeError raised where it is too little: the process would end by a signal otherwise.
+"""
+from __future__ import annotations
+
+import ctypes
+import functools
+import sys
+import threading
+from dataclasses import dataclass
+from enum import IntEnum
+from typing import Any, Optional, Tuple, Union
+
+MAX_LENGTH = 65536  # of the text and of each buffer, in bytes
+BUDGET = 16777216  # steps, where the caller names no other number
+STACK = 1024 * 1024 + 16 * 1024  # 1 MiB for the expander, the rest for the way there
+LIBRARY = "libquenhovach.so.0"  # as the loader finds it; a path has a slash
+
+Text = Union[bytes, bytearray, memoryview]
+
+
+class Answer(IntEnum):
+    """How a run ended. DONE and EXIT finish it; all others are refusals."""
+
+    DONE = 0  # the text is used up
+    EXIT = 1  # m4exit; the detail is its number, 0 to 255
+    LEND = 2  # the text or a buffer is longer than MAX_LENGTH
+    SPENT = 3  # a step is due, and as many as the budget says are completed
+    ROOM = 4  # after the step a buffer would hold more than its length; the detail is a Buffer
+    UNCLOSED = 5  # the text ends in a quote, a comment or a call; the detail is an Unclosed
+    NAME = 6  # define or pushdef of what is not a name
+    NUMBER = 7  # an argument or a result that is no number, or outside its range
+    EXPRESSION = 8  # eval can't read its expression
+    DIVISOR = 9  # in eval: a zero divisor, or a shift count outside 0 to 31
+    MARK = 10  # a bad quote or comment mark
+    NO_TEXT = 11  # defn of a predefined macro whose own meaning is in force
+    GONE = 12  # a call closes, and its name has no definition any more
+    DEEP = 13  # a 65th open call, or a 257th argument over all open calls
+
+
+class Buffer(IntEnum):
+    """The lent buffers, by their numbers; what each holds is in include/quenhovach.h."""
+
+    PENDING = 1
+    CALLS = 2
+    DEFINITIONS = 3
+    STREAMS = 4
+    WRAP = 5
+    ERRORS = 6
+    OUTPUT = 7
+
+
+class Unclosed(IntEnum):
+    """What is open where the text ends."""
+
+    QUOTE = 1
+    COMMENT = 2
+    CALL = 3
+
+
+@dataclass(frozen=True)
+class Report:
+    """The numbers of an answer."""
+
+    number: Answer
+    detail: int  # of EXIT, ROOM and UNCLOSED; else 0
+    steps: int  # completed: a refused step is not counted, the one that ends in DONE or EXIT is
+    place: int  # bytes of the text taken: on a refusal before the refused step, else in all
+    output: int  # bytes written to the output; on a refusal 0
+    errors: int  # bytes of error text; on a refusal 0
+
+    def __str__(self) -> str:
+        name = self.number.name.lower().replace("_", " ")
+        return "answer %d (%s), detail %d, after %d steps, place %d" % (self.number, name, self.detail, self.steps, self.place)
+
+
+@dataclass(frozen=True)
+class Sheet:
+    """What a finished run wrote."""
+
+    output: bytes
+    errors: bytes  # the error text, from errprint
+    report: Report
+
+
+class NotDone(Exception):
+    """The run ended in another answer than DONE."""
+
+    report: Report
+
+
+class Refused(NotDone):
+    """A refusal. There is no text, and the output and error buffers are as they were."""
+
+    def __init__(self, report: Report) -> None:
+        super().__init__(report)
+        self.report = report
+
+    def __str__(self) -> str:
+        return "no sheet: %s" % self.report
+
+
+class Exited(NotDone):
+    """The template ended itself by m4exit; `sheet` is what it wrote until then, and `code` is its number. The template says what that means."""
+
+    def __init__(self, sheet: Sheet) -> None:
+        super().__init__(sheet)
+        self.sheet = sheet
+        self.report = sheet.report
+        self.code = sheet.report.detail
+
+    def __str__(self) -> str:
+        told = ", error text %r" % self.sheet.errors if self.sheet.errors else ""
+        return "m4exit(%d) after %d bytes of output%s: %s" % (self.code, self.report.output, told, self.report)
+
+
+class Expander:
+    """Seven buffers of chosen lengths and a budget, for one run after the other. What the buffers held before never matters to a run.
+
+    Threads that share an expander wait for each other. With one each they run at the same time: a call does not hold Python's global lock.
+    """
+
+    def __init__(
+        self, *, pending: int = MAX_LENGTH, calls: int = MAX_LENGTH, definitions: int = MAX_LENGTH, streams: int = MAX_LENGTH, wrap: int = MAX_LENGTH,
+        errors: int = MAX_LENGTH, output: int = MAX_LENGTH, budget: int = BUDGET, library: str = LIBRARY,
+    ) -> None:
+        if not 0 <= budget < 2**32:
+            raise ValueError("the budget is a 32-bit number, 0 to 4294967295, and not %d" % budget)
+        lengths = (pending, calls, definitions, streams, wrap, errors, output)
+        self.buffers: Tuple[ctypes.Array[ctypes.c_char], ...] = tuple(ctypes.create_string_buffer(length) for length in lengths)
+        self._budget = budget
+        self._function = _load(library)
+        self._lock = threading.Lock()
+
+    def run(self, text: Text) -> Sheet:
+        """Expands a text. Gives back all of a run that is done, and raises `Exited` or `Refused` for any other."""
+        own = memoryview(text).tobytes()  # nobody else writes to it during the call
+        with self._lock:
+            report = self._call(own)
+            output, errors = self._front(Buffer.OUTPUT, report.output), self._front(Buffer.ERRORS, report.errors)
+        if report.number not in (Answer.DONE, Answer.EXIT):
+            raise Refused(report)
+        sheet = Sheet(output, errors, report)
+        if report.number == Answer.EXIT:
+            raise Exited(sheet)
+        return sheet
+
+    def _call(self, text: bytes) -> Report:
+        left = stack_left()
+        if left < STACK:
+            told = "a call needs %d bytes of stack, and this thread has %d left; threading.stack_size gives new threads more"
+            raise RuntimeError(told % (STACK, left))
+        lent = [part for buffer in self.buffers for part in (buffer, len(buffer))]
+        numbers = (ctypes.c_uint32 * 6)()
+        self._function(text, len(text), *lent, self._budget, numbers)
+        return Report(Answer(numbers[0]), *numbers[1:])
+
+    def _front(self, buffer: Buffer, count: int) -> bytes:
+        return memoryview(self.buffers[buffer - 1])[:count].tobytes()
+
+
+def expand(text: Text, expander: Optional[Expander] = None) -> bytes:
+    """The sheet of a template; raises what `Expander.run` raises.
+
+    Error text goes to standard error, as with the command; `Expander.run` gives it back instead.
+    """
+    sheet = (Expander() if expander is None else expander).run(text)
+    if sheet.errors:
+        sys.stderr.write(sheet.errors.decode("utf-8", "backslashreplace"))
+    return sheet.output
+
+
+@functools.lru_cache(maxsize=None)
+def _load(library: str) -> Any:
+    """The function of the shared object. The header says what it takes."""
+    function = ctypes.CDLL(library).quenhovach_expand
+    function.argtypes = [ctypes.c_char_p, ctypes.c_size_t] + [ctypes.c_void_p, ctypes.c_size_t] * 7 + [ctypes.c_uint32, ctypes.c_void_p]
+    function.restype = ctypes.c_uint32
+    return function
+
+
+_host = ctypes.CDLL(None)
+_host.pthread_self.restype = ctypes.c_size_t
+_host.pthread_getattr_np.argtypes = [ctypes.c_size_t, ctypes.c_void_p]
+_thread = threading.local()
+
+
+def stack_left() -> int:
+    """How many bytes of stack the calling thread has left."""
+    if not hasattr(_thread, "stack_end"):  # found once for each thread, as it takes longer than a short run
+        attributes = (ctypes.c_uint64 * 64)()
+        end, length = ctypes.c_size_t(), ctypes.c_size_t()
+        if _host.pthread_getattr_np(_host.pthread_self(), attributes) != 0:
+            raise RuntimeError("the C library does not say where this thread's stack ends")
+        _host.pthread_attr_getstack(attributes, ctypes.byref(end), ctypes.byref(length))
+        _host.pthread_attr_destroy(attributes)
+        _thread.stack_end = end.value
+    context = (ctypes.c_uint64 * 512)()  # a ucontext_t; on x86-64 its 21st word is the stack pointer
+    _host.getcontext(context)
+    return context[20] - _thread.stack_end

@@ -1,0 +1,299 @@
+#!/usr/bin/env python3
+"""The expander from Python: examples/python/quenhovach.py over a shared object that is made of target/staticlib/libcapi.a as its README says.
+
+Every expected answer and byte is written by hand from document 01; those of the README's example are in tests/c_example.py and tests/examples.py too.
+Ends with 'N passed, M failed'; exit status 0 only if M is 0.
+"""
+import ast
+import contextlib
+import dataclasses
+import io
+import os
+import pickle
+import re
+import subprocess
+import sys
+import tempfile
+import threading
+
+sys.dont_write_bytecode = True
+ROOT = os.path.dirname(os.path.dirname(os.path.abspath(__file__)))
+EXAMPLE = os.path.join(ROOT, "examples", "python")
+ARCHIVE = os.path.join(ROOT, "target", "staticlib", "libcapi.a")
+sys.path.insert(0, EXAMPLE)
+import quenhovach  # noqa: E402
+from quenhovach import Answer, Buffer, Exited, Expander, NotDone, Refused, Report, Sheet, Unclosed  # noqa: E402
+
+OLD = b"\xa5"
+N_IS_5 = b"define(`n',`5')n"
+LEVELS = b"0||1&&0|0^1&1==1<1<<0+1*"  # an operator of each level; before an operand of 1 it comes to 1
+ALONE = "import sys; sys.path.insert(0, sys.argv[1]); from quenhovach import *; "
+DEEPEST = b"eval(" + (LEVELS + b"(") * 32 + LEVELS + b"1" + b")" * 33
+
+# 01's table of answers, its list of buffers, the three ways to be unclosed
+NAMES = {
+    Answer: (0, "DONE EXIT LEND SPENT ROOM UNCLOSED NAME NUMBER EXPRESSION DIVISOR MARK NO_TEXT GONE DEEP"),
+    Buffer: (1, "PENDING CALLS DEFINITIONS STREAMS WRAP ERRORS OUTPUT"),
+    Unclosed: (1, "QUOTE COMMENT CALL"),
+}
+
+JUST = dict(pending=1, calls=8, definitions=2, streams=0, wrap=0, errors=0, output=1, budget=8)
+
+# what is tried, the text, the numbers of the answer, output, error text, and the setting where it is not ample
+CALLS = [
+    ("the empty text", b"", (0, 0, 1, 0, 0, 0), b"", b"", {"budget": 1}),
+    ("n is 5", N_IS_5, (0, 0, 8, 16, 1, 0), b"5", b"", {}),
+    ("n is 5, just the room", N_IS_5, (0, 0, 8, 16, 1, 0), b"5", b"", JUST),
+    ("any bytes", b"\0\xff\n", (0, 0, 4, 3, 3, 0), b"\0\xff\n", b"", {}),
+    ("as much text as may be", b"1" * 65536, (0, 0, 65537, 65536, 65536, 0), b"1" * 65536, b"", {}),
+    ("the greatest budget", b"`'", (0, 0, 2, 2, 0, 0), b"", b"", {"budget": 4294967295}),
+    ("error text", b"errprint(`w')x", (0, 0, 5, 14, 1, 1), b"x", b"w", {}),
+    ("m4exit(3)", b"a`'m4exit(3)b", (1, 3, 5, 12, 1, 0), b"a", b"", {}),
+    ("m4exit(0)", b"x m4exit(0)", (1, 0, 5, 11, 2, 0), b"x ", b"", {}),
+    ("m4exit(255) and error text", b"errprint(`e')m4exit(255)", (1, 255, 8, 24, 0, 1), b"", b"e", {}),
+    ("a text of 65,537 bytes", b"x" * 65537, (2, 0, 0, 0, 0, 0), b"", b"", {}),
+    ("a buffer of 65,537 bytes", b"a", (2, 0, 0, 0, 0, 0), b"", b"", {"wrap": 65537, "budget": 0}),
+    ("no budget", b"", (3, 0, 0, 0, 0, 0), b"", b"", {"budget": 0}),
+    ("a budget of 7 steps", N_IS_5, (3, 0, 7, 16, 0, 0), b"", b"", {"budget": 7}),
+    ("no pending text", N_IS_5, (4, 1, 5, 15, 0, 0), b"", b"", {"pending": 0}),
+    ("seven bytes of open calls", N_IS_5, (4, 2, 3, 11, 0, 0), b"", b"", {"calls": 7}),
+    ("one byte of definitions", N_IS_5, (4, 3, 4, 14, 0, 0), b"", b"", {"definitions": 1}),
+    ("one byte of streams", b"divert(1)ab", (4, 4, 3, 9, 0, 0), b"", b"", {"streams": 1}),
+    ("one byte of wrap text", b"m4wrap(`zz')", (4, 5, 2, 11, 0, 0), b"", b"", {"wrap": 1}),
+    ("one byte of error text", b"errprint(`ww')", (4, 6, 2, 13, 0, 0), b"", b"", {"errors": 1}),
+    ("one byte of output", b"ab", (4, 7, 0, 0, 0, 0), b"", b"", {"output": 1}),
+    ("an unclosed quote", b"a`b", (5, 1, 1, 1, 0, 0), b"", b"", {}),
+    ("an unclosed comment", b"a#b", (5, 2, 1, 1, 0, 0), b"", b"", {}),
+    ("an unclosed call", b"len(", (5, 3, 1, 4, 0, 0), b"", b"", {}),
+    ("no name", b"define(`1a')", (6, 0, 2, 11, 0, 0), b"", b"", {}),
+    ("no number", b"incr(x)", (7, 0, 2, 6, 0, 0), b"", b"", {}),
+    ("no expression", b"eval(08)", (8, 0, 3, 7, 0, 0), b"", b"", {}),
+    ("a zero divisor", b"eval(1/0)", (9, 0, 4, 8, 0, 0), b"", b"", {}),
+    ("a shift by 32", b"eval(1<<32)", (9, 0, 6, 10, 0, 0), b"", b"", {}),
+    ("letters as marks", b"changequote(a,b)", (10, 0, 4, 15, 0, 0), b"", b"", {}),
+    ("defn of a predefined macro", b"defn(`len')", (11, 0, 2, 10, 0, 0), b"", b"", {}),
+    ("a definition that goes while its call is open", b"define(`f')f(undefine(`f'))", (12, 0, 7, 26, 0, 0), b"", b"", {}),
+    ("65 open calls", b"len(" * 65, (13, 0, 64, 256, 0, 0), b"", b"", {}),
+    ("257 arguments", b"len(" + b"," * 256, (13, 0, 256, 259, 0, 0), b"", b"", {}),
+]
+
+passed = 0
+failed = 0
+
+
+def check(name, got, expected):
+    """One test: counts it, and tells where the two differ."""
+    global passed, failed
+    if got == expected:
+        passed += 1
+        return True
+    failed += 1
+    print("%s: expected %.300r, got %.300r" % (name, expected, got))
+    return False
+
+
+def finish():
+    print("%d passed, %d failed" % (passed, failed))
+    sys.exit(1 if failed else 0)
+
+
+def ended(run, *arguments):
+    """What a call came to: its value, or the exception that it raised."""
+    try:
+        return run(*arguments)
+    except Exception as raised:
+        return raised
+
+
+def readme_blocks():
+    """The README's lines for the shell, its program, and what that writes."""
+    text = open(os.path.join(EXAMPLE, "README.md"), encoding="utf-8").read()
+    return [re.sub(r"(?m)^    ", "", block).strip("\n") for block in re.findall(r"(?:^    .*\n(?:\n(?=    ))?)+", text, re.M)]
+
+
+def build(library):
+    command = [line for line in readme_blocks()[0].split("\n") if line.startswith("gcc ")]
+    done = subprocess.run(["sh", "-c", command[0].replace("target/libquenhovach.so", library)], cwd=ROOT, capture_output=True, text=True)
+    if not check("the shared object is built", (done.returncode, done.stdout + done.stderr), (0, "")):
+        finish()
+
+
+def python(program, *words, **environment):
+    """A program without any package: exit status, standard output, standard error. A crash ends it and not the test."""
+    command = [sys.executable, "-I", "-S", "-B", "-c", program, *words]
+    done = subprocess.run(command, cwd=ROOT, env=dict(os.environ, **environment), capture_output=True, text=True, timeout=60)
+    return done.returncode, done.stdout, done.stderr
+
+
+def names():
+    for enum, (first, words) in NAMES.items():
+        check("the numbers of " + enum.__name__, [(m.name, m.value) for m in enum], [(word, first + i) for i, word in enumerate(words.split())])
+    if failed:
+        finish()
+    check("every answer is tried", sorted({call[2][0] for call in CALLS}), list(range(14)))
+    check("every buffer is tried", sorted({call[2][1] for call in CALLS if call[2][0] == 4}), list(range(1, 8)))
+
+
+def calls(library):
+    """Each answer: what is returned or raised, and every byte of the buffers afterwards."""
+    for name, text, numbers, output, errors, setting in CALLS:
+        expander = Expander(library=library, **setting)
+        lengths = [len(buffer) for buffer in expander.buffers]
+        for buffer, length in zip(expander.buffers, lengths):
+            buffer.raw = OLD * length
+        report = Report(Answer(numbers[0]), *numbers[1:])
+        got = ended(expander.run, text)
+        if numbers[0] == 0:
+            check(name, got, Sheet(output, errors, report))
+        elif numbers[0] == 1:
+            check(name, (type(got), getattr(got, "sheet", got), getattr(got, "code", got)), (Exited, Sheet(output, errors, report), numbers[1]))
+        else:
+            check(name, (type(got), getattr(got, "report", got)), (Refused, report))
+        working = OLD if numbers[0] == 2 else b"\0"
+        left = [working * length for length in lengths[:5]]
+        left += [written + OLD * (length - len(written)) for length, written in zip(lengths[5:], (errors, output))]
+        check(name + ": buffers", [buffer.raw for buffer in expander.buffers] == left, True)
+
+
+def sheets(library):
+    """The function that gives a sheet's bytes, and what can't be overlooked."""
+    expander = Expander(library=library)
+    for text in (N_IS_5, bytearray(N_IS_5), memoryview(b"." + N_IS_5)[1:]):
+        check("expand of a " + type(text).__name__, quenhovach.expand(text, expander), b"5")
+    with contextlib.redirect_stderr(io.StringIO()) as told:
+        check("expand with error text", quenhovach.expand(b"errprint(`w\xff')x", expander), b"x")
+    check("the error text", told.getvalue(), "w\\xff")
+    for text, kind, said in [
+        (b"x m4exit(0)", Exited, "m4exit(0) after 2 bytes of output: answer 1 (exit), detail 0, after 5 steps, place 11"),
+        (b"errprint(`e')m4exit(255)", Exited,
+         "m4exit(255) after 0 bytes of output, error text b'e': answer 1 (exit), detail 255, after 8 steps, place 24"),
+        (b"defn(`len')", Refused, "no sheet: answer 11 (no text), detail 0, after 2 steps, place 10"),
+    ]:
+        raised = ended(quenhovach.expand, text, expander)
+        check("expand of %s" % text, (type(raised), isinstance(raised, NotDone), str(raised)), (kind, True, said))
+        check("and the exception in another process", ended(lambda: str(pickle.loads(pickle.dumps(raised)))), said)
+        status, _, err = python(ALONE + "expand(sys.argv[3].encode(), Expander(library=sys.argv[2]))", EXAMPLE, library, text.decode())
+        check("and uncaught", (status, err.splitlines()[-1:]), (1, ["quenhovach.%s: %s" % (kind.__name__, said)]))
+    check("a report does not change", type(ended(setattr, Report(Answer.DONE, 0, 1, 0, 0, 0), "detail", 1)), dataclasses.FrozenInstanceError)
+
+
+def misuse(library):
+    for setting, kind in [
+        ({"budget": -1}, ValueError), ({"budget": 2**32}, ValueError), ({"output": -1}, ValueError), ({"library": "/nothing/here.so"}, OSError),
+    ]:
+        check("Expander of %s" % setting, type(ended(lambda: Expander(**dict({"library": library}, **setting)))), kind)
+    for text in ("text", 5, None):
+        check("a text that is %r" % text, type(ended(Expander(library=library).run, text)), TypeError)
+
+
+def reuse(library):
+    """One run after another in the same buffers, which only a finished one writes to."""
+    expander = Expander(library=library, output=6)
+    for text, expected, held in [
+        (b"......", b"......", b"......"),
+        (N_IS_5, b"5", b"5....."),
+        (b"12`", 5, b"5....."),
+        (b"1234567", 4, b"5....."),
+        (b"ab", b"ab", b"ab...."),
+        (N_IS_5, b"5", b"5b...."),
+    ]:
+        got = ended(quenhovach.expand, text, expander)
+        check("used again: %s" % text, (got.report.number if isinstance(got, NotDone) else got, expander.buffers[6].raw), (expected, held))
+
+
+def threads(library):
+    """Many runs at once, with an expander each and with a shared one."""
+    shared = Expander(library=library)
+    for name, expander_of in (("an expander each", lambda: Expander(library=library)), ("a shared expander", lambda: shared)):
+        wrong = []
+
+        def work(number):
+            expander = expander_of()
+            sheet = b"%d" % number * 9000
+            for turn in range(100):
+                got = ended(expander.run, sheet)
+                if got != Sheet(sheet, b"", Report(Answer.DONE, 0, 9001, 9000, 9000, 0)):
+                    wrong.append((number, turn, got))
+
+        workers = [threading.Thread(target=work, args=(number,)) for number in range(4)]
+        for worker in workers:
+            worker.start()
+        for worker in workers:
+            worker.join()
+        check("four threads with " + name, wrong[:1], [])
+
+
+# A thread of argv[3] bytes of stack, of which all but what a call needs and argv[4] bytes are used up by calls from C.
+THREAD = """
+import sys, threading
+sys.path.insert(0, sys.argv[1])
+import quenhovach
+sys.setrecursionlimit(20000)
+expander = quenhovach.Expander(library=sys.argv[2])
+def work():
+    if quenhovach.stack_left() > quenhovach.STACK + int(sys.argv[4]):
+        return max([0], key=lambda _: work() or 0)
+    try:
+        print(expander.run(%r).output.decode())
+    except RuntimeError as error:
+        print(error)
+threading.stack_size(int(sys.argv[3]))
+thread = threading.Thread(target=work)
+thread.start()
+thread.join()
+""" % DEEPEST
+TOO_LITTLE = r"a call needs 1064960 bytes of stack, and this thread has \d+ left; threading.stack_size gives new threads more\n"
+
+
+def stacks(library):
+    """The deepest run there is, in threads with little stack: it is made or refused, and never ends the process."""
+    for name, size, spare, said in [
+        ("64 KiB", 1 << 16, 0, TOO_LITTLE),
+        ("1 MiB", 1 << 20, 0, TOO_LITTLE),
+        ("1 MiB and 64 KiB", (1 << 20) + (1 << 16), 1 << 20, r"1\n"),
+        ("1.125 MiB, used up until it is just enough", 9 << 17, 2048, r"1\n"),
+        ("1.125 MiB, used up until it is too little", 9 << 17, 0, TOO_LITTLE),
+    ]:
+        status, out, err = python(THREAD, EXAMPLE, library, str(size), str(spare))
+        check("a thread's stack of " + name, (status, re.fullmatch(said, out) is not None, err), (0, True, ""))
+
+
+def example(library):
+    _, program, shown = readme_blocks()
+    check("the README's example", python(program.replace("target/libquenhovach.so", library)), (0, shown + "\n", ""))
+    os.symlink(library, os.path.join(os.path.dirname(library), "libquenhovach.so.0"))
+    got = python(ALONE + "print(expand(b'eval(2+3)').decode())", EXAMPLE, LD_LIBRARY_PATH=os.path.dirname(library))
+    check("a library that the loader finds", got, (0, "5\n", ""))
+
+
+def source():
+    """Python 3.9 can read it, and every parameter and result has a type."""
+    text = open(os.path.join(EXAMPLE, "quenhovach.py"), encoding="utf-8").read()
+    tree = ended(lambda: ast.parse(text, feature_version=(3, 9)))
+    if not check("Python 3.9 reads it", type(tree), ast.Module):
+        return
+    untyped = []
+    for node in ast.walk(tree):
+        if isinstance(node, ast.FunctionDef):
+            parameters = node.args.posonlyargs + node.args.args + node.args.kwonlyargs
+            untyped += [node.name] if node.returns is None else []
+            untyped += [node.name + ", " + p.arg for p in parameters if p.annotation is None and p.arg != "self"]
+    check("functions and parameters without a type", untyped, [])
+
+
+def main():
+    if not os.path.exists(ARCHIVE):
+        print("target/staticlib/libcapi.a is missing: `rt staticlib capi` writes it")
+        print("0 passed, 1 failed")
+        sys.exit(1)
+    names()
+    source()
+    with tempfile.TemporaryDirectory() as folder:
+        library = os.path.join(folder, "libquenhovach.so")
+        build(library)
+        for part in (calls, sheets, misuse, reuse, threads, stacks, example):
+            part(library)
+    finish()
+
+
+main()
