@@ -1,7 +1,8 @@
 /* quenhovach.h: the m4 expander for C and C++.
  *
  * One function expands one m4 text in buffers that the caller lends. It is built by `rt staticlib capi` as target/staticlib/libcapi.a, for
- * x86-64 Linux, once its proof is checked. Of C's library it needs memcpy and memset.
+ * x86-64 Linux, once its proof is checked; ./install puts it in place as libquenhovach, an archive and a shared object. Of C's library it
+ * needs memcpy and memset.
  *
  * It ends on every text, every lent length and every budget, and it has one of fourteen answers. Two of them finish a run: "done" and
  * "exit". The twelve others are refusals, and a refusal gives no text at all: there is no shortened output.
@@ -15,6 +16,9 @@
 #ifdef __cplusplus
 extern "C" {
 #endif
+
+/* The version of this header; rust/Cargo.toml has the same. */
+#define QUENHOVACH_VERSION "0.1.0"
 
 /* The greatest length, in bytes, of the text and of each buffer. */
 #define QUENHOVACH_MAX_LENGTH 65536
