@@ -27,6 +27,8 @@ def without_promise(function, folder):
     code = text[:head] + ENSURES.sub("", text[head : function.start]) + text[function.start :]
     path = os.path.join(folder, "proofs", function.name, "Proof.antt")
     proof = RETURNS.sub(lambda m: "%s%s%s c = search needs\n" % (m.group(1), m.group(2), m.group(1)), open(path, encoding="utf-8").read())
+    if "use borrow.Author.Needs." not in proof:
+        proof = "use borrow.Author.Needs.{needs}\n" + proof
     if code == text:
         sys.exit("%s has no line 'ensures'" % function.name)
     return {function.path: code, path: proof}
