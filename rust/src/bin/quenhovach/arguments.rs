@@ -16,8 +16,8 @@ pub enum Request {
 /// What to expand, in which room, and where to.
 #[derive(Debug, PartialEq)]
 pub struct Options {
-    /// The template; standard input if none.
-    pub input: Option<PathBuf>,
+    /// The templates in order, one at least; none is standard input.
+    pub inputs: Vec<Option<PathBuf>>,
     /// The sheet; standard output if none.
     pub sheet: Option<PathBuf>,
     /// Where the six numbers go.
@@ -44,7 +44,7 @@ pub fn option_of(buffer: Buffer) -> &'static str {
 /// What was given so far; an option may be given once.
 #[derive(Default)]
 struct Given {
-    input: Option<OsString>,
+    inputs: Vec<OsString>,
     sheet: Option<OsString>,
     report: Option<OsString>,
     lengths: [Option<u32>; 7],
@@ -105,14 +105,13 @@ fn is_long(word: &[u8]) -> bool {
 
 impl Given {
     fn take_file(&mut self, name: OsString) -> Result<(), String> {
-        if self.input.is_some() {
-            let second = name.to_string_lossy();
-            return Err(format!("one template only; '{second}' is a second one"));
-        }
         if name.is_empty() {
-            return Err("the template's name is empty".to_string());
+            return Err("a template's name is empty".to_string());
         }
-        self.input = Some(name);
+        if name == "-" && self.inputs.contains(&name) {
+            return Err("-: it is given twice; standard input can be read once".to_string());
+        }
+        self.inputs.push(name);
         Ok(())
     }
 
@@ -148,9 +147,13 @@ impl Given {
 
     /// What was given, and defaults for the rest.
     fn options(self) -> Result<Options, String> {
+        let mut inputs: Vec<_> = self.inputs.into_iter().map(file).collect();
+        if inputs.is_empty() {
+            inputs.push(None);
+        }
         let options = Options {
-            input: file(self.input),
-            sheet: file(self.sheet),
+            inputs,
+            sheet: self.sheet.and_then(file),
             report: self.report.map(PathBuf::from),
             lengths: self.lengths.map(|n| n.map_or(LONGEST, |n| n as usize)),
             budget: self.budget.unwrap_or(BUDGET),
@@ -163,8 +166,8 @@ impl Given {
 }
 
 /// A file's name; `-` is the standard stream.
-fn file(name: Option<OsString>) -> Option<PathBuf> {
-    name.filter(|name| name != "-").map(PathBuf::from)
+fn file(name: OsString) -> Option<PathBuf> {
+    (name != "-").then(|| PathBuf::from(name))
 }
 
 fn set_once<T>(name: &str, place: &mut Option<T>, value: T) -> Result<(), String> {
@@ -206,7 +209,7 @@ mod tests {
     #[test]
     fn defaults() {
         let expected = Options {
-            input: None,
+            inputs: vec![None],
             sheet: None,
             report: None,
             lengths: [65_536; 7],
@@ -225,14 +228,18 @@ mod tests {
             &["no template", "--wrap=007", "-o", "no sheet"],
         ] {
             let options = options(arguments);
-            assert_eq!(options.input.as_deref(), Some(Path::new("no template")));
+            assert_eq!(options.inputs, [Some("no template".into())]);
             assert_eq!(options.sheet.as_deref(), Some(Path::new("no sheet")));
             assert_eq!(options.lengths[4], 7);
         }
-        assert_eq!(
-            options(&["--", "-x"]).input.as_deref(),
-            Some(Path::new("-x"))
-        );
+        assert_eq!(options(&["--", "-x"]).inputs, [Some("-x".into())]);
+    }
+
+    #[test]
+    fn templates_in_order() {
+        let given = options(&["b", "-o", "sheet", "-", "a", "--", "b"]);
+        let name = |name: &str| Some(PathBuf::from(name));
+        assert_eq!(given.inputs, [name("b"), None, name("a"), name("b")]);
     }
 
     #[test]
@@ -250,7 +257,8 @@ mod tests {
     #[test]
     fn bad_usage() {
         for arguments in [
-            ["a", "b"].as_slice(),
+            ["-", "-"].as_slice(),
+            &["a", ""],
             &["-x"],
             &["--sheet", "a"],
             &["-o"],
@@ -289,7 +297,10 @@ mod tests {
             (&["--help=x"], "--help takes nothing behind it"),
             (&["-xy"], "unknown option -x"),
             (&["--helper"], "unknown option --helper"),
-            (&["a", "--", "b"], "one template only; 'b' is a second one"),
+            (
+                &["-", "a", "--", "-"],
+                "-: it is given twice; standard input can be read once",
+            ),
             (&["-o"], "-o: its value is missing"),
         ] {
             assert_eq!(parsed(arguments), Err(complaint.to_string()));

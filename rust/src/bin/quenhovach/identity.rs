@@ -28,9 +28,26 @@ pub enum Way {
     Path(PathBuf),
 }
 
+impl Way {
+    /// Whether both go through descriptors that may share how far was read: one descriptor, or two of one file, pipe or socket. A
+    /// terminal can be read again.
+    fn shares_stream(&self, other: &Way) -> bool {
+        let (Way::Open(one, Ok(file)), Way::Open(two, Ok(other))) = (self, other) else {
+            return false;
+        };
+        let same = match (file.metadata(), other.metadata()) {
+            (Ok(a), Ok(b)) => {
+                (a.dev(), a.ino()) == (b.dev(), b.ino()) && !a.file_type().is_char_device()
+            }
+            _ => false,
+        };
+        one == two || same
+    }
+}
+
 /// The files of a run.
 pub struct Files {
-    pub template: Endpoint,
+    pub templates: Vec<Endpoint>,
     pub sheet: Endpoint,
     pub report: Option<Endpoint>,
 }
@@ -40,7 +57,7 @@ pub struct Files {
 pub fn tell_apart(options: &Options) -> Result<Files, Option<String>> {
     let report = options.report.as_deref();
     let parties = Parties {
-        template: Party::named("template", "", options.input.as_deref(), INPUT),
+        templates: options.inputs.iter().map(Party::template).collect(),
         sheet: Party::named("sheet", "-o ", options.sheet.as_deref(), OUTPUT),
         report: report.map(|path| Party::named("report", "--report ", Some(path), ERRORS)),
         streams: [INPUT, OUTPUT, ERRORS].map(Party::stream),
@@ -51,11 +68,21 @@ pub fn tell_apart(options: &Options) -> Result<Files, Option<String>> {
     if let Some([one, other]) = parties.clash() {
         return Err(Some(one.complaint(other)));
     }
+    if let Some([one, other]) = parties.read_twice() {
+        let roles = [&*one.role, &*other.role].join(" and ");
+        return Err(Some(format!(
+            "{roles} are one stream, which can be read once"
+        )));
+    }
     Ok(Files {
-        template: parties.template.endpoint,
+        templates: endpoints(parties.templates).collect(),
         sheet: parties.sheet.endpoint,
-        report: parties.report.map(|party| party.endpoint),
+        report: endpoints(parties.report).next(),
     })
+}
+
+fn endpoints(parties: impl IntoIterator<Item = Party>) -> impl Iterator<Item = Endpoint> {
+    parties.into_iter().map(|party| party.endpoint)
 }
 
 /// What messages call a path, or the standard stream that is taken without one.
@@ -82,7 +109,7 @@ impl Endpoint {
 }
 
 struct Parties {
-    template: Party,
+    templates: Vec<Party>,
     sheet: Party,
     report: Option<Party>,
     streams: [Party; 3],
@@ -92,7 +119,8 @@ impl Parties {
     /// What must not be the file behind standard error, where every complaint goes, and is.
     fn clash_with_errors(&self) -> Option<[&Party; 2]> {
         let [_, _, errors] = &self.streams;
-        iter::once(&self.template)
+        self.templates
+            .iter()
             .chain(self.replaced())
             .find(|one| one.is(errors))
             .map(|one| [one, errors])
@@ -102,7 +130,9 @@ impl Parties {
     fn clash(&self) -> Option<[&Party; 2]> {
         let [input, output, _] = &self.streams;
         let mut pairs = Vec::new();
-        pairs.extend(self.written().map(|one| [&self.template, one]));
+        for template in &self.templates {
+            pairs.extend(self.written().map(|one| [template, one]));
+        }
         pairs.extend(self.report.iter().map(|report| [&self.sheet, report]));
         // Others too may hold the streams' files, and would lose what they write there.
         pairs.extend(
@@ -110,6 +140,13 @@ impl Parties {
                 .flat_map(|one| [[one, input], [one, output]]),
         );
         pairs.into_iter().find(|[one, other]| one.is(other))
+    }
+
+    /// Two templates that are read through one stream. The second would be empty, and nothing would show it.
+    fn read_twice(&self) -> Option<[&Party; 2]> {
+        let others = |(i, one)| self.templates[..i].iter().map(move |other| [other, one]);
+        let mut pairs = self.templates.iter().enumerate().flat_map(others);
+        pairs.find(|[one, other]| one.endpoint.way.shares_stream(&other.endpoint.way))
     }
 
     fn written(&self) -> impl Iterator<Item = &Party> {
@@ -133,6 +170,10 @@ struct Party {
 impl Party {
     fn stream(number: c_int) -> Party {
         Party::new(name(None, number), Endpoint::of(None, number))
+    }
+
+    fn template(path: &Option<PathBuf>) -> Party {
+        Party::named("template", "", path.as_deref(), INPUT)
     }
 
     fn named(what: &str, option: &str, path: Option<&Path>, stream: c_int) -> Party {

@@ -1,12 +1,12 @@
-//! The command `quenhovach`: a template in, a settings sheet out, whole or not at all. See docs/quenhovach.1.
+//! The command `quenhovach`: templates in, a settings sheet out, whole or not at all. See docs/quenhovach.1.
 
 mod arguments;
 mod identity;
 mod place;
-mod reading;
 mod refusal;
 mod signals;
 mod standard;
+mod templates;
 mod writing;
 
 use arguments::{Options, Request};
@@ -71,14 +71,14 @@ fn show(text: &str) -> Result<u8, String> {
     Ok(0)
 }
 
-/// Expands the template; the exit status, or which input or output failed.
+/// Expands the templates; the exit status, or which input or output failed.
 fn run(options: &Options, files: Files) -> Result<u8, String> {
     writing::empty_report(files.report.as_ref())?;
-    let text = reading::read(files.template)?;
+    let templates = templates::read(files.templates)?;
     let mut lent = options.lengths.map(|length| vec![0; length]);
-    let report = expand(&text, buffers(&mut lent), options.budget);
+    let report = expand(&templates.text, buffers(&mut lent), options.budget);
     if report.answer.is_refusal() {
-        complain(refusal::explain(options, &report, &text));
+        complain(refusal::explain(options, &report, &templates));
         writing::stage_report(files.report, &report)?.commit()?;
     } else {
         let [.., errors, output] = &lent;

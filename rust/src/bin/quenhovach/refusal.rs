@@ -1,69 +1,98 @@
 //! What the command says about a refusal: what happened, where, and what to do about it.
 
 use crate::arguments::{option_of, Options};
-use crate::identity;
 use crate::place::spot;
-use crate::standard::INPUT;
+use crate::templates::{Part, Templates};
 use quenhovach::{Answer, Buffer, Opened, Report, LONGEST};
 
 /// Columns of a line of the message at most.
 const WIDTH: usize = 79;
 
 /// The whole message, without the command's name in front and the last newline.
-pub fn explain(options: &Options, report: &Report, text: &[u8]) -> String {
+pub fn explain(options: &Options, report: &Report, templates: &Templates) -> String {
     let answer = report.answer;
     let place = match answer {
-        Answer::Lend => format!(
-            "{}: refused: {answer}",
-            identity::name(options.input.as_deref(), INPUT)
-        ),
-        _ => where_it_is(options, report, text),
+        Answer::Lend => format!("{}: refused: {answer}", last_read(templates).name),
+        _ => where_it_is(report, templates),
     };
-    let (happened, advice) = in_words(options, answer);
-    let numbers = format!(
-        "answer {} ({}), detail {}, after {} steps, place {}",
-        answer.number(),
-        answer.name(),
-        answer.detail(),
-        report.steps,
-        report.place
-    );
+    let (happened, advice) = match answer {
+        Answer::Lend if options.inputs.len() > 1 => too_long_together(last_read(templates)),
+        _ => in_words(options, answer),
+    };
     [
         place,
         wrapped("What happened:", &happened),
         wrapped("What to do:", &advice),
-        wrapped("In numbers:", &numbers),
+        wrapped("In numbers:", &in_numbers(report, templates)),
         wrapped("The sheet:", &sheet_left(options)),
     ]
     .join("\n")
 }
 
+/// The last template that was read.
+fn last_read(templates: &Templates) -> &Part {
+    templates.parts.last().expect("there is a template")
+}
+
 /// File, line and column, the answer, and the line with a caret under the place.
-fn where_it_is(options: &Options, report: &Report, text: &[u8]) -> String {
-    let spot = spot(text, report.place);
+fn where_it_is(report: &Report, templates: &Templates) -> String {
+    let Part { name, range } = &templates.parts[templates.number_at(report.place)];
+    let spot = spot(&templates.text[range.clone()], report.place - range.start);
     let number = spot.line.to_string();
     let margin = " ".repeat(number.len());
     format!(
-        "{}:{}:{}: refused: {}\n {number} | {}{}\n {margin} | {}^\n{}",
-        identity::name(options.input.as_deref(), INPUT),
+        "{name}:{}:{}: refused: {}\n {number} | {}{}\n {margin} | {}^\n{}",
         spot.line,
         spot.column,
         report.answer,
         spot.before,
         spot.behind,
         " ".repeat(spot.before.chars().count()),
-        wrapped("Where:", begins(report.answer)),
+        wrapped("Where:", &begins(report, templates)),
     )
 }
 
 /// How the caret is to be read: the place is where the input stood before the refused step.
-fn begins(answer: Answer) -> &'static str {
-    match answer {
-        Answer::Unclosed(Opened::Call) => {
-            "the text ends here; the open call begins somewhere before"
-        }
-        _ => "the refused step begins here, or in text that a macro before here gave",
+fn begins(report: &Report, templates: &Templates) -> String {
+    if let Answer::Unclosed(Opened::Call) = report.answer {
+        let before = match templates.number_at(report.place) {
+            0 => "",
+            _ => ", in this template or one before it",
+        };
+        return format!("the text ends here; the open call begins somewhere before{before}");
     }
+    let giver = match templates.ended_at(report.place) {
+        Some(ended) => format!("at the end of {}", ended.name),
+        None => "before here".to_string(),
+    };
+    format!("the refused step begins here, or in text that a macro {giver} gave")
+}
+
+/// The numbers of the answer. Of several templates the place counts over all; which one it is in tells a file named twice.
+fn in_numbers(report: &Report, templates: &Templates) -> String {
+    let Report {
+        answer,
+        steps,
+        place,
+        ..
+    } = *report;
+    let numbers = format!(
+        "answer {} ({}), detail {}, after {steps} steps, place {place}",
+        answer.number(),
+        answer.name(),
+        answer.detail(),
+    );
+    let Templates { parts, .. } = templates;
+    if parts.len() == 1 || answer == Answer::Lend {
+        return numbers;
+    }
+    let number = templates.number_at(place);
+    let within = place - parts[number].range.start;
+    format!(
+        "{numbers} in the {} templates joined, {within} in template {}",
+        parts.len(),
+        number + 1
+    )
 }
 
 /// What is left where the sheet should have gone.
@@ -101,6 +130,20 @@ fn in_words(options: &Options, answer: Answer) -> (String, String) {
             (happened.to_string(), advice.to_string())
         }
     }
+}
+
+/// More than may be lent, in several templates.
+fn too_long_together(passing: &Part) -> (String, String) {
+    let Part { name, range } = passing;
+    let happened = format!(
+        "the templates have more than {LONGEST} bytes together; {name} passes the limit, with {} bytes before it; nothing was \
+         expanded",
+        range.start
+    );
+    (
+        happened,
+        "leave a template out, or make them shorter".to_string(),
+    )
 }
 
 fn spent(budget: u32) -> (String, String) {
@@ -225,12 +268,19 @@ mod tests {
 
     fn options() -> Options {
         Options {
-            input: Some("t.m4".into()),
+            inputs: vec![Some("t.m4".into())],
             sheet: Some("t.sheet".into()),
             report: None,
             lengths: [4096; 7],
             budget: 100,
         }
+    }
+
+    fn template(text: &[u8]) -> Templates {
+        let (name, range) = ("t.m4".to_string(), 0..text.len());
+        let parts = vec![Part { name, range }];
+        let text = text.to_vec();
+        Templates { text, parts }
     }
 
     fn refused(answer: Answer) -> Report {
@@ -252,7 +302,7 @@ mod tests {
         let message = explain(
             &options(),
             &refused(Answer::Room(Buffer::Pending)),
-            b"a\nb n c\n",
+            &template(b"a\nb n c\n"),
         );
         let expected = "\
 t.m4:2:2: refused: no room for pending text
@@ -275,7 +325,7 @@ The sheet: none was written; t.sheet is as it was";
         for answer in refusals() {
             let (happened, advice) = in_words(&options(), answer);
             assert!(!happened.is_empty() && !advice.is_empty(), "{answer}");
-            let message = explain(&options(), &refused(answer), b"text");
+            let message = explain(&options(), &refused(answer), &template(b"text"));
             assert!(
                 message.lines().all(|line| line.chars().count() <= WIDTH),
                 "{message}"
