@@ -15,13 +15,14 @@ import common  # noqa: E402
 import crate  # noqa: E402
 import files  # noqa: E402
 import interrupted  # noqa: E402
+import long_runs  # noqa: E402
 import several  # noqa: E402
 import usage  # noqa: E402
 
 PARTS = [
     answers.endings, answers.places, files.inputs, files.sheets, files.reports, files.limits, files.standard_output, apart.told_apart, apart.harmless,
     apart.written_through, several.joined, several.places, several.too_long, several.unreadable, several.read_first, several.clashes, interrupted.signals,
-    usage.usage,
+    long_runs.finished, long_runs.interrupted, usage.usage,
 ]
 
 

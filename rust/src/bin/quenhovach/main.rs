@@ -3,10 +3,12 @@
 mod arguments;
 mod identity;
 mod place;
+mod progress;
 mod refusal;
 mod signals;
 mod standard;
 mod templates;
+mod terminal;
 mod writing;
 
 use arguments::{Options, Request};
@@ -76,7 +78,8 @@ fn run(options: &Options, files: Files) -> Result<u8, String> {
     writing::empty_report(files.report.as_ref())?;
     let templates = templates::read(files.templates)?;
     let mut lent = options.lengths.map(|length| vec![0; length]);
-    let report = expand(&templates.text, buffers(&mut lent), options.budget);
+    let work = || expand(&templates.text, buffers(&mut lent), options.budget);
+    let report = progress::shown(work);
     if report.answer.is_refusal() {
         complain(refusal::explain(options, &report, &templates));
         writing::stage_report(files.report, &report)?.commit()?;

@@ -2,8 +2,10 @@
 //! error of the write and no signal.
 //!
 //! A handler may run between any two instructions, and is allowed little: here it reads atomics and calls `unlink`, `signal`
-//! and `raise`, which POSIX lists as safe there. The process has one thread.
+//! and `raise`, and for the line of a long run `tcgetpgrp`, `getpgrp`, `poll` and `write`. POSIX lists them all as safe there.
+//! It runs in the main thread, since any other is begun with these signals blocked.
 
+use crate::progress;
 use std::ffi::{c_char, c_int, CString};
 use std::io;
 use std::os::unix::ffi::OsStrExt;
@@ -49,6 +51,25 @@ pub fn held<T>(work: impl FnOnce() -> T) -> T {
     done
 }
 
+/// Begins a thread in which none of the signals is handled: it has them blocked from its first instruction.
+pub fn blocked<T>(begin: impl FnOnce() -> T) -> T {
+    const SIG_BLOCK: c_int = 0;
+    const SIG_SETMASK: c_int = 2;
+    let (mut ending, mut before) = ([0; SET_WORDS], [0; SET_WORDS]);
+    // SAFETY: these change sets of signals, which are ours, and which of them this thread has blocked.
+    unsafe {
+        sigemptyset(&mut ending);
+        for number in ENDING {
+            sigaddset(&mut ending, number);
+        }
+        pthread_sigmask(SIG_BLOCK, &ending, &mut before);
+    }
+    let begun = begin();
+    // SAFETY: likewise; what was blocked before is again.
+    unsafe { pthread_sigmask(SIG_SETMASK, &before, null_mut()) };
+    begun
+}
+
 /// A file that is removed where a signal ends the process, until this is dropped.
 pub struct Watch(&'static AtomicPtr<c_char>);
 
@@ -79,7 +100,7 @@ extern "C" fn handle(number: c_int) {
     }
 }
 
-/// Removes what is watched and ends the process by the signal, so that its parent sees which. In the handler the signal is
+/// Removes what is watched and the line of a long run, and ends the process by the signal, so that its parent sees which. In the handler the signal is
 /// blocked, and comes on the return.
 fn end_by(number: c_int) {
     for place in &WATCHED {
@@ -89,6 +110,7 @@ fn end_by(number: c_int) {
             unsafe { unlink(path) };
         }
     }
+    progress::wipe_at_signal();
     set(number, SIG_DFL);
     // SAFETY: a signal to ourselves, with its default action.
     unsafe { raise(number) };
@@ -100,7 +122,14 @@ fn set(number: c_int, action: usize) -> usize {
     unsafe { signal(number, action) }
 }
 
+/// A `sigset_t` has 1,024 bits.
+const SET_WORDS: usize = 16;
+type SignalSet = [u64; SET_WORDS];
+
 extern "C" {
+    fn sigemptyset(set: *mut SignalSet) -> c_int;
+    fn sigaddset(set: *mut SignalSet, number: c_int) -> c_int;
+    fn pthread_sigmask(how: c_int, set: *const SignalSet, before: *mut SignalSet) -> c_int;
     fn signal(number: c_int, action: usize) -> usize;
     fn raise(number: c_int) -> c_int;
     fn unlink(path: *const c_char) -> c_int;
