@@ -5,6 +5,9 @@ use crate::Answer;
 /// The most bytes that a text or a lent buffer may have.
 pub const LONGEST: usize = 65_536;
 
+/// The budget of the program `expand`, and of everything here that is given none.
+pub const BUDGET: u32 = 16_777_216;
+
 extern "C" {
     /// Answers the number, and fills the report: number, detail, steps, place, output count, error count.
     fn quenhovach_expand(
@@ -33,7 +36,9 @@ extern "C" {
 ///
 /// After done or exit `output` and `errors` hold the text from the front and their old bytes behind it; after a refusal they
 /// are as they were. The other five are all zero afterwards, except after [`Answer::Lend`], which writes nothing.
-#[derive(Debug)]
+///
+/// The default is seven empty ones.
+#[derive(Debug, Default)]
 pub struct Buffers<'a> {
     /// Text pushed back and not yet read.
     pub pending: &'a mut [u8],
@@ -67,6 +72,14 @@ pub struct Report {
 }
 
 impl Report {
+    /// The code of `m4exit`, if that ended the run and not the end of the text.
+    pub fn exit_code(&self) -> Option<u8> {
+        match self.answer {
+            Answer::Exit(code) => Some(code),
+            _ => None,
+        }
+    }
+
     /// The six numbers: number, detail, steps, place, output count, error count.
     pub fn numbers(&self) -> [u32; 6] {
         let count = |n: usize| u32::try_from(n).unwrap_or(u32::MAX);
@@ -103,10 +116,8 @@ impl Report {
 ///         pending: &mut vec![0; pending],
 ///         calls: &mut [0; 8],
 ///         definitions: &mut [0; 2],
-///         streams: &mut [],
-///         wrap: &mut [],
-///         errors: &mut [],
 ///         output,
+///         ..Buffers::default()
 ///     };
 ///     expand(b"define(`n',`5')n", buffers, 100)
 /// }

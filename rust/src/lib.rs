@@ -1,30 +1,50 @@
 //! An m4 expander in buffers that the caller lends: a template in, a settings sheet out, and never a short text that
 //! claims to be whole.
 //!
-//! [`expand`] takes a text of at most 65,536 bytes, seven lent buffers and a budget of steps. It ends on every input,
-//! without a heap and with nothing undefined, in one of the 14 ways of [`Answer`]. Done and exit give the whole text; every
-//! other answer is a refusal, says where it came, and leaves the output and error buffers as they were. With more room or
-//! budget a run that had finished gives the same bytes and numbers.
-//!
-//! [`expand_to_vec`] does the same with as much room as may be lent, and gives the text back as vectors:
-//!
 //! ```
 //! let sheet = quenhovach::expand_to_vec(b"define(`guys',`3')dnl\nguy_count=guys\n")?;
 //! assert_eq!(sheet.output, b"guy_count=3\n");
-//! # Ok::<(), quenhovach::Refusal>(())
+//! # Ok::<(), quenhovach::Failure>(())
 //! ```
+//!
+//! A refusal is an error there, and so is a template that ends itself with `m4exit` and another number than 0
+//! ([`Failure`]): what the `?` lets through is a whole sheet with which the template is content.
+//!
+//! | | needs | room | |
+//! |---|---|---|---|
+//! | [`expand`] | `core` alone | seven slices | a [`Report`] with one of 14 [`Answer`]s |
+//! | [`Expander`] | feature `alloc` | its own, kept from call to call | text in its buffers, or a [`Failure`] |
+//! | [`expand_to_vec`] | feature `alloc` | as much as may be lent, made anew | a [`Sheet`] of vectors, or a [`Failure`] |
+//!
+//! A text may have 65,536 bytes, each of the seven buffers too, and a budget of steps is given. A run ends on every input,
+//! without a heap and with nothing undefined. Done and exit give the whole text; every other answer is a refusal, says where
+//! it came, and leaves the output and error buffers as they were. With more room or budget a run that had finished gives the
+//! same bytes and numbers.
+//!
+//! A small call (two lines, 37 bytes) took 13 µs with an [`Expander`], as in slices and from C, and 18 µs with
+//! [`expand_to_vec`], or 215 µs where the heap gets the room from the system anew each time. That is the least of 20,000
+//! calls each, measured on one machine (AMD EPYC, Linux): `cargo run --release --example small_call` measures it on yours.
 //!
 //! The work is done by a library written in Rattle and proved to meet its rules; this crate only calls it. A call needs up
 //! to 1 MiB of stack, and calls in several threads don't know of each other.
-#![cfg_attr(not(feature = "std"), no_std)]
+#![no_std]
 #![warn(missing_docs)]
+
+#[cfg(feature = "alloc")]
+extern crate alloc;
 
 mod answer;
 mod call;
-#[cfg(feature = "std")]
+#[cfg(feature = "alloc")]
+mod expander;
+mod refusal;
+#[cfg(feature = "alloc")]
 mod sheet;
 
 pub use answer::{Answer, Buffer, Opened};
-pub use call::{expand, Buffers, Report, LONGEST};
-#[cfg(feature = "std")]
-pub use sheet::{expand_to_vec, Refusal, Sheet, BUDGET};
+pub use call::{expand, Buffers, Report, BUDGET, LONGEST};
+#[cfg(feature = "alloc")]
+pub use expander::{Expander, Written};
+pub use refusal::Refusal;
+#[cfg(feature = "alloc")]
+pub use sheet::{expand_to_vec, Failure, Sheet};

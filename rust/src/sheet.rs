@@ -1,14 +1,11 @@
-//! The convenience for callers with a heap: as much room as may be lent, and vectors back.
+//! The convenience for callers with a heap: a text in, a sheet of its own out, and one error for all that is no success.
 
-use crate::{expand, Answer, Buffers, Report, LONGEST};
-use std::error::Error;
-use std::fmt;
-
-/// The budget of [`expand_to_vec`], and the command's if none is given.
-pub const BUDGET: u32 = 16_777_216;
+use crate::{Expander, Refusal, Report, Written};
+use alloc::{string::String, vec::Vec};
+use core::{error::Error, fmt};
 
 /// The text of a run that ended done or exit.
-#[derive(Clone, Debug, PartialEq, Eq)]
+#[derive(Clone, PartialEq, Eq)]
 pub struct Sheet {
     /// The output.
     pub output: Vec<u8>,
@@ -18,77 +15,87 @@ pub struct Sheet {
     pub report: Report,
 }
 
+/// A run that was no success.
+#[derive(Clone, Debug, PartialEq, Eq)]
+pub enum Failure {
+    /// It was refused, and there is no text.
+    Refused(Refusal),
+    /// The template ended it with `m4exit` and another number than 0. What it had written until then is here.
+    Exit(Sheet),
+}
+
 impl Sheet {
     /// The code of `m4exit`, if that ended the run and not the end of the text.
     pub fn exit_code(&self) -> Option<u8> {
-        match self.report.answer {
-            Answer::Exit(code) => Some(code),
-            _ => None,
+        self.report.exit_code()
+    }
+}
+
+impl Failure {
+    /// The run's numbers.
+    pub fn report(&self) -> Report {
+        match self {
+            Failure::Refused(refusal) => refusal.report,
+            Failure::Exit(sheet) => sheet.report,
         }
     }
 }
 
-/// A run that gave no text.
-#[derive(Clone, Copy, Debug, PartialEq, Eq)]
-pub struct Refusal {
-    /// The run's numbers; the answer is a refusal.
-    pub report: Report,
-}
-
-impl fmt::Display for Refusal {
-    fn fmt(&self, f: &mut fmt::Formatter<'_>) -> fmt::Result {
-        let Report {
-            answer,
-            steps,
-            place,
-            ..
-        } = self.report;
-        write!(f, "{answer} (place {place}, after {steps} steps)")
+impl From<Refusal> for Failure {
+    fn from(refusal: Refusal) -> Failure {
+        Failure::Refused(refusal)
     }
 }
 
-impl Error for Refusal {}
+impl fmt::Debug for Sheet {
+    fn fmt(&self, f: &mut fmt::Formatter<'_>) -> fmt::Result {
+        f.debug_struct("Sheet")
+            .field("output", &String::from_utf8_lossy(&self.output))
+            .field("errors", &String::from_utf8_lossy(&self.errors))
+            .field("report", &self.report)
+            .finish()
+    }
+}
 
-/// Expands a text with 65,536 bytes lent for each buffer and [`BUDGET`] steps.
+impl fmt::Display for Failure {
+    fn fmt(&self, f: &mut fmt::Formatter<'_>) -> fmt::Result {
+        match self {
+            Failure::Refused(refusal) => refusal.fmt(f),
+            Failure::Exit(sheet) => {
+                let code = sheet.report.answer.detail();
+                let said = String::from_utf8_lossy(sheet.errors.trim_ascii());
+                let behind = if said.is_empty() { "" } else { ": " };
+                write!(f, "the template ended with m4exit({code}){behind}{said}")
+            }
+        }
+    }
+}
+
+impl Error for Failure {}
+
+/// Expands a text with 65,536 bytes lent for each buffer and [`BUDGET`](crate::BUDGET) steps. An [`Expander`] does the same
+/// again and again in less time.
 ///
 /// ```
-/// use quenhovach::{expand_to_vec, Answer, Opened};
+/// use quenhovach::{expand_to_vec, Answer, Failure, Opened};
 ///
-/// let sheet = expand_to_vec(b"errprint(`look up')sway=on\nm4exit(3)").expect("it ends with m4exit");
+/// let sheet = expand_to_vec(b"errprint(`look up')sway=on\n").expect("all is well");
 /// assert_eq!(sheet.output, b"sway=on\n");
 /// assert_eq!(sheet.errors, b"look up");
-/// assert_eq!(sheet.exit_code(), Some(3));
 ///
-/// let refusal = expand_to_vec(b"sway=`on\n").expect_err("the quote is not closed");
-/// assert_eq!(refusal.report.answer, Answer::Unclosed(Opened::Quote));
-/// assert_eq!(refusal.to_string(), "a quote is not closed (place 5, after 2 steps)");
+/// let failure = expand_to_vec(b"sway=`on\n").expect_err("the quote is not closed");
+/// assert_eq!(failure.report().answer, Answer::Unclosed(Opened::Quote));
+/// assert_eq!(failure.to_string(), "a quote is not closed (place 5, after 2 steps)");
+///
+/// let failure = expand_to_vec(b"errprint(`no mast')m4exit(3)").expect_err("the template says so");
+/// assert_eq!(failure.to_string(), "the template ended with m4exit(3): no mast");
+/// assert!(matches!(failure, Failure::Exit(sheet) if sheet.exit_code() == Some(3)));
 /// ```
 ///
 /// # Errors
 ///
-/// Every answer but done and exit.
-pub fn expand_to_vec(text: &[u8]) -> Result<Sheet, Refusal> {
-    let room = || vec![0; LONGEST];
-    let mut errors = room();
-    let mut output = room();
-    let buffers = Buffers {
-        pending: &mut room(),
-        calls: &mut room(),
-        definitions: &mut room(),
-        streams: &mut room(),
-        wrap: &mut room(),
-        errors: &mut errors,
-        output: &mut output,
-    };
-    let report = expand(text, buffers, BUDGET);
-    if report.answer.is_refusal() {
-        return Err(Refusal { report });
-    }
-    output.truncate(report.output);
-    errors.truncate(report.errors);
-    Ok(Sheet {
-        output,
-        errors,
-        report,
-    })
+/// Every refusal, and `m4exit` with another number than 0.
+pub fn expand_to_vec(text: &[u8]) -> Result<Sheet, Failure> {
+    let written = |written: Written<'_>| written.to_sheet();
+    Expander::new().expand(text).map(written)
 }

@@ -14,8 +14,8 @@ def cargo(*arguments, **environment):
     return done.returncode, done.stdout.decode(errors="replace")
 
 
-def cargo_passes(name, *arguments):
-    status, said = cargo(*arguments)
+def cargo_passes(name, *arguments, **environment):
+    status, said = cargo(*arguments, **environment)
     if status != 0:
         print(said)
     check(name, status, 0)
@@ -39,13 +39,17 @@ def tests(_):
         bad = max(bad, 1)
     print("the crate's own tests: %d passed, %d failed" % (good, bad))
     count(good, bad)
-    check("tests in the library, the command, two files and the documentation", [int(r[0]) > 0 for r in results], [True] * 5)
+    check("tests in the library, the command, three files and the documentation", [int(r[0]) > 0 for r in results], [True] * 6)
 
 
 def habits(_):
-    cargo_passes("the library without std", "build", "--release", "--offline", "--locked", "--lib", "--no-default-features")
-    for name, arguments in [("fmt", ["fmt", "--check"]), ("clippy", ["clippy", "--release", "--offline", "--all-targets", "--", "-D", "warnings"])]:
-        cargo_passes("cargo " + name, *arguments)
+    for name, features in [("core alone", []), ("a heap and no std", ["--features", "alloc"])]:
+        less = ["--release", "--offline", "--locked", "--lib", "--no-default-features"] + features
+        cargo_passes("the library's tests with " + name, "test", *less)
+        cargo_passes("cargo clippy with " + name, "clippy", *less, "--", "-D", "warnings")
+    cargo_passes("cargo clippy", "clippy", "--release", "--offline", "--all-targets", "--", "-D", "warnings")
+    cargo_passes("cargo fmt", "fmt", "--check")
+    cargo_passes("cargo doc", "doc", "--release", "--offline", "--no-deps", "--lib", RUSTDOCFLAGS="-D warnings")
 
 
 def missing_archive(folder):

@@ -13,7 +13,7 @@ mod writing;
 
 use arguments::{Options, Request};
 use identity::{Endpoint, Files};
-use quenhovach::{expand, Answer, Buffers};
+use quenhovach::{Answer, Buffer, Expander};
 use std::fmt::Display;
 use std::io::Write;
 use std::process::ExitCode;
@@ -77,17 +77,15 @@ fn show(text: &str) -> Result<u8, String> {
 fn run(options: &Options, files: Files) -> Result<u8, String> {
     writing::empty_report(files.report.as_ref())?;
     let templates = templates::read(files.templates)?;
-    let mut lent = options.lengths.map(|length| vec![0; length]);
-    let work = || expand(&templates.text, buffers(&mut lent), options.budget);
-    let report = progress::shown(work);
+    let mut expander = expander(options);
+    let report = progress::shown(|| expander.run(&templates.text));
     if report.answer.is_refusal() {
         complain(refusal::explain(options, &report, &templates));
         writing::stage_report(files.report, &report)?.commit()?;
     } else {
-        let [.., errors, output] = &lent;
-        let sheet = writing::stage(files.sheet, &output[..report.output])?;
+        let sheet = writing::stage(files.sheet, expander.output())?;
         let numbers = writing::stage_report(files.report, &report)?;
-        deliver(sheet, &errors[..report.errors], numbers)?;
+        deliver(sheet, expander.errors(), numbers)?;
     }
     Ok(status(report.answer))
 }
@@ -101,18 +99,13 @@ fn status(answer: Answer) -> u8 {
     }
 }
 
-/// The seven buffers by name.
-fn buffers(lent: &mut [Vec<u8>; 7]) -> Buffers<'_> {
-    let [pending, calls, definitions, streams, wrap, errors, output] = lent;
-    Buffers {
-        pending,
-        calls,
-        definitions,
-        streams,
-        wrap,
-        errors,
-        output,
-    }
+/// An expander with the room and the budget that were asked for.
+fn expander(options: &Options) -> Expander {
+    let new = Expander::new().with_budget(options.budget);
+    let lengths = Buffer::ALL.into_iter().zip(options.lengths);
+    lengths.fold(new, |expander, (buffer, length)| {
+        expander.with_room(buffer, length)
+    })
 }
 
 /// Error text, sheet and report. The two files are whole by now, so that what fails fails before the sheet is in its place; the
