@@ -18,9 +18,10 @@ import interrupted  # noqa: E402
 import long_runs  # noqa: E402
 import several  # noqa: E402
 import usage  # noqa: E402
+import widths  # noqa: E402
 
 PARTS = [
-    answers.endings, answers.places, files.inputs, files.sheets, files.reports, files.limits, files.standard_output, apart.told_apart, apart.harmless,
+    answers.endings, answers.places, widths.lines, widths.table, files.inputs, files.sheets, files.reports, files.limits, files.standard_output, apart.told_apart, apart.harmless,
     apart.written_through, several.joined, several.places, several.too_long, several.unreadable, several.read_first, several.clashes, interrupted.signals,
     long_runs.finished, long_runs.interrupted, usage.usage,
 ]

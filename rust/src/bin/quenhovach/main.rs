@@ -9,6 +9,7 @@ mod signals;
 mod standard;
 mod templates;
 mod terminal;
+mod width;
 mod writing;
 
 use arguments::{Options, Request};

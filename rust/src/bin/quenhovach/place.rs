@@ -1,8 +1,12 @@
 //! Line and column of a place in a text, and the line to show with a caret under the place.
 
-/// Characters shown before the place at most, and behind it.
+use crate::width;
+
+/// Columns shown before the place at most, and behind it.
 const BEFORE: usize = 50;
 const BEHIND: usize = 20;
+/// What stands for the rest of a line.
+const DOTS: &str = "...";
 
 /// A place as people look for it. Lines and columns count from 1, columns in bytes.
 #[derive(Debug, PartialEq)]
@@ -30,39 +34,55 @@ pub fn spot(text: &[u8], place: usize) -> Spot {
     }
 }
 
-/// One character for each of the line's; a tab is a blank, other control characters a question mark.
+/// The line's characters, as far as a terminal shows them alike everywhere: a tab is a blank, other characters that control or format
+/// are a question mark, and what chooses between two forms of a character is left out.
 fn shown(bytes: &[u8]) -> Vec<char> {
     let character = |c: char| match c {
         '\t' => ' ',
-        c if c.is_control() => '?',
+        c if c.is_control() || width::is_format(c) => '?',
         c => c,
     };
     String::from_utf8_lossy(bytes)
         .chars()
+        .filter(|&c| !width::is_selector(c))
         .map(character)
         .collect()
 }
 
+/// The end of a line.
 fn last(line: &[char]) -> String {
-    match line.len().checked_sub(BEFORE) {
-        Some(cut @ 1..) => "..."
-            .chars()
-            .chain(line[cut + 3..].iter().copied())
-            .collect(),
-        _ => line.iter().collect(),
+    let fitting = |columns| fitting(line.iter().rev(), columns);
+    match fitting(BEFORE) {
+        all if all == line.len() => line.iter().collect(),
+        _ => {
+            let end = &line[line.len() - fitting(BEFORE - DOTS.len())..];
+            // A mark whose character was cut off would stand on the dots.
+            let marks = end.iter().take_while(|&&c| width::of(c) == 0).count();
+            DOTS.chars().chain(end[marks..].iter().copied()).collect()
+        }
     }
 }
 
+/// The beginning of a line.
 fn first(line: &[char]) -> String {
-    if line.len() > BEHIND {
-        line[..BEHIND - 3]
-            .iter()
-            .copied()
-            .chain("...".chars())
-            .collect()
-    } else {
-        line.iter().collect()
+    let fitting = |columns| fitting(line.iter(), columns);
+    match fitting(BEHIND) {
+        all if all == line.len() => line.iter().collect(),
+        _ => {
+            let begin = &line[..fitting(BEHIND - DOTS.len())];
+            begin.iter().copied().chain(DOTS.chars()).collect()
+        }
     }
+}
+
+/// How many of these characters fit into so many columns.
+fn fitting<'a>(characters: impl Iterator<Item = &'a char>, columns: usize) -> usize {
+    let mut taken = 0;
+    let fits = |c: &&char| {
+        taken += width::of(**c);
+        taken <= columns
+    };
+    characters.take_while(fits).count()
 }
 
 #[cfg(test)]
@@ -101,9 +121,29 @@ mod tests {
     }
 
     #[test]
-    fn what_is_shown_has_one_column_for_a_character() {
+    fn what_is_shown_is_shown_alike_everywhere() {
         assert_eq!(at("\té\x1b[x".as_bytes(), 3), expected(1, 4, " é", "?[x"));
         assert_eq!(at(b"\xff\xfea", 2), expected(1, 3, "\u{fffd}\u{fffd}", "a"));
+        let (_, _, before, behind) = at("\u{202e}\u{2601}\u{fe0f}a\u{200d}".as_bytes(), 9);
+        assert_eq!((&*before, &*behind), ("?\u{2601}", "a?"));
+    }
+
+    #[test]
+    fn lines_of_wide_characters_are_cut_by_columns() {
+        let (_, column, before, behind) = at("\u{9ad8}".repeat(60).as_bytes(), 90);
+        assert_eq!(column, 91);
+        assert_eq!(before, format!("...{}", "\u{9ad8}".repeat(23)));
+        assert_eq!(behind, format!("{}...", "\u{9ad8}".repeat(8)));
+        let (_, _, before, behind) = at("\u{9ad8}".repeat(35).as_bytes(), 75);
+        assert_eq!((before.chars().count(), behind.chars().count()), (25, 10));
+    }
+
+    #[test]
+    fn a_mark_goes_with_its_character() {
+        let marked = |count| "e\u{301}".repeat(count);
+        let (_, _, before, behind) = at(marked(90).as_bytes(), 180);
+        assert_eq!(before, format!("...{}", marked(47)));
+        assert_eq!(behind, format!("{}...", marked(17)));
     }
 
     #[test]

@@ -3,6 +3,7 @@
 use crate::arguments::{option_of, Options};
 use crate::place::spot;
 use crate::templates::{Part, Templates};
+use crate::width;
 use quenhovach::{Answer, Buffer, Opened, Report, LONGEST};
 
 /// Columns of a line of the message at most.
@@ -47,7 +48,7 @@ fn where_it_is(report: &Report, templates: &Templates) -> String {
         report.answer,
         spot.before,
         spot.behind,
-        " ".repeat(spot.before.chars().count()),
+        " ".repeat(width::of_text(&spot.before)),
         wrapped("Where:", &begins(report, templates)),
     )
 }
@@ -106,16 +107,16 @@ fn sheet_left(options: &Options) -> String {
 /// A heading and words, broken into lines; later lines stand two columns in.
 fn wrapped(heading: &str, words: &str) -> String {
     let mut text = heading.to_string();
-    let mut width = heading.chars().count();
+    let mut columns = width::of_text(heading);
     for word in words.split(' ') {
-        let length = word.chars().count();
-        if width + 1 + length > WIDTH {
+        let more = 1 + width::of_text(word);
+        if columns + more > WIDTH {
             text.push_str("\n ");
-            width = 1;
+            columns = 1;
         }
         text.push(' ');
         text.push_str(word);
-        width += 1 + length;
+        columns += more;
     }
     text
 }
