@@ -3,6 +3,7 @@ import fcntl
 import os
 import pty
 import re
+import resource
 import select
 import signal
 import struct
@@ -21,12 +22,13 @@ def loop(turns, text=b""):
     return b"define(`x',`" + b"a" * 30000 + b"')define(`t',`')define(`l',`ifelse($1,0,,`t(translit(x,`a',`b'))l(decr($1))')')" + text + b"l(%d)done" % turns
 
 
-def lasting(seconds):
-    """How many turns of the loop take about so many seconds on this machine."""
-    turns = 2000
-    began = time.monotonic()
-    subprocess.run([COMMAND], input=loop(turns), stdout=subprocess.DEVNULL, check=True)
-    return int(turns * seconds / (time.monotonic() - began))
+def turns_a_second():
+    """How many turns of the loop this machine makes in a second of its processor, at its best of three."""
+    def took():
+        before = resource.getrusage(resource.RUSAGE_CHILDREN).ru_utime
+        subprocess.run([COMMAND], input=loop(2000), stdout=subprocess.DEVNULL, check=True)
+        return resource.getrusage(resource.RUSAGE_CHILDREN).ru_utime - before
+    return 2000 / min(took() for _ in range(3))
 
 
 class Terminal:
@@ -48,6 +50,7 @@ class Terminal:
             self.came.append((time.monotonic() - self.began, os.read(self.ours, 1000)))
         except OSError:
             self.open = False
+            self.lasted = time.monotonic() - self.began
 
     def type(self, byte):
         os.write(self.ours, byte)
@@ -94,15 +97,26 @@ def watch(terminals, seconds=60, enough=lambda: False):
                 terminal.take()
 
 
-def finished(folder):
-    """Runs that end by themselves, after more than two seconds."""
-    for name, turns, before, after in [("told", lasting(3.5), b"errprint(`a note\n')", b""), ("refused", lasting(2.5), b"", b"\n`"), ("stopped", lasting(2.5), b"", b"")]:
-        put(os.path.join(folder, name), loop(turns, before) + after)
+def begin_finite(folder, turns):
+    """Three runs that end by themselves: with error text, refused, and with a terminal that is stopped."""
+    for name, more, before, after in [("told", 1.5, b"errprint(`a note\n')", b""), ("refused", 1, b"", b"\n`"), ("stopped", 1, b"", b"")]:
+        put(os.path.join(folder, name), loop(int(turns * more), before) + after)
     told = Terminal([COMMAND, "-o", "sheet", "told"], cwd=folder)
     refused = Terminal([COMMAND, "refused"], cwd=folder, columns=20)
     stopped = Terminal([COMMAND, "stopped"], cwd=folder)
     stopped.type(b"\x13")
-    watch([told, refused, stopped])
+    return told, refused, stopped
+
+
+def finished(folder):
+    """Runs that end by themselves. Where they were too short to have a line, since the machine is faster than it was, longer ones are tried."""
+    turns = 2.4 * turns_a_second()
+    long_enough = False
+    while not long_enough:
+        told, refused, stopped = runs = begin_finite(folder, turns)
+        watch(runs)
+        long_enough = told.lasted > 3.2 and min(refused.lasted, stopped.lasted) > 2.2
+        turns *= 1.5
     check("a long run ends as others do", (told.end(), get(os.path.join(folder, "sheet"))), ((0, b"", None), b"done"))
     check("its line comes after two seconds", 1.9 < told.came[0][0] < 3.9, True)
     check("it tells how long, each second anew", told.seconds()[:2] == [2, 3] and told.seconds() == sorted(set(told.seconds())), True)
