@@ -14,6 +14,7 @@ import apart  # noqa: E402
 import common  # noqa: E402
 import crate  # noqa: E402
 import files  # noqa: E402
+import hints  # noqa: E402
 import interrupted  # noqa: E402
 import long_runs  # noqa: E402
 import several  # noqa: E402
@@ -22,8 +23,8 @@ import widths  # noqa: E402
 
 PARTS = [
     answers.endings, answers.places, widths.lines, widths.table, files.inputs, files.sheets, files.reports, files.limits, files.standard_output, apart.told_apart, apart.harmless,
-    apart.written_through, several.joined, several.places, several.too_long, several.unreadable, several.read_first, several.clashes, interrupted.signals,
-    long_runs.finished, long_runs.interrupted, usage.usage,
+    apart.written_through, several.joined, several.places, several.too_long, several.unreadable, several.read_first, several.clashes, hints.refused, hints.warned, hints.beside, hints.linear, hints.known,
+    interrupted.signals, long_runs.finished, long_runs.interrupted, usage.usage,
 ]
 
 

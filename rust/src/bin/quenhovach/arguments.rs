@@ -22,6 +22,8 @@ pub struct Options {
     pub sheet: Option<PathBuf>,
     /// Where the six numbers go.
     pub report: Option<PathBuf>,
+    /// Whether likely mistakes are told of where the run is not refused, too.
+    pub warn: bool,
     /// Lengths of the seven buffers, by their numbers.
     pub lengths: [usize; 7],
     /// Steps at most.
@@ -47,6 +49,7 @@ struct Given {
     inputs: Vec<OsString>,
     sheet: Option<OsString>,
     report: Option<OsString>,
+    warn: Option<()>,
     lengths: [Option<u32>; 7],
     budget: Option<u32>,
 }
@@ -65,6 +68,8 @@ pub fn parse(arguments: impl Iterator<Item = OsString>) -> Result<Request, Strin
             return Ok(Request::Help);
         } else if argument == "-V" || argument == "--version" {
             return Ok(Request::Version);
+        } else if argument == "--warn" {
+            set_once("--warn", &mut given.warn, ())?;
         } else {
             let (name, attached) = parted(&argument)?;
             given.take(name, || {
@@ -98,7 +103,7 @@ fn parted(argument: &OsStr) -> Result<(&OsStr, Option<&OsStr>), String> {
 
 /// Whether a word is an option that begins with two dashes.
 fn is_long(word: &[u8]) -> bool {
-    let others = ["--help", "--version", "--report", "--budget"];
+    let others = ["--help", "--version", "--report", "--budget", "--warn"];
     let all = Buffer::ALL.map(option_of).into_iter().chain(others);
     all.into_iter().any(|option| option.as_bytes() == word)
 }
@@ -138,7 +143,7 @@ impl Given {
                 let bytes = number(&name, &value()?, LONGEST as u32)?;
                 set_once(&name, &mut self.lengths[buffer as usize - 1], bytes)
             }
-            ("-h" | "-V" | "--help" | "--version", _) => {
+            ("-h" | "-V" | "--help" | "--version" | "--warn", _) => {
                 Err(format!("{name} takes nothing behind it"))
             }
             _ => Err(format!("unknown option {name}")),
@@ -155,6 +160,7 @@ impl Given {
             inputs,
             sheet: self.sheet.and_then(file),
             report: self.report.map(PathBuf::from),
+            warn: self.warn.is_some(),
             lengths: self.lengths.map(|n| n.map_or(LONGEST, |n| n as usize)),
             budget: self.budget.unwrap_or(BUDGET),
         };
@@ -212,6 +218,7 @@ mod tests {
             inputs: vec![None],
             sheet: None,
             report: None,
+            warn: false,
             lengths: [65_536; 7],
             budget: 16_777_216,
         };
@@ -273,6 +280,8 @@ mod tests {
             &["--report", "-"],
             &["-o", ""],
             &["--report="],
+            &["--warn", "--warn"],
+            &["--warn=1"],
         ] {
             assert!(parsed(arguments).is_err(), "{arguments:?}");
         }

@@ -1,12 +1,16 @@
 //! The command `quenhovach`: templates in, a settings sheet out, whole or not at all. See docs/quenhovach.1.
 
 mod arguments;
+mod hint_words;
+mod hints;
 mod identity;
 mod place;
 mod progress;
 mod refusal;
+mod scanner;
 mod signals;
 mod standard;
+mod suspects;
 mod templates;
 mod terminal;
 mod width;
@@ -54,8 +58,13 @@ fn misused(complaint: Option<String>) -> u8 {
 
 /// A message on standard error. If that fails there is nowhere to say so; the exit status tells.
 fn complain(message: impl Display) {
+    tell(&format!("quenhovach: {message}\n"));
+}
+
+/// Whole lines on standard error, as far as that goes.
+fn tell(lines: &str) {
     if let Ok(mut errors) = standard::file(standard::ERRORS) {
-        let _ = errors.write_all(format!("quenhovach: {message}\n").as_bytes());
+        let _ = errors.write_all(lines.as_bytes());
     }
 }
 
@@ -80,6 +89,9 @@ fn run(options: &Options, files: Files) -> Result<u8, String> {
     let templates = templates::read(files.templates)?;
     let mut expander = expander(options);
     let report = progress::shown(|| expander.run(&templates.text));
+    if options.warn && report.answer != Answer::Lend {
+        tell(&hint_words::warnings(&templates));
+    }
     if report.answer.is_refusal() {
         complain(refusal::explain(options, &report, &templates));
         writing::stage_report(files.report, &report)?.commit()?;

@@ -1,6 +1,7 @@
 //! What the command says about a refusal: what happened, where, and what to do about it.
 
 use crate::arguments::{option_of, Options};
+use crate::hint_words;
 use crate::place::spot;
 use crate::templates::{Part, Templates};
 use crate::width;
@@ -20,14 +21,18 @@ pub fn explain(options: &Options, report: &Report, templates: &Templates) -> Str
         Answer::Lend if options.inputs.len() > 1 => too_long_together(last_read(templates)),
         _ => in_words(options, answer),
     };
-    [
+    let mut parts = vec![
         place,
         wrapped("What happened:", &happened),
         wrapped("What to do:", &advice),
+    ];
+    let hints = hint_words::of_refusal(report, templates);
+    parts.extend(hints.iter().map(|hint| wrapped("Hint:", hint)));
+    parts.extend([
         wrapped("In numbers:", &in_numbers(report, templates)),
         wrapped("The sheet:", &sheet_left(options)),
-    ]
-    .join("\n")
+    ]);
+    parts.join("\n")
 }
 
 /// The last template that was read.
@@ -273,6 +278,7 @@ mod tests {
             inputs: vec![Some("t.m4".into())],
             sheet: Some("t.sheet".into()),
             report: None,
+            warn: false,
             lengths: [4096; 7],
             budget: 100,
         }

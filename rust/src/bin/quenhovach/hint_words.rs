@@ -1,0 +1,226 @@
+//! Which of the likely mistakes in the text fit a refusal, and how they are told.
+
+use crate::hints::{self, Kind, Seen};
+use crate::suspects::refusal_of;
+use crate::templates::Templates;
+use quenhovach::{Answer, Opened, Report};
+
+/// Hints with a refusal at most.
+const MOST: usize = 3;
+/// Characters of a name or number at most.
+const LONGEST_WORD: usize = 40;
+
+/// What may have caused a refusal, the likeliest first.
+pub fn of_refusal(report: &Report, templates: &Templates) -> Vec<String> {
+    if report.answer == Answer::Lend {
+        return Vec::new();
+    }
+    let ends = ends(templates);
+    let seen = hints::scan(&templates.text, &ends);
+    let mut fitting: Vec<_> = seen
+        .iter()
+        .filter(|seen| is_near(seen, report))
+        .filter_map(|seen| {
+            let distance = seen.place.abs_diff(report.place);
+            Some((rank(seen, report.answer)?, distance, seen))
+        })
+        .collect();
+    fitting.sort_by_key(|&(rank, distance, _)| (rank, distance));
+    let mut returns = 0;
+    // Where one line ends with CR, most do.
+    fitting.retain(|(_, _, seen)| {
+        returns += usize::from(seen.kind == Kind::Return);
+        seen.kind != Kind::Return || returns == 1
+    });
+    let places = Places::new(templates);
+    let told = fitting.iter().take(MOST).map(|(_, _, seen)| {
+        let words = words(&seen.kind);
+        format!("{}: {words}", places.told(seen.place))
+    });
+    told.collect()
+}
+
+/// A line for all that is seen, in the order of the text.
+pub fn warnings(templates: &Templates) -> String {
+    let ends = ends(templates);
+    let seen = hints::scan(&templates.text, &ends);
+    let places = Places::new(templates);
+    let line = |seen: &Seen, words: &str| {
+        let place = places.told(seen.place);
+        format!("quenhovach: warning: {place}: {words}\n")
+    };
+    let mut returns = vec![0; templates.parts.len()];
+    for seen in seen.iter().filter(|seen| seen.kind == Kind::Return) {
+        returns[templates.number_at(seen.place)] += 1;
+    }
+    let mut lines = String::new();
+    for seen in &seen {
+        match seen.kind {
+            // These do harm only where the message of a refusal tells of them.
+            Kind::GivenPoint { .. } | Kind::LookAlike { quoted: true, .. } => {}
+            Kind::Return => {
+                let count = std::mem::take(&mut returns[templates.number_at(seen.place)]);
+                if count > 0 {
+                    lines += &line(seen, &lines_end_with_cr(count));
+                }
+            }
+            kind => lines += &line(seen, &words(&kind)),
+        }
+    }
+    lines
+}
+
+/// Where the templates end in the text.
+fn ends(templates: &Templates) -> Vec<usize> {
+    templates.parts.iter().map(|part| part.range.end).collect()
+}
+
+/// Whether it was being read where the run was refused, or is text that was kept before. A quote that is not closed is refused where it
+/// begins, and its end mark is missing behind that.
+fn is_near(seen: &Seen, report: &Report) -> bool {
+    if let Kind::LookAlike { quoted: true, .. } = seen.kind {
+        return seen.place >= report.place;
+    }
+    let at_work = seen.ends.is_none_or(|ends| report.place <= ends);
+    seen.place <= report.place && (at_work || lasts(&seen.kind))
+}
+
+/// Whether it changes what is read behind it.
+fn lasts(kind: &Kind) -> bool {
+    match kind {
+        Kind::Gap { name, .. } => ["changequote", "changecom"].contains(name),
+        Kind::Foreign(name) => ["include", "sinclude"].contains(name),
+        _ => false,
+    }
+}
+
+/// How well something fits an answer, 0 the best; none if it can't have caused it.
+fn rank(seen: &Seen, answer: Answer) -> Option<u8> {
+    let argument = matches!(answer, Answer::Name | Answer::Number | Answer::Expression);
+    let closing = matches!(answer, Answer::Unclosed(Opened::Quote | Opened::Call));
+    match seen.kind {
+        Kind::Point { .. } | Kind::NamedPoint { .. } | Kind::GivenPoint { .. } => {
+            matches!(answer, Answer::Number | Answer::Expression).then_some(0)
+        }
+        Kind::Gap { name, .. } if lasts(&seen.kind) => {
+            (argument && name == "changequote" || closing).then_some(1)
+        }
+        Kind::Gap { name, .. } => rank_of_name(name, answer).or_else(|| {
+            let endless = matches!(answer, Answer::Spent | Answer::Room(_) | Answer::Deep);
+            (endless && ["ifelse", "ifdef", "shift"].contains(&name)).then_some(1)
+        }),
+        Kind::Bare(name) => rank_of_name(name, answer).filter(|&rank| rank == 0 || seen.within),
+        Kind::Return => (seen.within && (argument || answer == Answer::Mark)).then_some(1),
+        Kind::LookAlike { quoted: true, .. } => {
+            (answer == Answer::Unclosed(Opened::Quote)).then_some(0)
+        }
+        Kind::LookAlike { .. } => {
+            let call = answer == Answer::Unclosed(Opened::Call);
+            (seen.within && (argument || call)).then_some(u8::from(answer != Answer::Name))
+        }
+        Kind::Foreign(_) => (argument && (seen.within || lasts(&seen.kind))).then_some(1),
+        Kind::OrderMark => (argument && seen.place > 0).then_some(2),
+    }
+}
+
+/// How well a name without arguments fits an answer.
+fn rank_of_name(name: &str, answer: Answer) -> Option<u8> {
+    let refused = refusal_of(name);
+    match answer {
+        _ if refused.is_some() => (refused == Some(answer)).then_some(0),
+        Answer::Name | Answer::Number | Answer::Expression => Some(1),
+        // They give 0.
+        Answer::Divisor => ["index", "len"].contains(&name).then_some(1),
+        _ => None,
+    }
+}
+
+/// What was seen, and no more.
+fn words(kind: &Kind) -> String {
+    match *kind {
+        Kind::Gap { name, newline } => {
+            let blank = if newline { "newline" } else { "blank" };
+            let name = shortened(name);
+            format!("there is a {blank} between `{name}` and `(`; without the {blank} it is a call with arguments")
+        }
+        Kind::Bare(name) => {
+            format!("`{name}` is predefined and called here without arguments; quote it if it is a plain word")
+        }
+        Kind::Point { number, taker } => {
+            let number = shortened(number);
+            format!("{number} has a point and is in an argument of `{taker}`, which takes whole numbers only")
+        }
+        Kind::NamedPoint {
+            name,
+            number,
+            taker,
+        } => {
+            let (name, number) = (shortened(name), shortened(number));
+            format!("`{name}` is defined as {number} and is in an argument of `{taker}`, which takes whole numbers only")
+        }
+        Kind::GivenPoint { number, to, taker } => {
+            let (number, to) = (shortened(number), shortened(to));
+            format!("{number} has a point and is given to `{to}`, whose text has `{taker}`, which takes whole numbers only")
+        }
+        Kind::Return => {
+            "the line ends with CR, which is no blank and stays in an argument".to_string()
+        }
+        Kind::OrderMark => {
+            "the template begins with a byte-order mark, which is plain text".to_string()
+        }
+        Kind::LookAlike { mark, .. } => {
+            format!(
+                "{mark} (U+{:04X}) looks like a quote mark and is plain text",
+                mark as u32
+            )
+        }
+        Kind::Foreign(name) => {
+            format!("`{name}` is a macro of GNU m4 and not predefined here; it is plain text")
+        }
+    }
+}
+
+/// So many lines of a template.
+fn lines_end_with_cr(count: usize) -> String {
+    let more = match count {
+        1 => String::new(),
+        2 => ", and so does 1 more".to_string(),
+        _ => format!(", and so do {} more", count - 1),
+    };
+    format!("the line ends with CR{more}; CR is no blank and stays in the sheet")
+}
+
+fn shortened(word: &str) -> String {
+    match word.get(..LONGEST_WORD) {
+        Some(begin) if word.len() > LONGEST_WORD => format!("{begin}..."),
+        _ => word.to_string(),
+    }
+}
+
+/// File, line and column of places, without counting lines for each.
+struct Places<'t> {
+    templates: &'t Templates,
+    newlines: Vec<usize>,
+}
+
+impl<'t> Places<'t> {
+    fn new(templates: &'t Templates) -> Places<'t> {
+        let bytes = templates.text.iter().enumerate();
+        let newlines = bytes.filter(|(_, &b)| b == b'\n').map(|(n, _)| n).collect();
+        Places {
+            templates,
+            newlines,
+        }
+    }
+
+    fn told(&self, place: usize) -> String {
+        let part = &self.templates.parts[self.templates.number_at(place)];
+        let before = |place| self.newlines.partition_point(|&n| n < place);
+        let line = 1 + before(place) - before(part.range.start);
+        let begin = match before(place) {
+            0 => part.range.start,
+            n => part.range.start.max(self.newlines[n - 1] + 1),
+        };
+        format!("{}:{line}:{}", part.name, 1 + place - begin)
+    }
+}

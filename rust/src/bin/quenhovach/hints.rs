@@ -1,0 +1,248 @@
+//! What in a template's text commonly causes trouble, seen without expanding it.
+//!
+//! It is a guess. The text is read once, from front to back, with the usual marks, and nothing is expanded: what a macro gives is not
+//! seen, and behind a change of the marks little is. Tests of a byte are those of ASCII, as in the expander.
+
+use crate::scanner;
+use crate::suspects::{needs_call, takes_call};
+use std::collections::HashMap;
+
+/// Something that may be a mistake.
+#[derive(Clone, Debug, PartialEq)]
+pub struct Seen<'t> {
+    /// Where it stands in the text.
+    pub place: usize,
+    /// The place behind which it is read and over; none if it is kept and read later, or stands in a call that is not closed.
+    pub ends: Option<usize>,
+    /// Whether it stands in the arguments of a call.
+    pub within: bool,
+    pub kind: Kind<'t>,
+}
+
+#[derive(Clone, Copy, Debug, PartialEq)]
+pub enum Kind<'t> {
+    /// A name that takes arguments, blanks, and then `(`.
+    Gap { name: &'t str, newline: bool },
+    /// A predefined name that is of no use without arguments, and has none.
+    Bare(&'t str),
+    /// A number with a point in an argument of a macro that takes whole numbers.
+    Point { number: &'t str, taker: &'t str },
+    /// A name in such an argument that the text defines as a number with a point.
+    NamedPoint {
+        name: &'t str,
+        number: &'t str,
+        taker: &'t str,
+    },
+    /// A number with a point in an argument of a macro of the text, which has one that takes whole numbers in its text.
+    GivenPoint {
+        number: &'t str,
+        to: &'t str,
+        taker: &'t str,
+    },
+    /// CR at the end of a line.
+    Return,
+    /// A byte-order mark at the beginning of a template.
+    OrderMark,
+    /// A character that looks like a quote mark; in a quote, one that looks like the end mark.
+    LookAlike { mark: char, quoted: bool },
+    /// A macro of GNU m4 that this expander has not, with `(`.
+    Foreign(&'t str),
+}
+
+/// What the text itself makes of a name.
+#[derive(Default)]
+pub struct Own<'t> {
+    /// Its text has `$1` or the like.
+    pub takes: bool,
+    /// Its text has this macro, which takes whole numbers.
+    pub taker: Option<&'t str>,
+    /// Its only definition is a number with a point.
+    pub point: Option<&'t str>,
+}
+
+/// The names of which the text makes something.
+pub type Owned<'t> = HashMap<&'t str, Own<'t>>;
+
+/// All that is seen in a text of templates that end at these places, in order.
+pub fn scan<'t>(text: &'t [u8], ends: &'t [usize]) -> Vec<Seen<'t>> {
+    let (mut seen, own) = scanner::walk(text, ends);
+    seen.retain_mut(|seen| stands(seen, &own));
+    seen.extend(order_marks(text, ends));
+    seen.sort_by_key(|seen| seen.place);
+    seen
+}
+
+/// Whether what was seen may be a mistake, now that all definitions of the text are known.
+fn stands<'t>(seen: &mut Seen<'t>, own: &Owned<'t>) -> bool {
+    match &mut seen.kind {
+        Kind::Gap { name, newline } => match own.get(name) {
+            Some(own) => own.takes,
+            None => needs_call(name) || takes_call(name) && !*newline,
+        },
+        Kind::Bare(name) | Kind::Foreign(name) => !own.contains_key(name),
+        Kind::NamedPoint { name, number, .. } => {
+            let point = own.get(name).and_then(|own| own.point);
+            *number = point.unwrap_or_default();
+            point.is_some()
+        }
+        Kind::GivenPoint { to, taker, .. } => {
+            let found = own.get(to).and_then(|own| own.taker);
+            *taker = found.unwrap_or_default();
+            found.is_some()
+        }
+        Kind::Point { .. } | Kind::Return | Kind::OrderMark | Kind::LookAlike { .. } => true,
+    }
+}
+
+fn order_marks<'t>(text: &'t [u8], ends: &'t [usize]) -> impl Iterator<Item = Seen<'t>> {
+    let begins = [0].into_iter().chain(ends.iter().copied());
+    let mut begins: Vec<_> = begins
+        .filter(|&begin| text[begin..].starts_with("\u{feff}".as_bytes()))
+        .collect();
+    // An empty template begins where the next one does.
+    begins.dedup();
+    begins.into_iter().map(|place| Seen {
+        place,
+        ends: None,
+        within: place > 0,
+        kind: Kind::OrderMark,
+    })
+}
+
+#[cfg(test)]
+mod tests {
+    use super::*;
+
+    /// What is seen in a text: places and kinds.
+    fn seen(text: &str) -> Vec<(usize, Kind<'_>)> {
+        let ends = [text.len()];
+        let seen = scan(text.as_bytes(), Vec::leak(ends.to_vec()));
+        seen.into_iter()
+            .map(|seen| (seen.place, seen.kind))
+            .collect()
+    }
+
+    fn gap(name: &str) -> Kind<'_> {
+        let newline = false;
+        Kind::Gap { name, newline }
+    }
+
+    #[test]
+    fn each_kind() {
+        let (number, taker, newline) = ("18.4", "eval", true);
+        let (name, to) = ("h", "f");
+        let mark = '\u{201c}';
+        for (text, place, kind) in [
+            ("a define (`n')", 2, gap("define")),
+            ("define(`f', `$1')f \t(1)", 17, gap("f")),
+            (
+                "len\n(`a')",
+                0,
+                Kind::Gap {
+                    name: "len",
+                    newline,
+                },
+            ),
+            ("the index of", 4, Kind::Bare("index")),
+            ("we divert the cable", 3, Kind::Bare("divert")),
+            ("eval((18.4) / 2)", 6, Kind::Point { number, taker }),
+            (
+                "define(`f', `eval(18.4)')",
+                18,
+                Kind::Point { number, taker },
+            ),
+            (
+                "define(`h', `18.4')eval(h)",
+                24,
+                Kind::NamedPoint {
+                    name,
+                    number,
+                    taker,
+                },
+            ),
+            (
+                "define(`f', `eval($1)')f(18.4)",
+                25,
+                Kind::GivenPoint { number, to, taker },
+            ),
+            ("a\r\n", 1, Kind::Return),
+            ("a\r", 1, Kind::Return),
+            ("\u{feff}a", 0, Kind::OrderMark),
+            (
+                "a \u{201c}",
+                2,
+                Kind::LookAlike {
+                    mark,
+                    quoted: false,
+                },
+            ),
+            ("format(`a')", 0, Kind::Foreign("format")),
+        ] {
+            assert_eq!(seen(text), [(place, kind)], "{text}");
+        }
+    }
+
+    #[test]
+    fn no_mistake() {
+        for text in [
+            "# define (`n') len “\n",
+            "dnl define (`n') len “\r\n",
+            "define(`f', `a dnl len (1)\n')",
+            "define(`f', `# len (1)\n')",
+            "`define (a), the len of “b”'",
+            "errprint(`usage: define (a)')",
+            "define(`len', `x')the len (a)",
+            "the len of undefine(`len')",
+            "define(`f', `x')f (1)",
+            "divert\n(a) divnum (b) dnl (c)",
+            "divert dnl\nundivert",
+            "word (a) Len (b) lens",
+            "18.4 len(18.4) eval(1.2.3) eval(184)",
+            "define(`h', `18.4')define(`h', `18')eval(h)",
+            "define(`f', `[$1]')f(18.4)",
+            "a\rb",
+            "a\u{feff}",
+            "the boom\u{2019}s end",
+            "define(`format', `$1')format(`a')",
+            "a format of",
+            "changequote([, ])define (a) len “b”",
+            "changecom # len (1)\n",
+            "divert(-1)the len of “it”\r\ndivert(0)",
+            "\u{e9} \u{9ad8}",
+        ] {
+            assert_eq!(seen(text), [], "{text}");
+        }
+    }
+
+    #[test]
+    fn when_it_is_over() {
+        let ends = |text: &'static str| {
+            let seen = scan(text.as_bytes(), Vec::leak(vec![text.len()]));
+            seen.iter().map(|seen| seen.ends).collect::<Vec<_>>()
+        };
+        assert_eq!(ends("the len of"), [Some(7)]);
+        assert_eq!(ends("f(incr(eval(1.5) + 1) )"), [Some(21)]);
+        assert_eq!(ends("define(`f', `eval(1.5)')"), [None]);
+        assert_eq!(ends("ifelse(1, 1, `eval(1.5)')"), [Some(25)]);
+        assert_eq!(ends("len(eval(1.5)"), [None]);
+    }
+
+    #[test]
+    fn any_bytes() {
+        let all: Vec<u8> = (0..=255).cycle().take(70_000).collect();
+        scan(&all, &[70_000]);
+        for text in [
+            "define(",
+            "define(`a",
+            "$",
+            "`$",
+            "eval(1.",
+            "changequote(",
+            "\u{e2}",
+        ] {
+            scan(text.as_bytes(), &[text.len()]);
+            scan(&text.as_bytes()[1..], &[text.len() - 1]);
+        }
+        scan(b"\xe2\x80", &[2]);
+    }
+}

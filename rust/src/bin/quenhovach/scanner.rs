@@ -1,0 +1,382 @@
+//! The walk over a template's text that hints.rs goes by.
+
+use crate::hints::{Kind, Owned, Seen};
+use crate::suspects::{is_foreign, is_predefined, looks_alike, needs_call, refusal_of};
+
+/// What an open parenthesis has in it.
+#[derive(Clone, Copy, Default)]
+struct Frame<'t> {
+    /// It belongs to a call, or stands in one.
+    in_call: bool,
+    /// Quoted text in it is written as it is, and not read again.
+    as_is: bool,
+    /// Quoted text in it is kept, and read at any time.
+    keeps: bool,
+    /// The name whose definition this is part of.
+    defines: Option<&'t str>,
+    /// The macro that takes whole numbers, and this is its argument.
+    taker: Option<&'t str>,
+    /// The macro of the text, and this is its argument.
+    given: Option<&'t str>,
+}
+
+struct Scan<'t> {
+    text: &'t [u8],
+    /// Where templates end.
+    ends: &'t [usize],
+    at: usize,
+    frames: Vec<Frame<'t>>,
+    /// Of each open quote, how many parentheses were open where it began.
+    quotes: Vec<usize>,
+    /// In a quote, a comment or what dnl drops: how many quotes were open where it began.
+    remark: Option<usize>,
+    /// The current stream throws away what it gets.
+    discards: bool,
+    /// The marks may be others from here on.
+    marks_changed: bool,
+    own: Owned<'t>,
+    /// What of `seen` is read where the outermost open call closes.
+    open: Vec<usize>,
+    seen: Vec<Seen<'t>>,
+}
+
+/// Reads a text of templates that end at these places: what may be a mistake, as far as the definitions allow, and these.
+pub fn walk<'t>(text: &'t [u8], ends: &'t [usize]) -> (Vec<Seen<'t>>, Owned<'t>) {
+    let mut scan = Scan {
+        text,
+        ends,
+        at: 0,
+        frames: Vec::new(),
+        quotes: Vec::new(),
+        remark: None,
+        discards: false,
+        marks_changed: false,
+        own: Owned::new(),
+        open: Vec::new(),
+        seen: Vec::new(),
+    };
+    while scan.at < text.len() {
+        scan.step();
+    }
+    (scan.seen, scan.own)
+}
+
+fn begins_name(byte: u8) -> bool {
+    byte.is_ascii_alphabetic() || byte == b'_'
+}
+
+fn is_in_name(byte: u8) -> bool {
+    byte.is_ascii_alphanumeric() || byte == b'_'
+}
+
+fn is_blank(byte: u8) -> bool {
+    matches!(byte, b' ' | b'\t' | b'\n')
+}
+
+/// Whether something does no more than to give or be other text than is meant.
+fn is_mere_text(kind: &Kind) -> bool {
+    match kind {
+        Kind::Bare(name) => refusal_of(name).is_none(),
+        Kind::Return | Kind::LookAlike { .. } => true,
+        _ => false,
+    }
+}
+
+impl<'t> Scan<'t> {
+    /// Takes one byte or name or number.
+    fn step(&mut self) {
+        let byte = self.text[self.at];
+        if byte == b'\r' {
+            self.carriage_return();
+        }
+        if self.marks_changed {
+            self.at += 1;
+            return;
+        }
+        match byte {
+            b'\n' => self.remark = None,
+            b'`' => self.quotes.push(self.frames.len()),
+            b'\'' => self.end_quote(),
+            _ if self.remark.is_some() => {}
+            b'#' => return self.remark(),
+            b'(' => self.frames.push(self.frame()),
+            b')' => self.close(),
+            b'$' => return self.parameter(),
+            _ if byte.is_ascii_digit() => return self.number(),
+            _ if begins_name(byte) => return self.name(),
+            0x80.. => return self.character(),
+            _ => {}
+        }
+        self.at += 1;
+    }
+
+    fn frame(&self) -> Frame<'t> {
+        self.frames.last().copied().unwrap_or_default()
+    }
+
+    /// Whether a name here is read as one, now or when the text that holds it is read.
+    fn is_live(&self) -> bool {
+        let Frame { in_call, as_is, .. } = self.frame();
+        self.quotes.is_empty() || in_call && !as_is
+    }
+
+    /// The bytes from `from` on that meet a test.
+    fn run_of(&self, from: usize, test: impl Fn(u8) -> bool) -> &'t [u8] {
+        let rest = self.text.get(from..).unwrap_or_default();
+        let length = rest.iter().position(|&b| !test(b)).unwrap_or(rest.len());
+        &rest[..length]
+    }
+
+    /// Names and numbers are ASCII.
+    fn word(&self, from: usize, test: impl Fn(u8) -> bool) -> &'t str {
+        std::str::from_utf8(self.run_of(from, test)).unwrap_or_default()
+    }
+
+    fn note(&mut self, place: usize, kind: Kind<'t>) {
+        let Frame { in_call, keeps, .. } = self.frame();
+        if self.discards && !in_call && is_mere_text(&kind) {
+            return;
+        }
+        let within = in_call;
+        let ends = (!in_call).then_some(self.at);
+        if in_call && (self.quotes.is_empty() || !keeps) {
+            self.open.push(self.seen.len());
+        }
+        self.seen.push(Seen {
+            place,
+            ends,
+            within,
+            kind,
+        });
+    }
+
+    fn carriage_return(&mut self) {
+        let behind = self.at + 1;
+        let at_end =
+            self.text.get(behind) == Some(&b'\n') || self.ends.binary_search(&behind).is_ok();
+        if at_end && self.remark.is_none() {
+            self.note(self.at, Kind::Return);
+        }
+    }
+
+    /// Parentheses in a quote are its own.
+    fn end_quote(&mut self) {
+        if let Some(open) = self.quotes.pop() {
+            self.frames.truncate(open);
+            self.remark = self.remark.filter(|&depth| depth <= self.quotes.len());
+        }
+    }
+
+    fn close(&mut self) {
+        let open = self.quotes.last().copied().unwrap_or(0);
+        if self.frames.len() <= open {
+            return;
+        }
+        let closed = self.frames.pop().unwrap_or_default();
+        if closed.in_call && !self.frame().in_call {
+            for number in self.open.drain(..) {
+                self.seen[number].ends = Some(self.at + 1);
+            }
+        }
+    }
+
+    /// A comment, or what dnl drops. In a quote the end mark still counts.
+    fn remark(&mut self) {
+        if self.quotes.is_empty() {
+            self.at += self.run_of(self.at, |b| b != b'\n').len();
+        } else {
+            self.remark = Some(self.quotes.len());
+            self.at += 1;
+        }
+    }
+
+    fn parameter(&mut self) {
+        self.at += 1;
+        let quoted = !self.quotes.is_empty();
+        let Some(&sign) = self.text.get(self.at) else {
+            return;
+        };
+        if sign.is_ascii_digit() || b"*@".contains(&sign) || sign == b'#' && quoted {
+            self.at += 1;
+            let own = self.frame().defines.and_then(|name| self.own.get_mut(name));
+            if let Some(own) = own {
+                own.takes |= sign != b'0';
+            }
+        }
+    }
+
+    /// A number with a point, if one stands there; one with two points is none.
+    fn pointed(&self, from: usize) -> Option<&'t str> {
+        let word = self.word(from, |b| b.is_ascii_digit() || b == b'.');
+        let (whole, part) = word.trim_end_matches('.').split_once('.')?;
+        let is_one = !whole.is_empty() && !part.is_empty() && !part.contains('.');
+        is_one.then(|| word.trim_end_matches('.'))
+    }
+
+    fn number(&mut self) {
+        let place = self.at;
+        let Frame { taker, given, .. } = self.frame();
+        let found = self.pointed(place).filter(|_| self.is_live());
+        self.at += self
+            .run_of(place, |b| b.is_ascii_digit() || b == b'.')
+            .len();
+        match (found, taker, given) {
+            (Some(number), Some(taker), _) => self.note(place, Kind::Point { number, taker }),
+            (Some(number), None, Some(to)) => {
+                let taker = "";
+                self.note(place, Kind::GivenPoint { number, to, taker });
+            }
+            _ => {}
+        }
+    }
+
+    fn name(&mut self) {
+        let place = self.at;
+        let name = self.word(place, is_in_name);
+        self.at += name.len();
+        if !self.is_live() {
+        } else if name == "dnl" && !self.own.contains_key(name) {
+            self.remark();
+        } else if self.text.get(self.at) == Some(&b'(') {
+            self.call(place, name);
+        } else {
+            self.no_call(place, name);
+        }
+    }
+
+    fn no_call(&mut self, place: usize, name: &'t str) {
+        let blanks = self.run_of(self.at, is_blank);
+        let taker = self.frame().taker;
+        let predefined = is_predefined(name) && !self.own.contains_key(name);
+        if name == "divert" && predefined && !self.frame().in_call {
+            self.discards = false;
+        }
+        if !blanks.is_empty() && self.text.get(self.at + blanks.len()) == Some(&b'(') {
+            let newline = blanks.contains(&b'\n');
+            self.note(place, Kind::Gap { name, newline });
+        } else if name == "changecom" && predefined {
+            self.change_marks();
+        } else if self.quotes.is_empty() && (needs_call(name) || self.is_in_prose(place, name)) {
+            self.note(place, Kind::Bare(name));
+        } else if let Some(taker) = taker.filter(|_| !predefined) {
+            let number = "";
+            self.note(
+                place,
+                Kind::NamedPoint {
+                    name,
+                    number,
+                    taker,
+                },
+            );
+        }
+    }
+
+    /// Whether a name that is of use by itself, and a word of English too, stands between two words of a line.
+    fn is_in_prose(&self, place: usize, name: &str) -> bool {
+        if !["divert", "undivert"].contains(&name) {
+            return false;
+        }
+        let mut before = self.text[..place].iter().rev().skip_while(|&&b| b == b' ');
+        let blanks = self.run_of(self.at, |b| b == b' ').len();
+        let next = self.word(self.at + blanks, is_in_name);
+        let behind = blanks > 0 && !next.is_empty() && next != "dnl";
+        behind && before.next().is_some_and(|&b| is_in_name(b))
+    }
+
+    fn call(&mut self, place: usize, name: &'t str) {
+        let around = self.frame();
+        let own = self.own.contains_key(name);
+        if is_foreign(name) {
+            self.note(place, Kind::Foreign(name));
+        }
+        self.at += 1;
+        if !own && !is_predefined(name) {
+            return self.frames.push(around);
+        }
+        let mut frame = Frame {
+            in_call: true,
+            as_is: around.as_is,
+            keeps: around.keeps || !own && ["define", "pushdef", "m4wrap"].contains(&name),
+            defines: around.defines,
+            given: own.then_some(name),
+            taker: None,
+        };
+        match name {
+            _ if own => {}
+            "define" | "pushdef" => frame.defines = self.definition().or(around.defines),
+            "undefine" | "popdef" => {
+                let name = self.argument_name();
+                self.own.entry(name).or_default();
+            }
+            "eval" | "incr" | "decr" => {
+                frame.taker = Some(name);
+                if let Some(own) = around.defines.and_then(|name| self.own.get_mut(name)) {
+                    own.taker = own.taker.or(Some(name));
+                }
+            }
+            "errprint" => frame.as_is = true,
+            "divert" if !around.in_call => self.discards = self.text.get(self.at) == Some(&b'-'),
+            "changequote" | "changecom" => return self.change_marks(),
+            _ => {}
+        }
+        self.frames.push(frame);
+    }
+
+    /// What is quoted or a comment, and so what is called, can't be told from here on.
+    fn change_marks(&mut self) {
+        self.marks_changed = true;
+        self.frames.clear();
+        self.quotes.clear();
+    }
+
+    /// The name that is given first, quoted or not.
+    fn argument_name(&self) -> &'t str {
+        let skipped = self.run_of(self.at, |b| is_blank(b) || b == b'`').len();
+        match self.text.get(self.at + skipped) {
+            Some(&byte) if begins_name(byte) => self.word(self.at + skipped, is_in_name),
+            _ => "",
+        }
+    }
+
+    /// Takes note of a definition; its name.
+    fn definition(&mut self) -> Option<&'t str> {
+        let name = self.argument_name();
+        if name.is_empty() {
+            return None;
+        }
+        let begin = self.at + self.run_of(self.at, |b| is_blank(b) || b == b'`').len();
+        let between = |b| is_blank(b) || b"`',".contains(&b);
+        let text = begin + name.len();
+        let text = text + self.run_of(text, between).len();
+        let point = self.pointed(text).filter(|number| {
+            let behind = self.text.get(text + number.len());
+            matches!(behind, Some(b'\'' | b')'))
+        });
+        let first = !self.own.contains_key(name);
+        let own = self.own.entry(name).or_default();
+        own.point = point.filter(|_| first);
+        Some(name)
+    }
+
+    /// A character above ASCII, whole or not.
+    fn character(&mut self) {
+        let place = self.at;
+        let rest = &self.text[place..self.text.len().min(place + 4)];
+        let valid = match std::str::from_utf8(rest) {
+            Ok(valid) => valid,
+            Err(error) => std::str::from_utf8(&rest[..error.valid_up_to()]).unwrap_or_default(),
+        };
+        let Some(mark) = valid.chars().next() else {
+            self.at += 1;
+            return;
+        };
+        self.at += mark.len_utf8();
+        let quoted = !self.quotes.is_empty();
+        let is_letter = |byte: Option<&u8>| byte.is_some_and(|&b| is_in_name(b) || b >= 0x80);
+        let before = place.checked_sub(1).and_then(|n| self.text.get(n));
+        let apostrophe = is_letter(before) && is_letter(self.text.get(self.at));
+        if looks_alike(mark, quoted) && !apostrophe {
+            self.note(place, Kind::LookAlike { mark, quoted });
+        }
+    }
+}
