@@ -41,6 +41,7 @@ REFUSED = {
     "in text that is thrown away": (["divert(-1)\nthe len\ndefine (`n')\ndivert(0)"], 6, ["1.m4:3:1: " + GAP % "define"]),
     "CR in an argument": (["guys=eval(3\r\n)\r\n"], 8, ["1.m4:1:12: " + RETURN]),
     "CR, the nearest": (["a\r\nincr(1\r\n)\r\n"], 7, ["1.m4:2:7: " + RETURN]),
+    "CR, once": (["eval(1\r\n+\r\n2)"], 8, ["1.m4:2:2: " + RETURN]),
     "curly quotes": (["define(“n”, 5)"], 6, ["1.m4:1:12: " + ALIKE % ("”", "201D"), "1.m4:1:8: " + ALIKE % ("“", "201C")]),
     "an acute": (["incr(´4')"], 7, ["1.m4:1:6: " + ALIKE % ("´", "00B4")]),
     "a curly end mark": (["x define(`n’, 5)"], 5, ["1.m4:1:12: " + ALIKE % ("’", "2019")]),
@@ -80,6 +81,7 @@ UNFITTING = [
     ("changequote([, ])eval(1.5)", 8),
     ("undivert(0) the len", 7),
     ("define(`n', `n')n the len", 3),
+    ("m4wrap(`incr(x)')the len", 7),
 ]
 
 # Texts that expand: the texts of the templates, the sheet, the warnings.
@@ -91,11 +93,14 @@ WARNED = {
     "a blank behind what may have no arguments": (["divert (1)a\n"], " (1)a\n", ["1.m4:1:1: " + GAP % "divert"]),
     "what is not thrown away any more": (["divert(-1)the len divert(1)the len\ndivert(-1)divert(0)a len\n"], "a 0\nthe 0\n", ["1.m4:1:32: " + BARE % "len", "1.m4:2:22: " + BARE % "len"]),
     "calls in what is thrown away": (["divert(-1)the len undefine (`a') len(index)divert"], "", ["1.m4:1:19: " + GAP % "undefine", "1.m4:1:38: " + BARE % "index"]),
+    "behind a quoted number sign": (["define(`f', `guy#')len (b)\n"], "0 (b)\n", ["1.m4:1:20: " + GAP % "len"]),
+    "behind the count of arguments": (["define(`f', `$# len (b)')f\n"], "0 0 (b)\n", ["1.m4:1:17: " + GAP % "len"]),
     "a number that is not read": (["ifelse(1, 2, `eval(1.5)')a"], "a", ["1.m4:1:20: " + POINT % ("1.5", "eval")]),
     "CR": (["a\r\n# b\r\nc\r\nd dnl e\r\nf\r\n"], "a\r\n# b\r\nc\r\nd f\r\n", ["1.m4:1:2: " + RETURNS % ", and so do 2 more"]),
     "CR, twice": (["a\r\nb\r\n"], "a\r\nb\r\n", ["1.m4:1:2: " + RETURNS % ", and so does 1 more"]),
     "CR at the end of templates": (["a\r", "b\n", "c\r\nd\re"], "a\rb\nc\r\nd\re", ["1.m4:1:2: " + RETURNS % "", "3.m4:1:2: " + RETURNS % ""]),
     "byte-order marks": (["\ufeffa\n", "\ufeffb\n"], "\ufeffa\n\ufeffb\n", ["1.m4:1:1: " + MARK, "2.m4:1:1: " + MARK]),
+    "a byte-order mark behind an empty template": (["", "\ufeffa\n"], "\ufeffa\n", ["2.m4:1:1: " + MARK]),
     "a byte-order mark behind a line that goes on": (["a\nb ", "\ufeffc\n"], "a\nb \ufeffc\n", ["2.m4:1:1: " + MARK]),
     "curly quotes": (["‘n’\n"], "‘n’\n", ["1.m4:1:1: " + ALIKE % ("‘", "2018"), "1.m4:1:5: " + ALIKE % ("’", "2019")]),
     "a macro of GNU m4": (["a\n", "b syscmd(`ls')\n"], "a\nb syscmd(ls)\n", ["2.m4:1:3: " + FOREIGN % "syscmd"]),
@@ -123,6 +128,13 @@ SILENT = [
     ("a\rb\n", None),
     ("divert(-1)\r\nThe len of “it” is the index.\ndivert`'the boom", "the boom"),
     ("divert(-1)the len divert(0)the boom", "the boom"),
+    ("divert\n(a)\n", "\n(a)\n"),
+    ("a divert dnl b\nc", "a  c"),
+    ("define(`f', `eval(1) $1')f(1.5)", "1 1.5"),
+    ("define(`f', ``$0'')f (a)", "f (a)"),
+    ("define(`f', `the len of it')f", "the 0 of it"),
+    ("define(`open', `(')`len (a)'", "len (a)"),
+    ("define(`h', `2')eval(h)define(`h', `1.5')h", "21.5"),
 ]
 
 
@@ -169,6 +181,7 @@ def beside(folder):
     """--warn beside the other things that go to standard error, files and the exit status."""
     text, said = b"the len`'errprint(`e')`'m4exit(7)", lines(["standard input:1:5: " + BARE % "len"])
     check("before the error text, with the exit status", run(["--warn"], text), (7, b"the 0", said + b"e"))
+    check("nothing of error text", run(["--warn"], b"errprint(`define (a)')"), (0, b"", b"define (a)"))
     sheet, numbers = os.path.join(folder, "sheet"), os.path.join(folder, "numbers")
     check("with -o and --report", run(["--warn", "-o", sheet, "--report", numbers], text), (7, b"", said + b"e"))
     check("the sheet and the report", (get(sheet), get(numbers)), (b"the 0", b"1 7 12 33 5 1\n"))
