@@ -19,6 +19,12 @@ MARK = "the template begins with a byte-order mark, which is plain text"
 ALIKE = "%s (U+%s) looks like a quote mark and is plain text"
 FOREIGN = "`%s` is a macro of GNU m4 and not predefined here; it is plain text"
 
+# The macros of GNU m4 that are not in document 01.
+OTHERS = """
+__file__ __line__ __program__ builtin changeword debugfile debugmode dumpdef esyscmd format include indir maketemp mkstemp patsubst regexp sinclude syscmd
+sysval traceoff traceon
+"""
+
 # Texts that are refused: the texts of 1.m4, 2.m4 and so on, the answer's number, the hints.
 REFUSED = {
     "a blank before the parenthesis": (["a\n define (`n', 5)\n"], 6, ["1.m4:2:2: " + GAP % "define"]),
@@ -41,6 +47,7 @@ REFUSED = {
     "in text that is thrown away": (["divert(-1)\nthe len\ndefine (`n')\ndivert(0)"], 6, ["1.m4:3:1: " + GAP % "define"]),
     "CR in an argument": (["guys=eval(3\r\n)\r\n"], 8, ["1.m4:1:12: " + RETURN]),
     "CR, the nearest": (["a\r\nincr(1\r\n)\r\n"], 7, ["1.m4:2:7: " + RETURN]),
+    "CR in text that is read later": (["define(`f', `eval($1\r\n+ 1)')\r\nf(2)\r\n"], 8, ["1.m4:1:21: " + RETURN]),
     "CR, once": (["eval(1\r\n+\r\n2)"], 8, ["1.m4:2:2: " + RETURN]),
     "curly quotes": (["define(“n”, 5)"], 6, ["1.m4:1:12: " + ALIKE % ("”", "201D"), "1.m4:1:8: " + ALIKE % ("“", "201C")]),
     "an acute": (["incr(´4')"], 7, ["1.m4:1:6: " + ALIKE % ("´", "00B4")]),
@@ -52,8 +59,14 @@ REFUSED = {
     "in the second file": (["a\nb\n", "c\nd define (`n')\n", "e\n"], 6, ["2.m4:2:3: " + GAP % "define"]),
     "in the first, refused in the second": (["a\ndefine(`h', `eval(1.5)')\n", "\nh\n"], 8, ["1.m4:2:19: " + POINT % ("1.5", "eval")]),
     "in the second's first line, behind a line that goes on": (["a ", "", "define (`n')"], 6, ["3.m4:1:1: " + GAP % "define"]),
-    "three at most, the nearest first": (["eval(1.5 + 2.5 + 3.5 + 4.5)"], 8, ["1.m4:1:%d: " % column + POINT % (number, "eval") for column, number in [(24, "4.5"), (18, "3.5"), (12, "2.5")]]),
-    "a better one before a nearer one": (["eval(1.5 + len (`a') + \r\n2)"], 8, ["1.m4:1:6: " + POINT % ("1.5", "eval"), "1.m4:1:24: " + RETURN, "1.m4:1:12: " + GAP % "len"]),
+    "three at most, the nearest first": (
+        ["eval(1.5 + 2.5 + 3.5 + 4.5)"], 8,
+        ["1.m4:1:24: " + POINT % ("4.5", "eval"), "1.m4:1:18: " + POINT % ("3.5", "eval"), "1.m4:1:12: " + POINT % ("2.5", "eval")],
+    ),
+    "a better one before a nearer one": (
+        ["eval(1.5 + len (`a') + \r\n2)"], 8,
+        ["1.m4:1:6: " + POINT % ("1.5", "eval"), "1.m4:1:24: " + RETURN, "1.m4:1:12: " + GAP % "len"],
+    ),
     "a long name": (["define(`%s', `incr($1)')%s (1)" % ("n" * 50, "n" * 50)], 7, ["1.m4:1:73: " + GAP % ("n" * 40 + "...")]),
 }
 
@@ -67,6 +80,7 @@ UNFITTING = [
     ("define(`f', `eval($1)')f(2) errprint(1.5) eval(08)", 8),
     ("define(`f', `len(`$1')eval(1)')f(1.5) eval(08)", 8),
     ("a\r\nb\r\neval(08)\r\n", 8),
+    ("define(`f', `a\r\nb\r\n')dnl\r\neval(08)\r\n", 8),
     ("define(`h', `1.5')define(`h', `2')eval(h + 08)", 8),
     ("define(`len', `08')eval(len)", 8),
     ("eval(08) eval(1.5) define (`n')", 8),
@@ -87,11 +101,17 @@ UNFITTING = [
 # Texts that expand: the texts of the templates, the sheet, the warnings.
 WARNED = {
     "nothing": (["gain=1\n"], "gain=1\n", []),
-    "bare names": (["the len of the boom, index and shift\n"], "the 0 of the boom, 0 and \n", ["1.m4:1:5: " + BARE % "len", "1.m4:1:22: " + BARE % "index", "1.m4:1:32: " + BARE % "shift"]),
+    "bare names": (
+        ["the len of the boom, index and shift\n"], "the 0 of the boom, 0 and \n",
+        ["1.m4:1:5: " + BARE % "len", "1.m4:1:22: " + BARE % "index", "1.m4:1:32: " + BARE % "shift"],
+    ),
     "a word that is lost": (["we divert the cable\n"], "we  the cable\n", ["1.m4:1:4: " + BARE % "divert"]),
     "a blank": (["len (`a')\n"], "0 (a)\n", ["1.m4:1:1: " + GAP % "len"]),
     "a blank behind what may have no arguments": (["divert (1)a\n"], " (1)a\n", ["1.m4:1:1: " + GAP % "divert"]),
-    "what is not thrown away any more": (["divert(-1)the len divert(1)the len\ndivert(-1)divert(0)a len\n"], "a 0\nthe 0\n", ["1.m4:1:32: " + BARE % "len", "1.m4:2:22: " + BARE % "len"]),
+    "what is not thrown away any more": (
+        ["divert(-1)the len divert(1)the len\ndivert(-1)divert(0)a len\n"], "a 0\nthe 0\n",
+        ["1.m4:1:32: " + BARE % "len", "1.m4:2:22: " + BARE % "len"],
+    ),
     "calls in what is thrown away": (["divert(-1)the len undefine (`a') len(index)divert"], "", ["1.m4:1:19: " + GAP % "undefine", "1.m4:1:38: " + BARE % "index"]),
     "behind a quoted number sign": (["define(`f', `guy#')len (b)\n"], "0 (b)\n", ["1.m4:1:20: " + GAP % "len"]),
     "behind the count of arguments": (["define(`f', `$# len (b)')f\n"], "0 0 (b)\n", ["1.m4:1:17: " + GAP % "len"]),
@@ -219,5 +239,6 @@ def known(_):
     names = re.findall(r'bytesOf "(\w+)"', re.search(r"^predefinedNames =\n(.*?)\[\]", book, re.M | re.S)[1])
     check("predefined names", sorted(lists["NEED_CALL"] + lists["TAKE_CALL"] + lists["BARE"]), sorted(names))
     check("names of GNU m4", sorted(set(lists["FOREIGN"]) & set(names)), [])
-    for name in "format syscmd esyscmd include sinclude regexp patsubst indir builtin dumpdef traceon traceoff debugmode debugfile changeword mkstemp maketemp sysval __file__ __line__ __program__".split():
+    check("21 of them", len(lists["FOREIGN"]), len(OTHERS.split()))
+    for name in OTHERS.split():
         check(name, run(["--warn"], name.encode() + b"(a)")[2], lines(["standard input:1:1: " + FOREIGN % name]))

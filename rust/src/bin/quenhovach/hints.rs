@@ -14,7 +14,7 @@ pub struct Seen<'t> {
     pub place: usize,
     /// The place behind which it is read and over; none if it is kept and read later, or stands in a call that is not closed.
     pub ends: Option<usize>,
-    /// Whether it stands in the arguments of a call.
+    /// Whether it stands in the arguments of a call; CR in a quote, of one that takes numbers.
     pub within: bool,
     pub kind: Kind<'t>,
 }

@@ -133,11 +133,14 @@ impl<'t> Scan<'t> {
     }
 
     fn note(&mut self, place: usize, kind: Kind<'t>) {
+        self.note_in(self.frame().in_call, place, kind);
+    }
+
+    fn note_in(&mut self, within: bool, place: usize, kind: Kind<'t>) {
         let Frame { in_call, keeps, .. } = self.frame();
         if self.discards && !in_call && is_mere_text(&kind) {
             return;
         }
-        let within = in_call;
         let ends = (!in_call).then_some(self.at);
         if in_call && (self.quotes.is_empty() || !keeps) {
             self.open.push(self.seen.len());
@@ -155,7 +158,10 @@ impl<'t> Scan<'t> {
         let at_end =
             self.text.get(behind) == Some(&b'\n') || self.ends.binary_search(&behind).is_ok();
         if at_end && self.remark.is_none() {
-            self.note(self.at, Kind::Return);
+            let Frame { in_call, taker, .. } = self.frame();
+            // Lines of a quoted text are many, and CR does no harm in most.
+            let within = in_call && (self.quotes.is_empty() || taker.is_some());
+            self.note_in(within, self.at, Kind::Return);
         }
     }
 
