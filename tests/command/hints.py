@@ -6,7 +6,6 @@ import time
 from common import CRATE, ROOT, check, get, put, run, run_shell
 from several import written
 
-BOM = b"\xef\xbb\xbf"
 GAP = "there is a blank between `%s` and `(`; without the blank it is a call with arguments"
 NEWLINE = GAP.replace("blank", "newline")
 BARE = "`%s` is predefined and called here without arguments; quote it if it is a plain word"
@@ -55,7 +54,8 @@ REFUSED = {
     "curly quotes round a parenthesis": (["len(‘(’)"], 5, ["1.m4:1:9: " + ALIKE % ("’", "2019"), "1.m4:1:5: " + ALIKE % ("‘", "2018")]),
     "a macro of GNU m4": (["eval(format(`%d', 3) + 1)"], 8, ["1.m4:1:6: " + FOREIGN % "format"]),
     "an include before": (["include(`common.m4')dnl\neval(height + 1)\n"], 8, ["1.m4:1:1: " + FOREIGN % "include"]),
-    "a byte-order mark in an argument": (["incr(", BOM.decode() + "1)"], 7, ["2.m4:1:1: " + MARK]),
+    "a byte-order mark in an argument": (["incr(", "\ufeff1)"], 7, ["2.m4:1:1: " + MARK]),
+    "a byte-order mark outside calls": (["a\n", "\ufeffeval(08)"], 8, []),
     "in the second file": (["a\nb\n", "c\nd define (`n')\n", "e\n"], 6, ["2.m4:2:3: " + GAP % "define"]),
     "in the first, refused in the second": (["a\ndefine(`h', `eval(1.5)')\n", "\nh\n"], 8, ["1.m4:2:19: " + POINT % ("1.5", "eval")]),
     "in the second's first line, behind a line that goes on": (["a ", "", "define (`n')"], 6, ["3.m4:1:1: " + GAP % "define"]),
@@ -120,6 +120,7 @@ WARNED = {
     "CR, twice": (["a\r\nb\r\n"], "a\r\nb\r\n", ["1.m4:1:2: " + RETURNS % ", and so does 1 more"]),
     "CR at the end of templates": (["a\r", "b\n", "c\r\nd\re"], "a\rb\nc\r\nd\re", ["1.m4:1:2: " + RETURNS % "", "3.m4:1:2: " + RETURNS % ""]),
     "byte-order marks": (["\ufeffa\n", "\ufeffb\n"], "\ufeffa\n\ufeffb\n", ["1.m4:1:1: " + MARK, "2.m4:1:1: " + MARK]),
+    "a byte-order mark behind other quote marks": (["changequote([, ])", "\ufeff[a]\n"], "\ufeffa\n", ["2.m4:1:1: " + MARK]),
     "a byte-order mark behind an empty template": (["", "\ufeffa\n"], "\ufeffa\n", ["2.m4:1:1: " + MARK]),
     "a byte-order mark behind a line that goes on": (["a\nb ", "\ufeffc\n"], "a\nb \ufeffc\n", ["2.m4:1:1: " + MARK]),
     "curly quotes": (["‘n’\n"], "‘n’\n", ["1.m4:1:1: " + ALIKE % ("‘", "2018"), "1.m4:1:5: " + ALIKE % ("’", "2019")]),

@@ -119,7 +119,7 @@ fn rank(seen: &Seen, answer: Answer) -> Option<u8> {
             (seen.within && (argument || call)).then_some(u8::from(answer != Answer::Name))
         }
         Kind::Foreign(_) => (argument && (seen.within || lasts(&seen.kind))).then_some(1),
-        Kind::OrderMark => (argument && seen.place > 0).then_some(2),
+        Kind::OrderMark => (argument && seen.within).then_some(2),
     }
 }
 

@@ -4,7 +4,7 @@
 //! seen, and behind a change of the marks little is. Tests of a byte are those of ASCII, as in the expander.
 
 use crate::scanner;
-use crate::suspects::{needs_call, takes_call};
+use crate::suspects::{needs_call, refusal_of, takes_call};
 use std::collections::HashMap;
 
 /// Something that may be a mistake.
@@ -49,6 +49,17 @@ pub enum Kind<'t> {
     Foreign(&'t str),
 }
 
+impl Kind<'_> {
+    /// Whether it does no more than to give or be other text than is meant.
+    pub fn is_mere_text(&self) -> bool {
+        match self {
+            Kind::Bare(name) => refusal_of(name).is_none(),
+            Kind::Return | Kind::LookAlike { .. } => true,
+            _ => false,
+        }
+    }
+}
+
 /// What the text itself makes of a name.
 #[derive(Default)]
 pub struct Own<'t> {
@@ -67,8 +78,6 @@ pub type Owned<'t> = HashMap<&'t str, Own<'t>>;
 pub fn scan<'t>(text: &'t [u8], ends: &'t [usize]) -> Vec<Seen<'t>> {
     let (mut seen, own) = scanner::walk(text, ends);
     seen.retain_mut(|seen| stands(seen, &own));
-    seen.extend(order_marks(text, ends));
-    seen.sort_by_key(|seen| seen.place);
     seen
 }
 
@@ -92,21 +101,6 @@ fn stands<'t>(seen: &mut Seen<'t>, own: &Owned<'t>) -> bool {
         }
         Kind::Point { .. } | Kind::Return | Kind::OrderMark | Kind::LookAlike { .. } => true,
     }
-}
-
-fn order_marks<'t>(text: &'t [u8], ends: &'t [usize]) -> impl Iterator<Item = Seen<'t>> {
-    let begins = [0].into_iter().chain(ends.iter().copied());
-    let mut begins: Vec<_> = begins
-        .filter(|&begin| text[begin..].starts_with("\u{feff}".as_bytes()))
-        .collect();
-    // An empty template begins where the next one does.
-    begins.dedup();
-    begins.into_iter().map(|place| Seen {
-        place,
-        ends: None,
-        within: place > 0,
-        kind: Kind::OrderMark,
-    })
 }
 
 #[cfg(test)]

@@ -1,7 +1,11 @@
 //! The walk over a template's text that hints.rs goes by.
 
 use crate::hints::{Kind, Owned, Seen};
-use crate::suspects::{is_foreign, is_predefined, looks_alike, needs_call, refusal_of};
+use crate::suspects::{
+    begins_name, is_blank, is_foreign, is_in_name, is_predefined, looks_alike, needs_call,
+};
+
+const ORDER_MARK: &[u8] = "\u{feff}".as_bytes();
 
 /// What an open parenthesis has in it.
 #[derive(Clone, Copy, Default)]
@@ -61,33 +65,14 @@ pub fn walk<'t>(text: &'t [u8], ends: &'t [usize]) -> (Vec<Seen<'t>>, Owned<'t>)
     (scan.seen, scan.own)
 }
 
-fn begins_name(byte: u8) -> bool {
-    byte.is_ascii_alphabetic() || byte == b'_'
-}
-
-fn is_in_name(byte: u8) -> bool {
-    byte.is_ascii_alphanumeric() || byte == b'_'
-}
-
-fn is_blank(byte: u8) -> bool {
-    matches!(byte, b' ' | b'\t' | b'\n')
-}
-
-/// Whether something does no more than to give or be other text than is meant.
-fn is_mere_text(kind: &Kind) -> bool {
-    match kind {
-        Kind::Bare(name) => refusal_of(name).is_none(),
-        Kind::Return | Kind::LookAlike { .. } => true,
-        _ => false,
-    }
-}
-
 impl<'t> Scan<'t> {
     /// Takes one byte or name or number.
     fn step(&mut self) {
         let byte = self.text[self.at];
         if byte == b'\r' {
             self.carriage_return();
+        } else if byte == ORDER_MARK[0] {
+            self.order_mark();
         }
         if self.marks_changed {
             self.at += 1;
@@ -138,7 +123,7 @@ impl<'t> Scan<'t> {
 
     fn note_in(&mut self, within: bool, place: usize, kind: Kind<'t>) {
         let Frame { in_call, keeps, .. } = self.frame();
-        if self.discards && !in_call && is_mere_text(&kind) {
+        if self.discards && !in_call && kind.is_mere_text() {
             return;
         }
         let ends = (!in_call).then_some(self.at);
@@ -162,6 +147,13 @@ impl<'t> Scan<'t> {
             // Lines of a quoted text are many, and CR does no harm in most.
             let within = in_call && (self.quotes.is_empty() || taker.is_some());
             self.note_in(within, self.at, Kind::Return);
+        }
+    }
+
+    fn order_mark(&mut self) {
+        let begins = self.at == 0 || self.ends.binary_search(&self.at).is_ok();
+        if begins && self.text[self.at..].starts_with(ORDER_MARK) && self.remark.is_none() {
+            self.note(self.at, Kind::OrderMark);
         }
     }
 
