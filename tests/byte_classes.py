@@ -3,7 +3,8 @@
 
 Looked for in every function and every definition, with all literals as numbers: an order comparison or a range with a byte literal; both ends of
 the letters or the digits among the numbers that are compared; a digit's or letter's first byte subtracted, and the rest compared with their count; a
-class listed. In the book also its own test of a range, in proofs too. A number that may be a count as well (10, 64, 65) is nothing by itself.
+class listed. In the book also its own test of a range, in proofs too. In rust/, where one file has the classes once more, a range of bytes or a
+question to the standard library. A number that may be a count as well (10, 64, 65) is nothing by itself.
 What must be found and what must not is tried first, and the files that have ranges must be found to have them, so that a search that finds nothing
 any more fails. Ends with 'N passed, M failed'; exit status 0 only if M is 0.
 """
@@ -21,6 +22,8 @@ ROOT = os.path.dirname(os.path.dirname(os.path.abspath(__file__)))
 CODE = ["crates/ascii/src/lib.rt"]
 BOOK = ["crates/rules/specs/Bytes.antt"]
 PROOFS = ["crates/rules/proofs/Classes.antt", "crates/rules/proofs/Book.antt"]
+# the crate and the command, which can't call the proved function; this file is held to its vectors
+RUST = ["rust/src/bin/quenhovach/bytes.rs"]
 
 # the numbers that a comparison has at the lower and at the upper end of a range
 ENDS = [({47, 48}, {57, 58}), ({64, 65}, {90, 91}), ({96, 97}, {122, 123})]
@@ -109,6 +112,13 @@ def proof_ranges(text):
     return (line.strip() for line in text.splitlines() if re.search(r"\branging\b", line))
 
 
+def rust_ranges(text):
+    """The lines of a Rust source that tell a byte's class by a range, or ask the standard library for it."""
+    asked = r"\bis_(?:ascii_)?(?:alphabetic|alphanumeric|digit|uppercase|lowercase|whitespace|hexdigit|numeric)\(\)|\bto_digit\("
+    ranged = r"b'(?:\\.|[^'\\])'\s*\.\.|\.\.=?\s*b'|%s\s*b'|b'(?:\\.|[^'\\])'\s*%s" % (ORDER, ORDER)
+    return (line.strip() for line in text.splitlines() if re.search(asked + "|" + ranged, line.split("//")[0]))
+
+
 def files(pattern):
     return sorted(os.path.relpath(path, ROOT) for path in glob.glob(os.path.join(ROOT, pattern), recursive=True))
 
@@ -125,6 +135,8 @@ def main():
         (code_ranges, samples.PASSED_IN_CODE, False),
         (book_ranges, samples.FOUND_IN_BOOK, True),
         (book_ranges, samples.PASSED_IN_BOOK, False),
+        (rust_ranges, samples.FOUND_IN_RUST, True),
+        (rust_ranges, samples.PASSED_IN_RUST, False),
     ]:
         for text in texts:
             if bool(list(search(text))) == wanted:
@@ -135,6 +147,7 @@ def main():
         (code_ranges, "crates/*/src/**/*.rt", CODE),
         (book_ranges, "crates/*/specs/**/*.antt", BOOK),
         (proof_ranges, "crates/*/proofs/**/*.antt", PROOFS),
+        (rust_ranges, "rust/src/**/*.rs", RUST),
     ]:
         paths = files(pattern)
         failed += ["%s: no such file" % place for place in places if place not in paths]

@@ -71,3 +71,12 @@ PASSED_IN_BOOK = [
     "worth x = cond (isDigit x) (some (x - 48)) none",
     "-- 48 ≤ x and x ≤ 57",
 ]
+FOUND_IN_RUST = [
+    "    byte.is_ascii_alphabetic() || byte == b'_'",
+    "    b.is_ascii_digit()",
+    "        b'0'..=b'9' => true,",
+    "    char::from(b).to_digit(16)",
+    "    b'a' <= b",
+    "    b >= b'0'",
+]
+PASSED_IN_RUST = ["    is_digit(b) || b == b'.'", "    // b'0'..=b'9'", "        0x80.. => self.character(),", "        b'0' => 1,", "    text.trim_ascii()"]

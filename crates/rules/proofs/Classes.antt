@@ -157,31 +157,20 @@ module _ (x : ℕ) where
   unfolding classOf isUpper isLower ranging
   class-underscore e = rw e
 
+  -- below the digits there are blanks and others
+  class-low : x < 48 → (b : Bool) → blanks ≡ b → cond b class.Blank class.Other ≡ classOf x
+  unfolding classOf
+  class-low h b e = rw (no-letter (λ a b. omega arith) (λ a b. omega arith), off-range 48 57 x (λ a b. omega arith), off-range 95 95 x (λ a b. omega arith), e)
+
   pub class-space : x ≡ 32 → class.Blank ≡ classOf x
-  unfolding classOf isUpper isLower ranging
-  class-space e = rw e
+  class-space e = class-low (omega arith) true (ap₂ _||_ (off-range 9 10 x (λ a b. omega arith)) (in-range 32 32 x (omega arith) (omega arith)))
 
   -- a tab or a newline
   pub class-tab : 9 ≤ x → x ≤ 10 → class.Blank ≡ classOf x
-  unfolding classOf
-  class-tab h k =
-      rw (
-        no-letter (λ a b. omega arith) (λ a b. omega arith),
-        off-range 48 57 x (λ a b. omega arith),
-        off-range 95 95 x (λ a b. omega arith),
-        in-range 9 10 x h k,
-      )
+  class-tab h k = class-low (omega arith) true (ap₂ _||_ (in-range 9 10 x h k) (off-range 32 32 x (λ a b. omega arith)))
 
   pub class-below : x < 48 → (x ≡ 32 → ⊥) → (9 ≤ x → x ≤ 10 → ⊥) → class.Other ≡ classOf x
-  unfolding classOf
-  class-below h n t =
-      rw (
-        no-letter (λ a b. omega arith) (λ a b. omega arith),
-        off-range 48 57 x (λ a b. omega arith),
-        off-range 95 95 x (λ a b. omega arith),
-        off-range 9 10 x t,
-        off-range 32 32 x (λ a b. n (omega arith)),
-      )
+  class-below h n t = class-low h false (ap₂ _||_ (off-range 9 10 x t) (off-range 32 32 x (λ a b. n (omega arith))))
 
   pub class-above : 57 < x → isUpper x ≡ false → isLower x ≡ false → (x ≡ 95 → ⊥) → class.Other ≡ classOf x
   unfolding classOf

@@ -1,5 +1,6 @@
 //! The command line.
 
+use crate::bytes::is_digit;
 use quenhovach::{Buffer, BUDGET, LONGEST};
 use std::ffi::{OsStr, OsString};
 use std::os::unix::ffi::OsStrExt;
@@ -185,9 +186,7 @@ fn set_once<T>(name: &str, place: &mut Option<T>, value: T) -> Result<(), String
 
 /// Decimal digits, at most `most`.
 fn number(name: &str, value: &OsStr, most: u32) -> Result<u32, String> {
-    let read = value
-        .to_str()
-        .filter(|s| s.bytes().all(|b| b.is_ascii_digit()));
+    let read = value.to_str().filter(|s| s.bytes().all(is_digit));
     match read.and_then(|digits| digits.parse().ok()) {
         Some(number) if number <= most => Ok(number),
         _ if name == "--output" => Err(format!(

@@ -1,7 +1,7 @@
 //! What in a template's text commonly causes trouble, seen without expanding it.
 //!
 //! It is a guess. The text is read once, from front to back, with the usual marks, and nothing is expanded: what a macro gives is not
-//! seen, and behind a change of the marks little is. Tests of a byte are those of ASCII, as in the expander.
+//! seen, and behind a change of the marks little is. A byte has the class that it has in the expander (bytes.rs).
 
 use crate::scanner;
 use crate::suspects::{needs_call, refusal_of, takes_call};

@@ -1,6 +1,7 @@
 //! The command `quenhovach`: templates in, a settings sheet out, whole or not at all. See docs/quenhovach.1.
 
 mod arguments;
+mod bytes;
 mod hint_words;
 mod hints;
 mod identity;

@@ -1,9 +1,8 @@
 //! The walk over a template's text that hints.rs goes by.
 
+use crate::bytes::{begins_name, is_blank, is_digit, is_in_name};
 use crate::hints::{Kind, Owned, Seen};
-use crate::suspects::{
-    begins_name, is_blank, is_foreign, is_in_name, is_predefined, looks_alike, needs_call,
-};
+use crate::suspects::{is_foreign, is_predefined, looks_alike, needs_call};
 
 const ORDER_MARK: &[u8] = "\u{feff}".as_bytes();
 
@@ -87,7 +86,7 @@ impl<'t> Scan<'t> {
             b'(' => self.frames.push(self.frame()),
             b')' => self.close(),
             b'$' => return self.parameter(),
-            _ if byte.is_ascii_digit() => return self.number(),
+            _ if is_digit(byte) => return self.number(),
             _ if begins_name(byte) => return self.name(),
             0x80.. => return self.character(),
             _ => {}
@@ -194,7 +193,7 @@ impl<'t> Scan<'t> {
         let Some(&sign) = self.text.get(self.at) else {
             return;
         };
-        if sign.is_ascii_digit() || b"*@".contains(&sign) || sign == b'#' && quoted {
+        if is_digit(sign) || b"*@".contains(&sign) || sign == b'#' && quoted {
             self.at += 1;
             let own = self.frame().defines.and_then(|name| self.own.get_mut(name));
             if let Some(own) = own {
@@ -205,7 +204,7 @@ impl<'t> Scan<'t> {
 
     /// A number with a point, if one stands there; one with two points is none.
     fn pointed(&self, from: usize) -> Option<&'t str> {
-        let word = self.word(from, |b| b.is_ascii_digit() || b == b'.');
+        let word = self.word(from, |b| is_digit(b) || b == b'.');
         let (whole, part) = word.trim_end_matches('.').split_once('.')?;
         let is_one = !whole.is_empty() && !part.is_empty() && !part.contains('.');
         is_one.then(|| word.trim_end_matches('.'))
@@ -215,9 +214,7 @@ impl<'t> Scan<'t> {
         let place = self.at;
         let Frame { taker, given, .. } = self.frame();
         let found = self.pointed(place).filter(|_| self.is_live());
-        self.at += self
-            .run_of(place, |b| b.is_ascii_digit() || b == b'.')
-            .len();
+        self.at += self.run_of(place, |b| is_digit(b) || b == b'.').len();
         match (found, taker, given) {
             (Some(number), Some(taker), _) => self.note(place, Kind::Point { number, taker }),
             (Some(number), None, Some(to)) => {

@@ -1,4 +1,4 @@
-//! The names, bytes and characters that the scan for likely mistakes knows. tests/command/hints.py holds the names to the book of rules.
+//! The names and characters that the scan for likely mistakes knows. tests/command/hints.py holds the names to the book of rules.
 
 use quenhovach::Answer;
 
@@ -70,16 +70,4 @@ pub fn looks_alike(mark: char, quoted: bool) -> bool {
         '\u{201c}'..='\u{201f}' => !quoted,
         _ => false,
     }
-}
-
-pub fn begins_name(byte: u8) -> bool {
-    byte.is_ascii_alphabetic() || byte == b'_'
-}
-
-pub fn is_in_name(byte: u8) -> bool {
-    byte.is_ascii_alphanumeric() || byte == b'_'
-}
-
-pub fn is_blank(byte: u8) -> bool {
-    matches!(byte, b' ' | b'\t' | b'\n')
 }
