@@ -13,13 +13,13 @@ use Rattle.rules.specs.Macros.{called}
 use Rattle.rules.specs.Run.{Setting}
 use Rattle.rules.specs.Source.{ahead}
 use Rattle.rules.specs.State.{Call, State, taking, withSource}
-use Rattle.rules.specs.Step.{act, step}
+use Rattle.rules.specs.Step.{NameUse, plain, nameUse, named, act, step}
 use Rattle.rules.specs.Table.{Meaning, meaningOf}
 use Rattle.expander.specs.declared.events.Role.{Role}
 use Rattle.expander.specs.declared.events.Role.the-variants as role
 use Rattle.expander.specs.declared.events.Event.{Event}
 use Rattle.expander.specs.declared.events.Event.the-variants as event
-use Rattle.expander.specs.declared.events.Plain.the-variants as plain
+use Rattle.expander.specs.declared.events.Plain.the-variants as plainly
 use Rattle.expander.specs.declared.events.Special.the-variants as special
 use Rattle.expander.specs.declared.machine.Machine.{Machine}
 use Rattle.expander.specs.declared.source.Position.{Position}
@@ -29,18 +29,27 @@ use Rattle.expander.specs.Calls.{CallsIn, bit}
 use Rattle.expander.specs.Events.{PlainWithin, SpecialWithin, EventWithin, PlainIs, SpecialIs, EventIs, NameFound}
 use Rattle.expander.specs.Machine.{Memory, Means, aheadOf}
 use Rattle.expander.specs.Step.{byRole, HasRole, TokenWithin}
-use Rattle.expander.specs.Table.{Finds}
+use Rattle.expander.specs.Table.{Finds, plainUnopened}
 use Rattle.expander.proofs.CallsLaws.{depth-in}
-use Rattle.expander.proofs.StepLaws.{no-calls, some-calls, calls-top, role-is, role-deep, byte-none, byte-some, named-nothing, known, named-known, named-opened, named-called, acts}
+use Rattle.expander.proofs.StepLaws.{no-calls, some-calls, calls-top, role-is, role-deep, byte-none, byte-some, known, used-undefined, used-opening, used-plain, used-bare, acts}
+
+-- ---- an event that a function gave
+
+module _ {e w : Event} (q : e ≡ w) where
+  pub within-as : (text pending : Bytes) (m : Machine) → EventWithin text pending m w → EventWithin text pending m e
+  within-as text pending m h = subst (EventWithin text pending m) (sym q) h
+
+  pub is-as : (s : State) → EventIs s w → EventIs s e
+  is-as s h = subst (EventIs s) (sym q) h
 
 -- ---- a byte
 
 -- what a byte in a call calls for, by its role
 unfoldable pub roleEvent : ℕ → Role → Event
-roleEvent x role.Dropped = event.Plain plain.Skip
-roleEvent x (role.Collected depth) = event.Plain (plain.Collect x depth)
+roleEvent x role.Dropped = event.Plain plainly.Skip
+roleEvent x (role.Collected depth) = event.Plain (plainly.Collect x depth)
 roleEvent x role.Closes = event.Special special.Close
-roleEvent x role.Separates = event.Plain plain.Separate
+roleEvent x role.Separates = event.Plain plainly.Separate
 
 pub role-within :
     (text pending : Bytes) (m : Machine) (x : ℕ) (w : Role) → 0 < m .calls .opens → 1 ≤ aheadOf text pending (m .source)
@@ -53,7 +62,7 @@ role-within text pending m x role.Separates o h = (h, o)
 
 module _ {a : Setting} {b : Memory} {m : Machine} {s : State} (r : Means a b m s) (x : ℕ) (e : step s ≡ act (token.Byte x) s) where
   -- no call is open
-  pub emit-is : m .calls .opens ≡ 0 → EventIs s (event.Plain (plain.Emit x))
+  pub emit-is : m .calls .opens ≡ 0 → EventIs s (event.Plain (plainly.Emit x))
   unfolding EventIs PlainIs act taking withSource
   emit-is z = e ∙ byte-none x (taking 1 s) (no-calls r z)
 
@@ -79,21 +88,34 @@ module _ {a : Setting} {b : Memory} {m : Machine} {s : State} (r : Means a b m s
 -- ---- a name
 
 module _ (s : State) (n : ℕ) (e : step s ≡ act (token.Name n) s) {g : Looked} (f : Finds (s .table .definitions) (meaningOf (take n (ahead (s .source))) (s .table)) g) where
-  pub undefined-is : g ≡ looked.Undefined → EventIs s (event.Plain (plain.Deliver 0 n n))
-  unfolding EventIs PlainIs act
-  undefined-is q = e ∙ named-nothing _ n s f q
+  -- the step by what the name does where it is read
+  used : {u : NameUse} → nameUse (take n (ahead (s .source))) n s ≡ u → step s ≡ named u (take n (ahead (s .source))) n s
+  unfolding act
+  used q = e ∙ ap (λ (u : NameUse). named u (take n (ahead (s .source))) n s) q
+
+  plain-is : nameUse (take n (ahead (s .source))) n s ≡ plain → EventIs s (event.Plain (plainly.Deliver 0 n n))
+  unfolding EventIs PlainIs named
+  plain-is q = used q
+
+  pub undefined-is : g ≡ looked.Undefined → EventIs s (event.Plain (plainly.Deliver 0 n n))
+  unfolding nameUse
+  undefined-is q = plain-is (used-undefined f _ q)
 
   module _ (d : g ≡ looked.Undefined → ⊥) {t : Bool} (p : t ≡ eqb (getD (ahead (s .source)) n 0) 40) where
-    pub open-is : t ≡ true → EventIs s (event.Plain (plain.Open n))
-    unfolding EventIs PlainIs act
-    open-is q = let k = known f d in e ∙ named-known _ n s k ∙ named-opened _ n (k .meaning) s p q
+    pub open-is : t ≡ true → EventIs s (event.Plain (plainly.Open n))
+    unfolding EventIs PlainIs nameUse named
+    open-is q = used (used-opening f _ (known f d) (sym p ∙ q))
 
-    pub bare-is : t ≡ false → EventIs s (event.Special (special.Bare n g))
-    unfolding EventIs SpecialIs NameFound act
-    bare-is q =
+    pub unopened-is : t ≡ false → plainUnopened g ≡ true → EventIs s (event.Plain (plainly.Deliver 0 n n))
+    unfolding nameUse
+    unopened-is q h = plain-is (used-plain f _ (known f d) (sym p ∙ q) h)
+
+    pub bare-is : t ≡ false → plainUnopened g ≡ false → EventIs s (event.Special (special.Bare n g))
+    unfolding EventIs SpecialIs NameFound nameUse named
+    bare-is q h =
         let k = known f d in
         let name = take n (ahead (s .source)) in
-        (f, e ∙ named-known _ n s k ∙ named-called _ n (k .meaning) s p q ∙ ap (λ (o : Option Meaning). called o name [] (taking n s)) (sym (k .is)))
+        (f, used (used-bare f _ k (sym p ∙ q) h) ∙ ap (λ (o : Option Meaning). called o name [] (taking n s)) (sym (k .is)))
 
 -- ---- a token
 
@@ -102,11 +124,11 @@ module _ (s : State) {t : Token} (e : step s ≡ act t s) where
   unfolding EventIs SpecialIs act
   end-is q = e ∙ acts q s
 
-  pub comment-is : {n : ℕ} → t ≡ token.Comment n → EventIs s (event.Plain (plain.Deliver 0 n n))
+  pub comment-is : {n : ℕ} → t ≡ token.Comment n → EventIs s (event.Plain (plainly.Deliver 0 n n))
   unfolding EventIs PlainIs act
   comment-is q = e ∙ acts q s
 
-  pub quoted-is : {i j n : ℕ} → t ≡ token.Quoted i j n → EventIs s (event.Plain (plain.Deliver i (j - i) n))
+  pub quoted-is : {i j n : ℕ} → t ≡ token.Quoted i j n → EventIs s (event.Plain (plainly.Deliver i (j - i) n))
   unfolding EventIs PlainIs act
   quoted-is q = e ∙ acts q s
 

@@ -1,10 +1,10 @@
 -- One step by what the code goes by: the open calls, a byte in a call, a name's meaning, the end, and the token ahead. Assumes nothing.
 use Prim.Native.Nat.{ℕ, zero, suc, _+_, _-_, _≤_, _<_}
 use mathlib.Core.Path.{_≡_, refl, sym, ap, subst, _∙_}
-use mathlib.Core.Bool.{Bool, true, false}
+use mathlib.Core.Bool.{Bool, true, false, cond}
 use mathlib.Core.Logic.{_⊎_, inl, inr}
 use mathlib.Core.List.{List, [], _∷_, _++_}
-use mathlib.Core.Option.{Option, some}
+use mathlib.Core.Option.{Option, some, Option·none-ne-some, Option·some-injective}
 use native.Mathlib.Omega.{arith}
 use borrow.Author.Tests.{ne-eqb, eqb-true}
 use lib.Dec.{eqb}
@@ -20,11 +20,10 @@ use Rattle.rules.specs.Marks.{MarkTexts, markTexts}
 use Rattle.rules.specs.Source.{Source, ahead, pushBack}
 use Rattle.rules.specs.Streams.{finishedStreams, changed, changedInTurn}
 use Rattle.rules.specs.Table.{Meaning, Definition}
-use Rattle.rules.specs.State.{Call, State, Outcome, next, stop, refused, withCalls, withSource, withStreams, withWrap, taking, resulting, changing, emitting}
-use Rattle.rules.specs.Macros.{called}
+use Rattle.rules.specs.State.{Call, State, Outcome, next, stop, refused, withCalls, withSource, withStreams, withWrap, resulting, changing, emitting}
 use Rattle.rules.specs.Tokens.{readToken}
 use Rattle.rules.specs.Run.{Setting, callsCost}
-use Rattle.rules.specs.Step.{atEnd, collecting, delivered, opened, named, commaAt, rightMet, otherMet, inCall, singleByte, act, reacted, step}
+use Rattle.rules.specs.Step.{plain, opening, bare, unopened, usedWith, atEnd, collecting, commaAt, rightMet, otherMet, inCall, singleByte, act, reacted, step}
 use Rattle.expander.specs.declared.machine.Machine.{Machine}
 use Rattle.expander.specs.declared.machine.Turn.{Turn}
 use Rattle.expander.specs.declared.machine.Went.the-variants as went
@@ -38,7 +37,7 @@ use Rattle.expander.specs.Front.{Front}
 use Rattle.expander.specs.Machine.{Memory, Means, Sound, Gives, Reach, aheadOf, pendingAt, sourceSet, wrapSet, turned}
 use Rattle.expander.specs.Source.{SourceIn}
 use Rattle.expander.specs.Step.{byRole, deepAt, HasRole, TokenWithin}
-use Rattle.expander.specs.Table.{Finds, meaningFor}
+use Rattle.expander.specs.Table.{Finds, meaningFor, plainUnopened}
 use Rattle.expander.specs.Tokens.{Within}
 use Rattle.expander.proofs.Parts.{part-all}
 use Rattle.expander.proofs.CallsLaws.{calls-held, depth-in}
@@ -214,21 +213,6 @@ pub reach-open :
 reach-open {x} {n} m h e t =
     record { some = h .some; whole = omega (arith, at-within (ahead x) n (eqb-true (getD (ahead x) n 0) 40 (sym e ∙ t)), ahead-long m) }
 
-module _ (w : Bytes) (n : ℕ) (m : Meaning) (s : State) {t : Bool} (e : t ≡ eqb (getD (ahead (s .source)) n 0) 40) where
-  pub named-opened : t ≡ true → named w n (some m) s ≡ opened w (taking (suc n) s)
-  unfolding named
-  named-opened g = rw (sym e ∙ g, named)
-
-  pub named-called : t ≡ false → named w n (some m) s ≡ called (some m) w [] (taking n s)
-  unfolding named
-  named-called g = rw (sym e ∙ g, named)
-
--- what looking a name up answers says whether it means anything
-pub named-nothing : {ds : List Definition} {o : Option Meaning} {r : Looked} (w : Bytes) (n : ℕ) (s : State) → Finds ds o r → r ≡ looked.Undefined
-    → named w n o s ≡ next (delivered w (s .calls) (taking n s))
-unfolding named meaningFor
-named-nothing w n s f e = rw (f .is, e, named)
-
 -- a name that means something
 pub record Known (ds : List Definition) (o : Option Meaning) (r : Looked) : Type 0 where
   pub meaning : Meaning
@@ -241,8 +225,37 @@ known {r = looked.Text i} f g = record { meaning = _; is = f .is; finds = record
 known {r = looked.Predefined k} f g = record { meaning = _; is = f .is; finds = record { is = refl; within = f .within } }
 known {r = looked.Undefined} f g = absurd (g refl)
 
-pub named-known : {ds : List Definition} {o : Option Meaning} {r : Looked} (w : Bytes) (n : ℕ) (s : State) (k : Known ds o r) → named w n o s ≡ named w n (some (k .meaning)) s
-named-known w n s k = ap (λ (m : Option Meaning). named w n m s) (k .is)
+-- one that no parenthesis follows
+unopened-is : {ds : List Definition} {m : Meaning} (r : Looked) → Finds ds (some m) r → unopened m ≡ cond (plainUnopened r) plain (bare m)
+unfolding unopened meaningFor plainUnopened
+unopened-is {ds} {m} (looked.Text i) f = rw (Option·some-injective m _ (f .is), unopened)
+unopened-is {ds} {m} (looked.Predefined k) f = rw (Option·some-injective m _ (f .is), unopened)
+unopened-is looked.Undefined f = absurd (Option·none-ne-some _ (sym (f .is)))
+
+-- what a name does where it is read, by what looking it up answered
+module _ {ds : List Definition} {o : Option Meaning} {r : Looked} (f : Finds ds o r) (t : Bool) where
+  pub used-undefined : r ≡ looked.Undefined → usedWith o t ≡ plain
+  unfolding usedWith meaningFor
+  used-undefined e = rw (f .is, e, usedWith)
+
+  module _ (k : Known ds o r) where
+    used-known : usedWith o t ≡ usedWith (some (k .meaning)) t
+    used-known = ap (λ (m : Option Meaning). usedWith m t) (k .is)
+
+    pub used-opening : t ≡ true → usedWith o t ≡ opening
+    unfolding usedWith
+    used-opening e = used-known ∙ rw (e, usedWith)
+
+    module _ (e : t ≡ false) where
+      used-unopened : usedWith o t ≡ cond (plainUnopened r) plain (bare (k .meaning))
+      unfolding usedWith
+      used-unopened = used-known ∙ rw (e, usedWith) (unopened-is r (k .finds))
+
+      pub used-plain : plainUnopened r ≡ true → usedWith o t ≡ plain
+      used-plain p = used-unopened ∙ rw p
+
+      pub used-bare : plainUnopened r ≡ false → usedWith o t ≡ bare (k .meaning)
+      used-bare p = used-unopened ∙ rw p
 
 pub not-third : {k : ℕ} → (k ≡ 0) ⊎ (k ≡ 1) → k ≡ 2 → ⊥
 not-third (inl e) f = omega arith

@@ -1,12 +1,12 @@
 -- The definitions in force, as packed strings, and what looking one up answers.
 use Prim.Native.Nat.{ℕ, zero, suc, _+_, _-_, _*_, _^_, _≤_, _<_}
-use mathlib.Core.Bool.{true, false}
+use mathlib.Core.Bool.{Bool, true, false}
 use mathlib.Core.Path.{_≡_}
 use mathlib.Core.List.{List, [], _∷_, _++_}
 use mathlib.Core.Option.{Option, none, some}
 use lib.ListN.{length, take, drop, getD}
 use Rattle.rules.specs.Bytes.{Bytes, sameBytes}
-use Rattle.rules.specs.Table.{Meaning, text, predefined, Definition, Table, numberFrom, predefinedNumber}
+use Rattle.rules.specs.Table.{Meaning, text, predefined, needsParenthesis, Definition, Table, numberFrom, predefinedNumber}
 use Rattle.expander.specs.Limits.{mostLent, macroCount, tableEndsLength}
 use Rattle.expander.specs.Packed.{Packs}
 use Rattle.expander.specs.declared.packed.Packed.{Packed}
@@ -84,6 +84,12 @@ textEnd looked.Undefined = 0
 pub record Finds (ds : List Definition) (m : Option Meaning) (r : Looked) : Type 0 where
   pub is : m ≡ meaningFor (rows ds) r
   pub within : textEnd r ≤ length (rows ds)
+
+-- a name of the meaning that was looked up is plain text where no parenthesis follows
+unfoldable pub plainUnopened : Looked → Bool
+plainUnopened (looked.Text i) = false
+plainUnopened (looked.Predefined k) = needsParenthesis k
+plainUnopened looked.Undefined = true
 
 -- a definition's name and text, unless the name is w
 unfoldable pub unlessNamed : Bytes → Bytes → Bytes → List Bytes

@@ -3,6 +3,7 @@ use crate::ahead;
 use crate::calls;
 use crate::closing;
 use crate::machine::Machine;
+use crate::macros;
 use crate::source::Position;
 use crate::table::Meaning;
 use crate::tokens;
@@ -23,6 +24,9 @@ ghost use Rattle.expander.specs.Machine.{Memory, Means, Sound, Reach, ah
 ghost use Rattle.expander.specs.Source.{SourceIn};
 ghost use Rattle.expander.specs.Step.{HasRole, TokenWithin};
 ghost use Rattle.expander.specs.Limits.{mostLent};
+ghost use Rattle.expander.specs.Table.{plainUnopened};
+ghost use Rattle.expander.specs.declared.events.Event.the-variants as event;
+ghost use Rattle.expander.specs.declared.events.Plain.the-variants as plain;
 
 // n bytes ahead from `start` on go where text goes, and `width` bytes are taken; a byte goes to the current stream; the innermost call
 // collects a byte, with so many parentheses open then; a blank is skipped; the next argument begins; a call is opened whose name is the first n bytes ahead.
@@ -54,6 +58,17 @@ pub(crate) enum Special {
 pub(crate) enum Event {
     Plain(Plain),
     Special(Special),
+}
+
+// The first n bytes ahead, all of the token, go where text goes.
+fn whole(n: usize) -> Event
+    ensures { λ r. ⌜ r ≡ event.Plain (plain.Deliver 0 n n) ⌝ }
+{
+    Event::Plain(Plain::Deliver {
+        start: 0,
+        n,
+        width: n,
+    })
 }
 
 // Whether a left parenthesis stands behind n bytes ahead.
@@ -124,6 +139,17 @@ fn byte_event(stack: &[u32], m: Machine, x: u8) -> Event
     }
 }
 
+// Whether a name of this meaning is plain text where no parenthesis follows.
+fn plain_unopened(meaning: Meaning) -> bool
+    ensures { λ r. ⌜ r ≡ plainUnopened meaning ⌝ }
+{
+    match meaning {
+        Meaning::Text(_) => false,
+        Meaning::Predefined(k) => macros::needs_parenthesis(k),
+        Meaning::Undefined => true,
+    }
+}
+
 // What the name of n bytes ahead calls for.
 fn name_event(
     text: &[u8],
@@ -142,14 +168,13 @@ fn name_event(
 {
     let meaning = closing::meaning_ahead(text, pending, definitions, table_ends, scratch, m, n);
     if let Meaning::Undefined = meaning {
-        return Event::Plain(Plain::Deliver {
-            start: 0,
-            n,
-            width: n,
-        });
+        return whole(n);
     }
     if opens(text, pending, m.source, n) {
         return Event::Plain(Plain::Open(n));
+    }
+    if plain_unopened(meaning) {
+        return whole(n);
     }
     Event::Special(Special::Bare { n, meaning })
 }
@@ -173,11 +198,7 @@ fn token_event(
 {
     match token {
         Token::End => Event::Special(Special::End),
-        Token::Comment { end } => Event::Plain(Plain::Deliver {
-            start: 0,
-            n: end,
-            width: end,
-        }),
+        Token::Comment { end } => whole(end),
         Token::Quoted {
             text: start,
             text_end,

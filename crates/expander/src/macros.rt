@@ -27,8 +27,24 @@ ghost use Rattle.expander.specs.Machine.{Memory, Means, Gives, Sound, So
 ghost use Rattle.expander.specs.declared.machine.Machine.{Machine};
 ghost use Rattle.expander.specs.Giving.{givenTurn};
 ghost use Rattle.rules.specs.Macros.{perform};
+ghost use Rattle.rules.specs.Table.{needsParenthesis};
 ghost use Rattle.expander.specs.Macros.{SortIs};
 ghost use Rattle.expander.specs.declared.macros.Sort.the-variants as sort;
+
+// Whether the macro of a number is called only with a parenthesis behind its name. (Macros to come that need one join here.)
+pub(crate) fn needs_parenthesis(k: u8) -> bool
+    ensures { λ r. ⌜ r ≡ needsParenthesis k ⌝ }
+{
+    match k {
+        // decr, define, defn
+        3..=5 => true,
+        // errprint to len
+        9..=15 => true,
+        // m4wrap to undefine
+        17..=23 => true,
+        _ => false,
+    }
+}
 
 // What a macro does: it only gives a result; it gives one by a search, which takes much stack; or it changes other things.
 pub(crate) enum Sort {

@@ -23,7 +23,7 @@ use Rattle.rules.specs.State.{Call, State, Outcome, next, stop, refused,
 use Rattle.rules.specs.Arguments.{arg, numberOr, bounded}
 use Rattle.rules.specs.Results.{Result, yields, fails}
 use Rattle.rules.specs.Macros.{giving, marking, callChangecom, callChangequote, callDecr, naming, callDefine, callDefn, callDivert, callDivnum, callDnl, callErrprint, callEval, callIfdef, callIfelse, callIncr, callIndex, callLen, callM4exit, callM4wrap, callPopdef, callPushdef, callShift, callSubstr, callTranslit, callUndefine, undivertNumbers, callUndivert, callNothing, macros, perform, performed, called}
-use Rattle.rules.specs.Step.{atEnd, delivered, argumentCount, opened, named, closed, commaMet, rightMet, commaAt, otherMet, inCall, singleByte, act, reacted, step}
+use Rattle.rules.specs.Step.{NameUse, plain, opening, bare, nameUse, atEnd, delivered, argumentCount, opened, named, closed, commaMet, rightMet, commaAt, otherMet, inCall, singleByte, act, reacted, step}
 use Rattle.rules.specs.Changes.{Calling, bareCall, closedCall, rightCall, byteCall, tokenCall, readCall, callOf, divertChanges, exitChanges, undivertChanges, noChanges, macroChanges, callChanges, ownChanges, nameChanges, endChanges, tokenChanges, readChanges, callOr, changesOf, Makes}
 
 -- ---- streams that are moved
@@ -174,17 +174,12 @@ unfolding opened withCalls changedInTurn
 opened-makes name s = tested (leb 64 (length (s .calls)) || leb 256 (argumentCount (s .calls))) (refuses _) (goes-on _ refl)
 
 name-makes :
-    (name : Bytes) (end : ℕ) (o : Option Meaning) (s : State)
-    → Makes (callOr (bareCall name end o s) (nameChanges name o (s .calls))) (s .streams) (named name end o s)
-unfolding callOr bareCall nameChanges named taking withSource
-name-makes name end none s = deliver-makes name (s .calls) (taking end s)
-name-makes name end (some m) s = go (eqb (getD (ahead (s .source)) end 0) 40)
-  where
-    go : (x : Bool)
-        → Makes (callOr (elim x [ true ↦ none | false ↦ some (record { meaning = m; name = name; arguments = []; from = taking end s }) ]) []) (s .streams)
-        (elim x [ true ↦ opened name (taking (suc end) s) | false ↦ called (some m) name [] (taking end s) ])
-    go true = opened-makes name (taking (suc end) s)
-    go false = unfold called in call-makes m name [] (taking end s)
+    (u : NameUse) (name : Bytes) (end : ℕ) (s : State)
+    → Makes (callOr (bareCall u name end s) (nameChanges u name (s .calls))) (s .streams) (named u name end s)
+unfolding callOr bareCall nameChanges named called taking withSource
+name-makes plain name end s = deliver-makes name (s .calls) (taking end s)
+name-makes opening name end s = opened-makes name (taking (suc end) s)
+name-makes (bare m) name end s = call-makes m name [] (taking end s)
 
 -- a byte in an argument
 module _ (c : Call) (cs : List Call) (s : State) where
@@ -232,7 +227,7 @@ unfolding callOr tokenCall tokenChanges act taking withSource
 act-makes token.End s = end-makes (s .calls) (s .wrap) s
 act-makes (token.Comment end) s = deliver-makes _ (s .calls) (taking end s)
 act-makes (token.Quoted begins ends end) s = deliver-makes _ (s .calls) (taking end s)
-act-makes (token.Name end) s = name-makes (take end (ahead (s .source))) end (meaningOf (take end (ahead (s .source))) (s .table)) s
+act-makes (token.Name end) s = name-makes (nameUse (take end (ahead (s .source))) end s) (take end (ahead (s .source))) end s
 act-makes (token.Byte x) s = byte-makes x (s .calls) (taking 1 s)
 
 read-makes : (r : Reading) (s : State) → Makes (callOr (readCall r s) (readChanges r s)) (s .streams) (reacted r s)
@@ -258,16 +253,11 @@ nothing-performs c e = cc
 call-performs : (c : Calling) → Performs (some c) (performed (c .meaning) (c .name) (c .arguments) (c .from))
 call-performs c v e = let p : c ≡ v = cc in ap (λ (z : Calling). performed (z .meaning) (z .name) (z .arguments) (z .from)) p
 
-name-performs : (name : Bytes) (end : ℕ) (o : Option Meaning) (s : State) → Performs (bareCall name end o s) (named name end o s)
+name-performs : (u : NameUse) (name : Bytes) (end : ℕ) (s : State) → Performs (bareCall u name end s) (named u name end s)
 unfolding bareCall named called
-name-performs name end none s = nothing-performs
-name-performs name end (some m) s = go (eqb (getD (ahead (s .source)) end 0) 40)
-  where
-    go : (x : Bool)
-        → Performs (elim x [ true ↦ none | false ↦ some (record { meaning = m; name = name; arguments = []; from = taking end s }) ])
-        (elim x [ true ↦ opened name (taking (suc end) s) | false ↦ called (some m) name [] (taking end s) ])
-    go true = nothing-performs
-    go false = call-performs _
+name-performs plain name end s = nothing-performs
+name-performs opening name end s = nothing-performs
+name-performs (bare m) name end s = call-performs _
 
 closed-performs : (c : Call) (cs : List Call) (o : Option Meaning) (s : State) → Performs (closedCall c cs o s) (called o (c .name) (c .finished ++ (c .current ∷ [])) (withCalls cs s))
 unfolding closedCall called
@@ -293,7 +283,7 @@ unfolding tokenCall act
 act-performs token.End s = nothing-performs
 act-performs (token.Comment end) s = nothing-performs
 act-performs (token.Quoted begins ends end) s = nothing-performs
-act-performs (token.Name end) s = name-performs (take end (ahead (s .source))) end (meaningOf (take end (ahead (s .source))) (s .table)) s
+act-performs (token.Name end) s = name-performs (nameUse (take end (ahead (s .source))) end s) (take end (ahead (s .source))) end s
 act-performs (token.Byte x) s = byte-performs x (s .calls) (taking 1 s)
 
 read-performs : (r : Reading) (s : State) → Performs (readCall r s) (reacted r s)

@@ -1,6 +1,7 @@
 -- The laws of the book of rules.
 pub mod Book
 pub mod Classes
+pub mod Bare
 pub mod Cases
 pub mod Reach
 pub mod Fuel

@@ -20,6 +20,7 @@ use Rattle.rules.specs.Streams.{Streams, Change, places, moves, finishes
 use Rattle.rules.specs.State.{Call, State, Outcome, next, stop, refused, withCalls, taking}
 use Rattle.rules.specs.Arguments.{numberOr, bounded}
 use Rattle.rules.specs.Macros.{undivertNumbers}
+use Rattle.rules.specs.Step.{NameUse, plain, opening, bare, nameUse}
 
 -- a call that is made, bare (then it has no arguments) or closed: by which meaning, of which name, with which arguments, and the state
 -- from which it is already taken
@@ -29,14 +30,11 @@ pub record Calling : Type 0 where
   pub arguments : List Bytes
   pub from : State
 
--- a name's: 01 "A defined name directly followed by `(` opens a call .. Otherwise it is called at once without arguments"
-unfoldable pub bareCall : Bytes → ℕ → Option Meaning → State → Option Calling
-bareCall name end none s = none
-bareCall name end (some m) s =
-    elim (eqb (getD (ahead (s .source)) end 0) 40) [
-      | true ↦ none
-      | false ↦ some (record { meaning = m; name = name; arguments = []; from = taking end s })
-    ]
+-- a name's: 01 "it is called at once without arguments"
+unfoldable pub bareCall : NameUse → Bytes → ℕ → State → Option Calling
+bareCall plain name end s = none
+bareCall opening name end s = none
+bareCall (bare m) name end s = some (record { meaning = m; name = name; arguments = []; from = taking end s })
 
 -- the one that closes: 01 "The definition used is the one in force at closing"
 unfoldable pub closedCall : Call → List Call → Option Meaning → State → Option Calling
@@ -58,7 +56,7 @@ tokenCall (token.Comment end) s = none
 tokenCall (token.Quoted begins ends end) s = none
 tokenCall (token.Name end) s =
     let name = take end (ahead (s .source)) in
-    bareCall name end (meaningOf name (s .table)) s
+    bareCall (nameUse name end s) name end s
 tokenCall (token.Byte x) s = byteCall x (s .calls) (taking 1 s)
 
 unfoldable pub readCall : Reading → State → Option Calling
@@ -125,10 +123,11 @@ unfoldable pub ownChanges : Bytes → List Call → List Change
 ownChanges w [] = places w ∷ []
 ownChanges w (c ∷ cs) = []
 
--- a name that has no meaning stands for itself; one that has opens a call, where it makes none
-unfoldable pub nameChanges : Bytes → Option Meaning → List Call → List Change
-nameChanges name none cs = ownChanges name cs
-nameChanges name (some m) cs = []
+-- a name that makes no call stands for itself or opens one
+unfoldable pub nameChanges : NameUse → Bytes → List Call → List Change
+nameChanges plain name cs = ownChanges name cs
+nameChanges opening name cs = []
+nameChanges (bare m) name cs = []
 
 -- 01 "else streams 1 to 9 are appended to the output in order and the run is done"
 unfoldable pub endChanges : List Call → Bytes → List Change
@@ -143,7 +142,7 @@ tokenChanges (token.Comment end) s = ownChanges (take end (ahead (s .source))) (
 tokenChanges (token.Quoted begins ends end) s = ownChanges (take (ends - begins) (drop begins (ahead (s .source)))) (s .calls)
 tokenChanges (token.Name end) s =
     let name = take end (ahead (s .source)) in
-    nameChanges name (meaningOf name (s .table)) (s .calls)
+    nameChanges (nameUse name end s) name (s .calls)
 tokenChanges (token.Byte x) s = ownChanges (x ∷ []) (s .calls)
 
 unfoldable pub readChanges : Reading → State → List Change

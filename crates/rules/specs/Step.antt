@@ -1,6 +1,6 @@
 -- One step: 01 "A step takes one token, and all its consequences belong to that step". Nothing here knows of room.
 use Prim.Native.Nat.{ℕ, zero, suc, _+_, _-_}
-use mathlib.Core.Bool.{true, false, _||_}
+use mathlib.Core.Bool.{Bool, true, false, cond, _||_}
 use mathlib.Core.List.{List, [], _∷_, _++_}
 use mathlib.Core.Option.{Option, none, some}
 use lib.Dec.{leb, eqb}
@@ -13,7 +13,7 @@ use Rattle.rules.specs.Bytes.{Bytes, isBlank}
 use Rattle.rules.specs.Answers.{done, unclosedQuote, unclosedComment, unclosedCall, deep}
 use Rattle.rules.specs.Source.{ahead}
 use Rattle.rules.specs.Tokens.{readToken}
-use Rattle.rules.specs.Table.{Meaning, meaningOf}
+use Rattle.rules.specs.Table.{Meaning, text, predefined, needsParenthesis, meaningOf}
 use Rattle.rules.specs.Streams.{finishes}
 use Rattle.rules.specs.State.{Call, State, Outcome, next, stop, refused, withCalls, withWrap, taking, resulting, changing, emitting}
 use Rattle.rules.specs.Macros.{called}
@@ -58,15 +58,33 @@ opened name s =
       | false ↦ next (withCalls (openCall name ∷ s .calls) s)
     ]
 
--- 01 "A defined name directly followed by `(` opens a call, and that byte belongs to the same step. Otherwise it is called at once
--- without arguments"
-unfoldable pub named : Bytes → ℕ → Option Meaning → State → Outcome
-named name end none s = next (delivered name (s .calls) (taking end s))
-named name end (some m) s =
-    elim (eqb (getD (ahead (s .source)) end 0) 40) [
-      | true ↦ opened name (taking (suc end) s)
-      | false ↦ called (some m) name [] (taking end s)
-    ]
+-- what a name does where it is read: it stands for itself, it opens a call, or it is called at once without arguments
+pub data NameUse : Type 0 where
+  plain : NameUse
+  opening : NameUse
+  bare : Meaning → NameUse
+
+-- a name that no `(` directly follows: 01 "Otherwise it is called at once without arguments", but for the predefined meanings of 02,
+-- request 2. The meaning counts there and not the name: a text in the place of `len` is called
+unfoldable pub unopened : Meaning → NameUse
+unopened (text w) = bare (text w)
+unopened (predefined k) = cond (needsParenthesis k) plain (bare (predefined k))
+
+-- by its meaning, and whether `(` directly follows: 01 "A defined name directly followed by `(` opens a call"
+unfoldable pub usedWith : Option Meaning → Bool → NameUse
+usedWith none follows = plain
+usedWith (some m) true = opening
+usedWith (some m) false = unopened m
+
+-- the name's that ends there in the text ahead
+unfoldable pub nameUse : Bytes → ℕ → State → NameUse
+nameUse name end s = usedWith (meaningOf name (s .table)) (eqb (getD (ahead (s .source)) end 0) 40)
+
+-- 01 "and that byte belongs to the same step"
+unfoldable pub named : NameUse → Bytes → ℕ → State → Outcome
+named plain name end s = next (delivered name (s .calls) (taking end s))
+named opening name end s = opened name (taking (suc end) s)
+named (bare m) name end s = called (some m) name [] (taking end s)
 
 -- 01 "The definition used is the one in force at closing"
 unfoldable pub closed : Call → List Call → State → Outcome
@@ -121,7 +139,7 @@ act (token.Quoted begins ends end) s =
     next (delivered (take (ends - begins) (drop begins (ahead (s .source)))) (s .calls) (taking end s))
 act (token.Name end) s =
     let name = take end (ahead (s .source)) in
-    named name end (meaningOf name (s .table)) s
+    named (nameUse name end s) name end s
 act (token.Byte x) s = singleByte x (s .calls) (taking 1 s)
 
 -- 01 "An unclosed quote or comment is refused"

@@ -1,10 +1,10 @@
 -- The definitions in force: those made by the text, in order of arrival, and the predefined names that keep their own meaning.
 use Prim.Native.Nat.{ℕ, zero, suc, _+_, _-_, _/_, _%_, _^_}
-use mathlib.Core.Bool.{Bool, true, false, cond}
+use mathlib.Core.Bool.{Bool, true, false, cond, _||_}
 use mathlib.Core.List.{List, [], _∷_, _++_}
 use mathlib.Core.Option.{Option, none, some}
 use lib.Dec.{eqb}
-use lib.ListN.{length, take, drop, set}
+use lib.ListN.{length, take, drop, getD, set}
 use Rattle.rules.specs.Bytes.{Bytes, bytesOf, sameBytes}
 
 -- 01 "These 24 macros are predefined": in its order they have the numbers 1 to 24
@@ -35,6 +35,38 @@ predefinedNames =
     ∷ bytesOf "undefine"
     ∷ bytesOf "undivert"
     ∷ []
+
+-- 02, request 2: those that "shall stand as plain text unless `(` directly follows". (include and sinclude join this list with
+-- request 1, copydef with request 7)
+unfoldable pub plainUnlessOpened : List Bytes
+plainUnlessOpened =
+    bytesOf "decr"
+    ∷ bytesOf "define"
+    ∷ bytesOf "defn"
+    ∷ bytesOf "errprint"
+    ∷ bytesOf "eval"
+    ∷ bytesOf "ifdef"
+    ∷ bytesOf "ifelse"
+    ∷ bytesOf "incr"
+    ∷ bytesOf "index"
+    ∷ bytesOf "len"
+    ∷ bytesOf "m4wrap"
+    ∷ bytesOf "popdef"
+    ∷ bytesOf "pushdef"
+    ∷ bytesOf "shift"
+    ∷ bytesOf "substr"
+    ∷ bytesOf "translit"
+    ∷ bytesOf "undefine"
+    ∷ []
+
+unfoldable pub among : Bytes → List Bytes → Bool
+among w [] = false
+among w (n ∷ ns) = sameBytes w n || among w ns
+
+-- the k-th predefined macro, from 1, is called only with a parenthesis: its name is on that list. "The other seven keep their bare call"
+unfoldable pub needsParenthesis : ℕ → Bool
+needsParenthesis zero = false
+needsParenthesis (suc i) = among (getD predefinedNames i []) plainUnlessOpened
 
 -- a definition's meaning. (The text makes texts only; that a definition may hold a predefined meaning is for document 02)
 pub data Meaning : Type 0 where

@@ -1,10 +1,10 @@
 -- `expander::events::name_event` meets its contract. Assumes nothing.
-use mathlib.Core.Path.{_≡_, ap}
+use mathlib.Core.Path.{_≡_, sym, ap, _∙_}
 use denote.Enum.Declared.{tagOf}
 use Rattle.expander.proofs.table.Meaning.{the-type}
 use Rattle.expander.specs.declared.table.Meaning.the-variants as looked
 use Rattle.expander.specs.Events.{PlainWithin, SpecialWithin, EventWithin}
-use Rattle.expander.proofs.EventLaws.{undefined-is, open-is, bare-is}
+use Rattle.expander.proofs.EventLaws.{within-as, is-as, undefined-is, open-is, unopened-is, bare-is}
 use Rattle.expander.proofs.StepLaws.{reach-open, not-third}
 use borrow.Author.Needs.{needs}
 use Rattle.expander.proofs.events.name_event.Statement.{statement}
@@ -20,15 +20,20 @@ meaning-ahead-requires c κs = search needs
 enum-told : tie.Need-enum-told
 enum-told c = search needs
 
+whole-requires : tie.Need-whole-requires
+whole-requires c κs = search needs
+
 same-length : tie.Need-same-length
 same-length c = search needs
 
 returns : tie.Need-returns
 unfolding EventWithin PlainWithin
 returns c =
-    let p = c .before .before .before .before in
-    let u = p .before .before .before .before .before .before .before in
-    (u .pre .1 .0, λ a s b r e. undefined-is s _ e (p .meaning-ahead .ensures a s b r) (c .enum-told .given .1))
+    let p = c .before .before .before .before .before in
+    let u = p .before .before .before .before .before .before .before in (
+      within-as (c .whole .ensures) _ _ _ (u .pre .1 .0),
+      λ a s b r e. is-as (c .whole .ensures) s (undefined-is s _ e (p .meaning-ahead .ensures a s b r) (c .before .enum-told .given .1)),
+    )
 
 opens-requires : tie.Need-opens-requires
 opens-requires c κs = search needs
@@ -47,17 +52,43 @@ returns-2 c =
       λ a s b r e. open-is s _ e (q .meaning-ahead .ensures a s b r) (defined (p .before)) (p .opens .ensures _ (r .source)) (c .if1 .taken),
     )
 
+plain-unopened-requires : tie.Need-plain-unopened-requires
+plain-unopened-requires c κs = search needs
+
+whole-requires-2 : tie.Need-whole-requires-2
+whole-requires-2 c κs = search needs
+
 same-length-3 : tie.Need-same-length-3
 same-length-3 c = search needs
 
 returns-3 : tie.Need-returns-3
-unfolding EventWithin SpecialWithin
+unfolding EventWithin PlainWithin
 returns-3 c =
-    let p = c .before in
+    let asked = c .before .before in
+    let p = asked .before .before in
+    let q = p .before .before .before .before in
+    let u = q .before .before .before .before .before .before .before in (
+      within-as (c .whole2 .ensures) _ _ _ (u .pre .1 .0),
+      λ a s b r e.
+          is-as (c .whole2 .ensures) s
+          (unopened-is s _ e (q .meaning-ahead .ensures a s b r) (defined (p .before)) (p .opens .ensures _ (r .source)) (asked .before .if1 .left)
+          (sym (asked .plain-unopened .ensures) ∙ c .before .if2 .taken)),
+    )
+
+same-length-4 : tie.Need-same-length-4
+same-length-4 c = search needs
+
+returns-4 : tie.Need-returns-4
+unfolding EventWithin SpecialWithin
+returns-4 c =
+    let asked = c .before in
+    let p = asked .before .before in
     let q = p .before .before .before .before in
     let u = q .before .before .before .before .before .before .before in (
       u .pre .1 .0,
-      λ a s b r e. bare-is s _ e (q .meaning-ahead .ensures a s b r) (defined (p .before)) (p .opens .ensures _ (r .source)) (c .if1 .left),
+      λ a s b r e.
+          bare-is s _ e (q .meaning-ahead .ensures a s b r) (defined (p .before)) (p .opens .ensures _ (r .source)) (asked .before .if1 .left)
+          (sym (asked .plain-unopened .ensures) ∙ c .if2 .left),
     )
 
 pub name-event-spec : {M : Type 1} → statement M
@@ -66,10 +97,15 @@ name-event-spec =
     (tie.spec
     meaning-ahead-requires
     enum-told
+    whole-requires
     same-length
     returns
     opens-requires
     same-length-2
     returns-2
+    plain-unopened-requires
+    whole-requires-2
     same-length-3
-    returns-3)
+    returns-3
+    same-length-4
+    returns-4)

@@ -2,7 +2,7 @@
 use mathlib.Core.Path.{refl, _∙_}
 use Rattle.expander.specs.Events.{PlainWithin, SpecialWithin, EventWithin}
 use Rattle.expander.specs.Machine.{textAt, pendingAt, stackAt, definitionsAt}
-use Rattle.expander.proofs.EventLaws.{end-is, comment-is, quoted-is, byte-ahead}
+use Rattle.expander.proofs.EventLaws.{within-as, is-as, end-is, comment-is, quoted-is, byte-ahead}
 use Rattle.expander.proofs.StepLaws.{lends, acts, end-place, reach-comment, reach-quoted, reach-name, quoted-order}
 use borrow.Author.Needs.{needs}
 use Rattle.expander.proofs.events.token_event.Statement.{statement}
@@ -14,11 +14,14 @@ enum-told c = search needs
 enum-known-token : tie.Need-enum-known-token
 enum-known-token c = search needs
 
+whole-requires : tie.Need-whole-requires
+whole-requires c κs = search needs
+
 enum-known-token-2 : tie.Need-enum-known-token-2
 enum-known-token-2 c = search needs
 
-sub-t18 : tie.Need-sub-t18
-sub-t18 c =
+sub-t17 : tie.Need-sub-t17
+sub-t17 c =
     let u = c .before .before .before .before .before .before .before .before .before in
     let a = u .args in
     quoted-order (a .text .now) (a .pending .now) (a .m .source) (c .before .token2 .given .1) (u .pre .1 .0)
@@ -50,9 +53,10 @@ returns c =
 returns-2 : tie.Need-returns-2
 unfolding EventWithin PlainWithin
 returns-2 c =
-    let u = c .before .before .before .before .before .before .before .before .before in
-    let q = c .before .token .given .1 in
-    (reach-comment q (u .pre .1 .0), λ a s b r e. comment-is s e q)
+    let p = c .before in
+    let u = p .before .before .before .before .before .before .before .before .before in
+    let q = p .before .token .given .1 in
+    (within-as (c .whole .ensures) _ _ _ (reach-comment q (u .pre .1 .0)), λ a s b r e. is-as (c .whole .ensures) s (comment-is s e q))
 
 returns-3 : tie.Need-returns-3
 unfolding EventWithin PlainWithin
@@ -85,8 +89,9 @@ token-event-spec =
     (tie.spec
     enum-told
     enum-known-token
+    whole-requires
     enum-known-token-2
-    sub-t18
+    sub-t17
     enum-known-token-3
     name-event-requires
     enum-known-token-4
