@@ -10,6 +10,17 @@ pub enum Meaning {
     Text(Vec<u8>),
 }
 
+impl Meaning {
+    /// Whether a name of this meaning is called only with `(` directly behind it. Request 2 of 02
+    /// speaks of predefined meanings alone: a text keeps its bare call.
+    pub fn needs_parenthesis(&self) -> bool {
+        match self {
+            Meaning::Predefined(which) => which.needs_parenthesis(),
+            Meaning::Text(_) => false,
+        }
+    }
+}
+
 /// All live definitions, for each name the newest last.
 #[derive(Debug)]
 pub struct Definitions {

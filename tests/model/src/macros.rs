@@ -98,6 +98,18 @@ impl Predefined {
         ];
         NAMES[self as usize]
     }
+
+    /// Whether a name of this meaning is called only with `(` directly behind it. 02, request 2:
+    /// these "shall stand as plain text unless `(` directly follows. The other seven keep their
+    /// bare call." Request 7: the "rule follows the meaning, not the name".
+    pub fn needs_parenthesis(self) -> bool {
+        match self {
+            Decr | Define | Defn | Errprint | Eval | Ifdef | Ifelse | Incr | Index | Len
+            | M4wrap | Popdef | Pushdef | Shift | Substr | Translit | Undefine => true,
+            // include and sinclude (request 1) and copydef (request 7) join the arm above.
+            Changecom | Changequote | Divert | Divnum | Dnl | M4exit | Undivert => false,
+        }
+    }
 }
 
 /// What a predefined macro gives.
@@ -315,6 +327,25 @@ mod tests {
             .map(|&which| which as usize)
             .collect();
         assert_eq!(places, (0..24).collect::<Vec<usize>>());
+    }
+
+    #[test]
+    fn seven_keep_their_bare_call() {
+        let bare: Vec<&str> = Predefined::ALL
+            .iter()
+            .filter(|which| !which.needs_parenthesis())
+            .map(|which| which.name())
+            .collect();
+        let seven = [
+            "changecom",
+            "changequote",
+            "divert",
+            "divnum",
+            "dnl",
+            "m4exit",
+            "undivert",
+        ];
+        assert_eq!(bare, seven);
     }
 
     fn arguments(list: &[&str]) -> Vec<Vec<u8>> {

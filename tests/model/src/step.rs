@@ -57,15 +57,20 @@ fn place_text(state: &mut State, bytes: &[u8]) -> Progress {
 }
 
 /// "A defined name directly followed by `(` opens a call, and that byte belongs to the same step.
-/// Otherwise it is called at once without arguments".
+/// Otherwise it is called at once without arguments"; but 02, request 2: some predefined meanings
+/// "shall stand as plain text unless `(` directly follows", and then a name of such a meaning is a
+/// token for itself, delivered or collected like a name without a definition.
 fn take_name(state: &mut State, name: Vec<u8>) -> Result<Progress, Refusal> {
-    if state.definitions.newest(&name).is_none() {
+    let Some(meaning) = state.definitions.newest(&name) else {
         return Ok(place_text(state, &name));
-    }
+    };
     if state.ahead.byte(0) == Some(b'(') {
         state.ahead.take(1);
         state.calls.open(name)?;
         return Ok(Progress::Going);
+    }
+    if meaning.needs_parenthesis() {
+        return Ok(place_text(state, &name));
     }
     call(state, &name, &[])
 }

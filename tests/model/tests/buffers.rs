@@ -82,11 +82,27 @@ fn calls_of_completed_steps_are_counted() {
         &Setting::ample(),
     );
     let calls = |which: Predefined| trace.calls[which as usize];
-    assert_eq!(calls(Predefined::Len), 3);
+    assert_eq!(calls(Predefined::Len), 2);
     assert_eq!(calls(Predefined::Divnum), 1);
     assert_eq!(calls(Predefined::Define), 1);
     assert_eq!(calls(Predefined::Incr), 0);
-    assert_eq!(trace.calls.iter().sum::<u64>(), 5);
+    assert_eq!(trace.calls.iter().sum::<u64>(), 4);
+}
+
+/// Neither a plain word nor a name that a text covers is a call of a predefined macro.
+#[test]
+fn plain_words_are_no_calls() {
+    let (report, trace) = expand_traced(
+        b"len eval(1) incr pushdef(len,`x')len len(b);len( divnum eval);popdef(`len')len",
+        &Setting::ample(),
+    );
+    assert_eq!(report.output, b"len 1 incr x x;x;len");
+    let calls = |which: Predefined| trace.calls[which as usize];
+    assert_eq!(calls(Predefined::Eval), 1);
+    assert_eq!(calls(Predefined::Pushdef), 1);
+    assert_eq!(calls(Predefined::Divnum), 1);
+    assert_eq!(calls(Predefined::Popdef), 1);
+    assert_eq!(trace.calls.iter().sum::<u64>(), 4);
 }
 
 #[test]
