@@ -1,5 +1,5 @@
 //! `vectors FILE` runs every line of a table of cases through the model and prints each
-//! disagreement in full.
+//! disagreement in full, with the number of its line: items have several.
 
 use model::table::{hex, read, Row};
 use model::{expand, Report};
@@ -30,7 +30,7 @@ fn run_table(table: &str) -> (usize, usize) {
             continue;
         }
         match read(line) {
-            Ok(row) if agrees(&row) => passed += 1,
+            Ok(row) if agrees(&row, i + 1) => passed += 1,
             Ok(_) => failed += 1,
             Err(error) => {
                 println!("line {}: {error}", i + 1);
@@ -45,11 +45,11 @@ fn run_table(table: &str) -> (usize, usize) {
     (passed, failed)
 }
 
-fn agrees(row: &Row) -> bool {
+fn agrees(row: &Row, line: usize) -> bool {
     let got = expand(&row.text, &row.setting);
     let same = got == row.expected;
     if !same {
-        println!("{}: text {}", row.item, hex(&row.text));
+        println!("line {line}: {}: text {}", row.item, hex(&row.text));
         println!(
             "  lengths {:?}, budget {}",
             row.setting.lengths, row.setting.budget
