@@ -1,8 +1,9 @@
 //! Random texts with settings, from a seed. They are made to reach every macro and every answer of
-//! 01.
+//! 01, and every way of a plain word of 02.
 
 mod expressions;
 mod templates;
+mod words;
 mod writer;
 
 use crate::answer::Setting;

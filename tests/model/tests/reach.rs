@@ -1,10 +1,13 @@
-//! The generator reaches every answer, every detail of 4 and 5 and every macro, and the third
-//! demand holds on random pairs.
+//! The generator reaches every answer, every detail of 4 and 5, every macro and every way of request
+//! 2, and the third demand holds on random pairs.
+
+mod ways;
 
 use model::demand3::{pair, try_pair};
 use model::generate::case;
 use model::random::Random;
 use model::{expand, expand_traced, Setting};
+use ways::{Ways, WORDS};
 
 #[test]
 fn everything_is_reached() {
@@ -26,6 +29,31 @@ fn everything_is_reached() {
     assert!(room[1..].iter().all(|&count| count > 0), "{room:?}");
     assert!(unclosed[1..].iter().all(|&count| count > 0), "{unclosed:?}");
     assert!(calls.iter().all(|&count| count > 0), "{calls:?}");
+}
+
+/// 02, request 2: each word as plain text, outside calls and inside, parted from a parenthesis, with
+/// its parenthesis across the border, covered by a text and uncovered.
+#[test]
+fn every_way_of_a_plain_word_is_reached() {
+    let mut random = Random::new(1);
+    let mut ways = Ways::default();
+    for _ in 0..4_000 {
+        let case = case(&mut random);
+        let steps = expand(&case.text, &case.setting).steps;
+        ways.watch(&case.text, steps);
+    }
+    let reached = |counts: &[u64]| counts.iter().all(|&count| count > 0);
+    assert!(reached(&ways.delivered), "{ways:?}");
+    assert!(reached(&ways.collected), "{ways:?}");
+    assert!(reached(&ways.parted), "{ways:?}");
+    assert!(reached(&ways.opened_over_the_border), "{ways:?}");
+    assert!(reached(&ways.covered), "{ways:?}");
+    // A text that covers popdef stays: no other macro uncovers.
+    let can_be_uncovered: Vec<u64> = (0..WORDS.len())
+        .filter(|&word| WORDS[word] != "popdef")
+        .map(|word| ways.uncovered[word])
+        .collect();
+    assert!(reached(&can_be_uncovered), "{ways:?}");
 }
 
 #[test]

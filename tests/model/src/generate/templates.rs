@@ -2,11 +2,12 @@
 //! text, loops.
 
 use super::expressions::expression;
+use super::words::{plain_name, sentences};
 use crate::random::Random;
 
 /// A text with a purpose, written with the default quote marks.
 pub fn template(random: &mut Random) -> Vec<u8> {
-    match random.below(40) {
+    match random.below(48) {
         0..=3 => border(random),
         4..=8 => marks(random),
         9..=10 => limit(random),
@@ -21,6 +22,7 @@ pub fn template(random: &mut Random) -> Vec<u8> {
         31..=32 => stacks(random),
         33..=35 => strings(random),
         36..=37 => parameters(random),
+        38..=45 => sentences(random),
         _ => refused(random),
     }
 }
@@ -145,13 +147,16 @@ fn unclosed(random: &mut Random) -> Vec<u8> {
         "len(#",
         "len(`",
         "f(a)#",
+        "len(eval",
+        "define(define ",
     ]);
     format!("{}{open}{}", word(random), random.pick(&["", "a", " b"])).into_bytes()
 }
 
 /// Definitions that go away or change while a call is open.
 fn gone(random: &mut Random) -> Vec<u8> {
-    let name = random.pick(&["len", "f", "index"]);
+    let plain = plain_name(random);
+    let name = random.pick(&["len", "f", plain]);
     let drop = random.pick(&["undefine", "popdef", "undefine", "define", "pushdef"]);
     let text = match random.below(4) {
         0 => "define(`N',`x')N(popdef(`N'))",
@@ -341,7 +346,8 @@ fn refused(random: &mut Random) -> Vec<u8> {
 
 /// Definitions of one name upon each other.
 fn stacks(random: &mut Random) -> Vec<u8> {
-    let name = random.pick(&["f", "len", "f"]);
+    let plain = plain_name(random);
+    let name = random.pick(&["f", "len", "f", plain]);
     let mut text = String::new();
     for i in 0..random.between(3, 7) {
         text.push_str(&match random.below(10) {

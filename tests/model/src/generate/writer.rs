@@ -3,6 +3,7 @@
 
 use super::expressions::expression;
 use super::templates::template;
+use super::words::{plain_name, sentence};
 use crate::macros::Predefined;
 use crate::random::Random;
 
@@ -97,7 +98,8 @@ impl<'r> Writer<'r> {
             return self.word();
         }
         match self.random.below(100) {
-            0..=13 => self.parted_word(),
+            0..=10 => self.parted_word(),
+            11..=13 => self.plain_word(),
             14..=19 => self
                 .random
                 .pick(&[" ", "\n", "\t", "  ", " \n"])
@@ -108,6 +110,9 @@ impl<'r> Writer<'r> {
             34..=37 => self.comment(),
             38..=49 => self.definition(depth),
             50..=64 => self.user_call(depth),
+            65..=68 if depth == 0 && self.has_default_quotes() => {
+                sentence(self.random).into_bytes()
+            }
             _ => self.predefined_call(depth),
         }
     }
@@ -133,6 +138,22 @@ impl<'r> Writer<'r> {
         [self.word(), behind].concat()
     }
 
+    /// A predefined name without `(` directly behind it; one may stand behind what comes between.
+    fn plain_word(&mut self) -> Vec<u8> {
+        let between = match self.random.below(8) {
+            0..=2 => self
+                .random
+                .pick(&[" ", "\n", "\t", "  "])
+                .as_bytes()
+                .to_vec(),
+            3..=4 => self.quoted(b""),
+            5 => self.comment(),
+            _ => b";".to_vec(),
+        };
+        let behind: &[u8] = self.random.pick(&[b"", b"", b"(a)", b"(1,b)"]);
+        [plain_name(self.random).as_bytes(), &between, behind].concat()
+    }
+
     fn name(&mut self) -> &'static str {
         let predefined = self.random.pick(&Predefined::ALL).name();
         match self.random.below(100) {
@@ -140,6 +161,10 @@ impl<'r> Writer<'r> {
             60..=63 => predefined,
             _ => self.random.pick(&NAMES),
         }
+    }
+
+    fn has_default_quotes(&self) -> bool {
+        self.begin_quote == b"`" && self.end_quote == b"'"
     }
 
     fn quoted(&mut self, inside: &[u8]) -> Vec<u8> {
@@ -167,10 +192,11 @@ impl<'r> Writer<'r> {
 
     /// An argument of any kind.
     fn argument(&mut self, depth: usize) -> Vec<u8> {
-        match self.random.below(10) {
-            0..=3 => self.quoted_pieces(depth),
-            4..=6 => self.word(),
-            7..=8 => self.piece(depth + 1),
+        match self.random.below(20) {
+            0..=7 => self.quoted_pieces(depth),
+            8..=12 => self.word(),
+            13 => self.plain_word(),
+            14..=17 => self.piece(depth + 1),
             _ => self.pieces(depth + 1),
         }
     }
@@ -180,7 +206,7 @@ impl<'r> Writer<'r> {
         (0..count).map(|_| self.argument(depth)).collect()
     }
 
-    /// A call in parentheses, or bare if there are no arguments.
+    /// A call in parentheses, or the bare name if there are no arguments.
     fn call(&mut self, name: &str, arguments: &[Vec<u8>]) -> Vec<u8> {
         if arguments.is_empty() {
             return self.bare(name);
@@ -199,7 +225,7 @@ impl<'r> Writer<'r> {
         text
     }
 
-    /// A bare call, mostly with something behind it that ends the name.
+    /// A bare name, mostly with something behind it that ends the name.
     fn bare(&mut self, name: &str) -> Vec<u8> {
         let behind = match self.random.below(10) {
             0..=6 => self.quoted(b""),
@@ -249,13 +275,22 @@ impl<'r> Writer<'r> {
                 _ => body.extend(self.piece(depth + 1)),
             }
         }
+        if self.random.chance(8) {
+            body.extend(plain_name(self.random).as_bytes());
+        }
         body
     }
 
+    /// A call of a name that the text may have defined. A parenthesis behind it may open a call of
+    /// the name that its result ends with.
     fn user_call(&mut self, depth: usize) -> Vec<u8> {
         let name = self.name();
         let arguments = self.arguments(0, 4, depth);
-        self.call(name, &arguments)
+        let mut text = self.call(name, &arguments);
+        if !arguments.is_empty() && self.random.chance(8) {
+            text.extend(b"(a)");
+        }
+        text
     }
 
     fn number(&mut self, least: i64, most: i64) -> Vec<u8> {
