@@ -1,6 +1,6 @@
--- The worked texts that 01 marks P, and the traps, come out as they should: each list by one computed statement.
+-- The worked texts that 01 marks P, the traps, and texts of 02's requests come out as they should: each list by one computed statement.
 use mathlib.Core.Path.{_≡_, refl}
-use Rattle.rules.specs.Cases.{firstWrong, workedCases, trapCases}
+use Rattle.rules.specs.Cases.{firstWrong, workedCases, trapCases, wordCases}
 use Rattle.rules.proofs.Book.{book}
 
 -- no P case is wrong
@@ -11,3 +11,7 @@ worked-cases-hold = refl
 pub trap-cases-hold : firstWrong 1 trapCases ≡ 0
 unfolding book
 trap-cases-hold = refl
+
+pub word-cases-hold : firstWrong 1 wordCases ≡ 0
+unfolding book
+word-cases-hold = refl

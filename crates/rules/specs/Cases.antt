@@ -1,4 +1,4 @@
--- The worked texts that 01 marks P, every one and no other text, and the four traps of the old box, as cases that are computed.
+-- The worked texts that 01 marks P, every one and no other text, the four traps of the old box, and texts of 02's requests, as cases that are computed.
 use Prim.Native.Nat.{ℕ, suc}
 use Prim.Native.String.{String}
 use mathlib.Core.Bool.{Bool, true, false, _&&_}
@@ -118,4 +118,15 @@ trapCases =
     ∷ case "define(`a',`b')undefine(`a')define(`c',`d')" (lending 0 9 2 0) (answers 0 0 14 43 "")
     ∷ case "define(`p',`a')define(`ab',`X')p()b" ample (answers 0 0 15 35 "X")
     ∷ case "changequote(`|',`|')|a|" ample (answers 0 0 7 23 "a")
+    ∷ []
+
+-- 02, request 2: its own text; a parenthesis behind a blank, and one that comes from the input behind pending text; the meaning counts
+-- and not the name; one of the other seven
+unfoldable pub wordCases : List Case
+wordCases =
+    case "the len of the boom" ample (answers 0 0 10 19 "the len of the boom")
+    ∷ case "len (a)" ample (answers 0 0 6 7 "len (a)")
+    ∷ case "define(`p',`len')p()(a)" ample (answers 0 0 12 23 "1")
+    ∷ case "define(`len',`x')len" ample (answers 0 0 8 20 "x")
+    ∷ case "divnum" ample (answers 0 0 3 6 "0")
     ∷ []
