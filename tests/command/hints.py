@@ -6,8 +6,10 @@ import time
 from common import CRATE, ROOT, check, get, put, run, run_shell
 from several import written
 
-GAP = "there is a blank between `%s` and `(`; without the blank it is a call with arguments"
+GAP = "there is a blank between `%s` and `(`, so it is plain text; without the blank it is a call"
 NEWLINE = GAP.replace("blank", "newline")
+CALLED = "there is a blank between `%s` and `(`, so it is called without arguments; without the blank it gets them"
+PLAIN = "`%s` without `(` is plain text and is in an argument of `%s`, which takes whole numbers only"
 BARE = "`%s` is predefined and called here without arguments; quote it if it is a plain word"
 POINT = "%s has a point and is in an argument of `%s`, which takes whole numbers only"
 NAMED = "`%s` is defined as %s and is in an argument of `%s`, which takes whole numbers only"
@@ -26,16 +28,23 @@ sysval traceoff traceon
 
 # Texts that are refused: the texts of 1.m4, 2.m4 and so on, the answer's number, the hints.
 REFUSED = {
-    "a blank before the parenthesis": (["a\n define (`n', 5)\n"], 6, ["1.m4:2:2: " + GAP % "define"]),
-    "a tab and blanks": (["eval \t (1 + 2)"], 8, ["1.m4:1:1: " + GAP % "eval"]),
-    "a newline": (["pushdef\n(`n', 5)\n"], 6, ["1.m4:1:1: " + NEWLINE % "pushdef"]),
-    "a blank behind a macro of the text": (["define(`next', `incr($1)')dnl\ngain=next (4)\n"], 7, ["1.m4:2:6: " + GAP % "next"]),
-    "a blank in text that is read later": (["define(`twice', `eval (2 * $1)')\n\ntwice(4)\n"], 8, ["1.m4:1:18: " + GAP % "eval"]),
+    "a definition that is none, for a blank": (["a\n define (`n', 5)\neval(n + 1)\n"], 8, ["1.m4:2:2: " + GAP % "define"]),
+    "for a newline": (["pushdef\n(`n', 5)\nincr(n)\n"], 7, ["1.m4:1:1: " + NEWLINE % "pushdef"]),
+    "a definition that is not replaced": (["define(`n', 0)define (`n', 5)eval(10 / n)"], 9, ["1.m4:1:15: " + GAP % "define"]),
+    "a mark that is not defined": (["define (`open', `[')changequote(open, `]')"], 10, ["1.m4:1:1: " + GAP % "define"]),
+    "a tab and blanks": (["incr(eval \t (1 + 2))"], 7, ["1.m4:1:6: " + GAP % "eval"]),
+    "a blank behind a macro of the text": (["define(`next', `incr($1)')dnl\ngain=next (4)\n"], 7, ["1.m4:2:6: " + CALLED % "next"]),
+    "a blank in text that is read later": (["define(`twice', `eval(2 * len ($1))')\n\ntwice(abc)\n"], 8, ["1.m4:1:27: " + GAP % "len"]),
     "a blank in eval": (["eval(len (`abc') + 1)"], 8, ["1.m4:1:6: " + GAP % "len"]),
-    "a divisor that is 0 for a blank": (["eval(10 / len)"], 9, ["1.m4:1:11: " + BARE % "len"]),
+    "a word or a call, in eval": (["eval(len (boom) + 1)"], 8, ["1.m4:1:6: " + GAP % "len"]),
+    "a blank in another argument": (["undivert(substr (`12', 0, 1))"], 7, ["1.m4:1:10: " + GAP % "substr"]),
+    "a name without a call in eval": (["eval(10 / len)"], 8, ["1.m4:1:11: " + PLAIN % ("len", "eval")]),
+    "in incr, in text that is read later": (["define(`f', `incr(`index')')f"], 7, ["1.m4:1:20: " + PLAIN % ("index", "incr")]),
     "a choice that is none": (["define(`f', `ifelse ($1, 0, , f(decr($1)))')f(3)"], 4, ["1.m4:1:14: " + GAP % "ifelse"]),
-    "marks that are not set": (["changequote ([, ])define([n], 5)"], 6, ["1.m4:1:1: " + GAP % "changequote"]),
-    "a bare name": (["the eval of it"], 8, ["1.m4:1:5: " + BARE % "eval"]),
+    "a count that stands still": (["define(`f', `ifelse($1, 3, `', `f (incr($1))')')f(1)"], 4, ["1.m4:1:33: " + CALLED % "f"]),
+    "marks that are not set": (["changequote ([, ])define([n], 5)"], 6, ["1.m4:1:1: " + CALLED % "changequote"]),
+    "comments that are off": (["now changecom here\n# it is `calm\n"], 5, ["1.m4:1:5: " + BARE % "changecom"]),
+    "a call between two words of an argument": (["incr(we divert the 4)"], 7, ["1.m4:1:9: " + BARE % "divert"]),
     "a number with a point": (["x\nheight=eval(18.4 / 2)\n"], 8, ["1.m4:2:13: " + POINT % ("18.4", "eval")]),
     "in incr": (["incr(0.5)"], 7, ["1.m4:1:6: " + POINT % ("0.5", "incr")]),
     "in parentheses, in text that is read later": (["define(`h', `eval((1.5 + $1) * 2)')h(1)"], 8, ["1.m4:1:20: " + POINT % ("1.5", "eval")]),
@@ -43,7 +52,7 @@ REFUSED = {
     "given to a macro": (["define(`ring', `eval($1 / 2)')\nring(33.5)\n"], 8, ["1.m4:2:6: " + GIVEN % ("33.5", "ring", "eval")]),
     "given to a macro, quoted": (["define(`ring', `eval($1 / 2)')\nring(`33.5')\n"], 8, ["1.m4:2:7: " + GIVEN % ("33.5", "ring", "eval")]),
     "given to a macro that counts": (["define(`next', `incr($1)')next(0, 1.5) next(1.5)"], 7, ["1.m4:1:45: " + GIVEN % ("1.5", "next", "incr")]),
-    "in text that is thrown away": (["divert(-1)\nthe len\ndefine (`n')\ndivert(0)"], 6, ["1.m4:3:1: " + GAP % "define"]),
+    "in text that is thrown away": (["divert(-1)\nthe len\ndefine (`n', 5)\ndivert(0)eval(n)"], 8, ["1.m4:3:1: " + GAP % "define"]),
     "CR in an argument": (["guys=eval(3\r\n)\r\n"], 8, ["1.m4:1:12: " + RETURN]),
     "CR, the nearest": (["a\r\nincr(1\r\n)\r\n"], 7, ["1.m4:2:7: " + RETURN]),
     "CR in text that is read later": (["define(`f', `eval($1\r\n+ 1)')\r\nf(2)\r\n"], 8, ["1.m4:1:21: " + RETURN]),
@@ -56,18 +65,18 @@ REFUSED = {
     "an include before": (["include(`common.m4')dnl\neval(height + 1)\n"], 8, ["1.m4:1:1: " + FOREIGN % "include"]),
     "a byte-order mark in an argument": (["incr(", "\ufeff1)"], 7, ["2.m4:1:1: " + MARK]),
     "a byte-order mark outside calls": (["a\n", "\ufeffeval(08)"], 8, []),
-    "in the second file": (["a\nb\n", "c\nd define (`n')\n", "e\n"], 6, ["2.m4:2:3: " + GAP % "define"]),
+    "in the second file": (["a\nb\n", "c\nd define (`n', 5)\n", "e eval(n)\n"], 8, ["2.m4:2:3: " + GAP % "define"]),
     "in the first, refused in the second": (["a\ndefine(`h', `eval(1.5)')\n", "\nh\n"], 8, ["1.m4:2:19: " + POINT % ("1.5", "eval")]),
-    "in the second's first line, behind a line that goes on": (["a ", "", "define (`n')"], 6, ["3.m4:1:1: " + GAP % "define"]),
+    "in the second's first line, behind a line that goes on": (["a ", "", "define (`n', 5)eval(n)"], 8, ["3.m4:1:1: " + GAP % "define"]),
     "three at most, the nearest first": (
         ["eval(1.5 + 2.5 + 3.5 + 4.5)"], 8,
         ["1.m4:1:24: " + POINT % ("4.5", "eval"), "1.m4:1:18: " + POINT % ("3.5", "eval"), "1.m4:1:12: " + POINT % ("2.5", "eval")],
     ),
     "a better one before a nearer one": (
         ["eval(1.5 + len (`a') + \r\n2)"], 8,
-        ["1.m4:1:6: " + POINT % ("1.5", "eval"), "1.m4:1:24: " + RETURN, "1.m4:1:12: " + GAP % "len"],
+        ["1.m4:1:12: " + GAP % "len", "1.m4:1:6: " + POINT % ("1.5", "eval"), "1.m4:1:24: " + RETURN],
     ),
-    "a long name": (["define(`%s', `incr($1)')%s (1)" % ("n" * 50, "n" * 50)], 7, ["1.m4:1:73: " + GAP % ("n" * 40 + "...")]),
+    "a long name": (["define(`%s', `incr($1)')%s (1)" % ("n" * 50, "n" * 50)], 7, ["1.m4:1:73: " + CALLED % ("n" * 40 + "...")]),
 }
 
 # Texts that are refused for another reason than what they have: the text, the answer's number.
@@ -77,6 +86,13 @@ UNFITTING = [
     ("# define (`n')\neval(08)", 8),
     ("dnl eval(1.5)\neval(08)", 8),
     ("the len of it eval(08)", 8),
+    ("the index (see below) eval(08)", 8),
+    ("len (`a') eval(08)", 8),
+    ("divert (1) eval(08)", 8),
+    ("we divert the cable eval(08)", 8),
+    ("`define (`n', 5)' eval(08)", 8),
+    ("eval(len(index) + 08)", 8),
+    ("define(`f', `the len of it')eval(08)", 8),
     ("define(`f', `eval($1)')f(2) errprint(1.5) eval(08)", 8),
     ("define(`f', `len(`$1')eval(1)')f(1.5) eval(08)", 8),
     ("a\r\nb\r\neval(08)\r\n", 8),
@@ -101,20 +117,28 @@ UNFITTING = [
 # Texts that expand: the texts of the templates, the sheet, the warnings.
 WARNED = {
     "nothing": (["gain=1\n"], "gain=1\n", []),
-    "bare names": (
-        ["the len of the boom, index and shift\n"], "the 0 of the boom, 0 and \n",
-        ["1.m4:1:5: " + BARE % "len", "1.m4:1:22: " + BARE % "index", "1.m4:1:32: " + BARE % "shift"],
-    ),
     "a word that is lost": (["we divert the cable\n"], "we  the cable\n", ["1.m4:1:4: " + BARE % "divert"]),
-    "a blank": (["len (`a')\n"], "0 (a)\n", ["1.m4:1:1: " + GAP % "len"]),
-    "a blank behind what may have no arguments": (["divert (1)a\n"], " (1)a\n", ["1.m4:1:1: " + GAP % "divert"]),
-    "what is not thrown away any more": (
-        ["divert(-1)the len divert(1)the len\ndivert(-1)divert(0)a len\n"], "a 0\nthe 0\n",
-        ["1.m4:1:32: " + BARE % "len", "1.m4:2:22: " + BARE % "len"],
+    "a word that ends the run": (["use m4exit to end\n"], "use ", ["1.m4:1:5: " + BARE % "m4exit"]),
+    "a word that ends comments": (["we changecom here # len (`a')\n"], "we  here # len (a)\n", ["1.m4:1:4: " + BARE % "changecom"]),
+    "a word that does nothing": (["to changequote and back\n"], "to  and back\n", ["1.m4:1:4: " + BARE % "changequote"]),
+    "a word that loses a stream": (["divert(1)a divert(-1)do undivert it\ndivert(0)b\n"], "b\n", ["1.m4:1:25: " + BARE % "undivert"]),
+    "a blank": (["len (`a')\n"], "len (a)\n", ["1.m4:1:1: " + GAP % "len"]),
+    "a newline": (["define\n(`n', 5)n\n"], "define\n(n, 5)n\n", ["1.m4:1:1: " + NEWLINE % "define"]),
+    "a blank that the words around don't explain": (
+        ["a=len (boom)\nthe shift (`a', b)\nwe define (gain, 5)\nan index (\n$1)\nthe len (len(`a'))\n"], "a=len (boom)\nthe shift (a, b)\nwe define (gain, 5)\nan index (\n$1)\nthe len (1)\n",
+        ["1.m4:1:3: " + GAP % "len", "1.m4:2:5: " + GAP % "shift", "1.m4:3:4: " + GAP % "define", "1.m4:4:4: " + GAP % "index", "1.m4:6:5: " + GAP % "len"],
     ),
-    "calls in what is thrown away": (["divert(-1)the len undefine (`a') len(index)divert"], "", ["1.m4:1:19: " + GAP % "undefine", "1.m4:1:38: " + BARE % "index"]),
-    "behind a quoted number sign": (["define(`f', `guy#')len (b)\n"], "0 (b)\n", ["1.m4:1:20: " + GAP % "len"]),
-    "behind the count of arguments": (["define(`f', `$# len (b)')f\n"], "0 0 (b)\n", ["1.m4:1:17: " + GAP % "len"]),
+    "a blank behind a name that is no word": (["the eval (see below)\n"], "the eval (see below)\n", ["1.m4:1:5: " + GAP % "eval"]),
+    "a blank behind what may have no arguments": (["divert (1)a\n"], " (1)a\n", ["1.m4:1:1: " + CALLED % "divert"]),
+    "a blank behind a text over a predefined name": (["pushdef(`len', `<$1>')len (`a')\n"], "<> (a)\n", ["1.m4:1:23: " + CALLED % "len"]),
+    "what is not thrown away any more": (
+        ["divert(-1)“a” divert(1)“b”\ndivert(-1)divert(0)c “d”\n"], "c “d”\n“b”\n",
+        ["1.m4:1:28: " + ALIKE % ("“", "201C"), "1.m4:1:32: " + ALIKE % ("”", "201D"), "1.m4:2:22: " + ALIKE % ("“", "201C"), "1.m4:2:26: " + ALIKE % ("”", "201D")],
+    ),
+    "a blank in what is thrown away": (["divert(-1)the len undefine (`a') len(index)divert"], "", ["1.m4:1:19: " + GAP % "undefine"]),
+    "behind a quoted number sign": (["define(`f', `guy#')len (`b')\n"], "len (b)\n", ["1.m4:1:20: " + GAP % "len"]),
+    "behind the count of arguments": (["define(`f', `$# eval (b)')f\n"], "0 eval (b)\n", ["1.m4:1:17: " + GAP % "eval"]),
+    "a name in eval that is not read": (["ifelse(1, 2, `eval(len)')a"], "a", ["1.m4:1:20: " + PLAIN % ("len", "eval")]),
     "a number that is not read": (["ifelse(1, 2, `eval(1.5)')a"], "a", ["1.m4:1:20: " + POINT % ("1.5", "eval")]),
     "CR": (["a\r\n# b\r\nc\r\nd dnl e\r\nf\r\n"], "a\r\n# b\r\nc\r\nd f\r\n", ["1.m4:1:2: " + RETURNS % ", and so do 2 more"]),
     "CR, twice": (["a\r\nb\r\n"], "a\r\nb\r\n", ["1.m4:1:2: " + RETURNS % ", and so does 1 more"]),
@@ -129,6 +153,12 @@ WARNED = {
 
 # Texts that expand and have nothing to tell of, with the sheet if it is another text.
 SILENT = [
+    ("the len of the boom, index and shift, ifelse`' eval\n", "the len of the boom, index and shift, ifelse eval\n"),
+    ("the index (see below), the len (840 cm), a shift (night) to\ndefine (or so, as you like)\n", None),
+    ("an index of (`a')\nlen\n\n(the end)\n", "an index of (a)\nlen\n\n(the end)\n"),
+    ("pushdef(`len', `x')len popdef(`len')len", "x len"),
+    ("len(define) define(`f', `<$1>')f(index)", "6 <index>"),
+    ("the divnum of it", "the 0 of it"),
     ("# the len of (a), define (b), “c”, eval(1.5)\n", None),
     ("a dnl the len of (a), define (b), “c”\r\n", "a "),
     ("`the len of define (b), “c”, format(d)'", "the len of define (b), “c”, format(d)"),
@@ -145,7 +175,7 @@ SILENT = [
     ("define(`note', `the ‘big’ boom')note", "the ‘big’ boom"),
     ("the format of a (b), Len (c), lens (d)", None),
     ("changequote([, ])[the len (a) “b”]", "the len (a) “b”"),
-    ("changecom # len`' ‘a’\n", " # 0 ‘a’\n"),
+    ("changecom # len`' ‘a’\n", " # len ‘a’\n"),
     ("a\rb\n", None),
     ("divert(-1)\r\nThe len of “it” is the index.\ndivert`'the boom", "the boom"),
     ("divert(-1)the len divert(0)the boom", "the boom"),
@@ -153,7 +183,7 @@ SILENT = [
     ("a divert dnl b\nc", "a  c"),
     ("define(`f', `eval(1) $1')f(1.5)", "1 1.5"),
     ("define(`f', ``$0'')f (a)", "f (a)"),
-    ("define(`f', `the len of it')f", "the 0 of it"),
+    ("define(`f', `the len of it')f", "the len of it"),
     ("define(`open', `(')`len (a)'", "len (a)"),
     ("define(`h', `2')eval(h)define(`h', `1.5')h", "21.5"),
 ]
@@ -175,10 +205,10 @@ def refused(folder):
     for text, answer in UNFITTING:
         status, _, err = run(["--budget", "1000"], text.encode())
         check("no hint: %r" % text, (status, hints(err)), (64 + answer, []))
-    _, _, err = run([], b"x" * 65530 + b"define (")
+    _, _, err = run([], b"x" * 65530 + b"incr(len)")
     check("no hint in a text that is too long", b"Hint" in err, False)
-    _, _, err = run([], b"define (")
-    check("standard input has its name", hints(err), ["standard input:1:1: " + GAP % "define"])
+    _, _, err = run([], b"incr(len)")
+    check("standard input has its name", hints(err), ["standard input:1:6: " + PLAIN % ("len", "incr")])
 
 
 def lines(said):
@@ -200,21 +230,21 @@ def warned(folder):
 
 def beside(folder):
     """--warn beside the other things that go to standard error, files and the exit status."""
-    text, said = b"the len`'errprint(`e')`'m4exit(7)", lines(["standard input:1:5: " + BARE % "len"])
-    check("before the error text, with the exit status", run(["--warn"], text), (7, b"the 0", said + b"e"))
+    text, said = b"eval (1)errprint(`e')`'m4exit(7)", lines(["standard input:1:1: " + GAP % "eval"])
+    check("before the error text, with the exit status", run(["--warn"], text), (7, b"eval (1)", said + b"e"))
     check("nothing of error text", run(["--warn"], b"errprint(`define (a)')"), (0, b"", b"define (a)"))
     sheet, numbers = os.path.join(folder, "sheet"), os.path.join(folder, "numbers")
     check("with -o and --report", run(["--warn", "-o", sheet, "--report", numbers], text), (7, b"", said + b"e"))
-    check("the sheet and the report", (get(sheet), get(numbers)), (b"the 0", b"1 7 12 33 5 1\n"))
-    status, out, err = run(["--warn"], b"the len eval(1.5)")
-    both = lines(["standard input:1:5: " + BARE % "len", "standard input:1:14: " + POINT % ("1.5", "eval")])
-    check("before a refusal's message", (status, out, err.startswith(both + b"quenhovach: standard input:1:17: refused: ")), (72, b"", True))
-    check("whose hints fit it", hints(err[len(both):]), ["standard input:1:14: " + POINT % ("1.5", "eval")])
+    check("the sheet and the report", (get(sheet), get(numbers)), (b"eval (1)", b"1 7 12 32 8 1\n"))
+    status, out, err = run(["--warn"], b"eval (1) eval(1.5)")
+    both = lines(["standard input:1:1: " + GAP % "eval", "standard input:1:15: " + POINT % ("1.5", "eval")])
+    check("before a refusal's message", (status, out, err.startswith(both + b"quenhovach: standard input:1:18: refused: ")), (72, b"", True))
+    check("whose hints fit it", hints(err[len(both):]), ["standard input:1:15: " + POINT % ("1.5", "eval")])
     put(sheet, b"old")
     for closed in ("2>&-", "2>/dev/full"):
-        check("a warning that can't be written: " + closed, (run_shell(closed, b"the len`'m4exit(7)", ["--warn", "-o", sheet]), get(sheet)), ((7, b"", b""), b"the 0"))
+        check("a warning that can't be written: " + closed, (run_shell(closed, b"eval (1)m4exit(7)", ["--warn", "-o", sheet]), get(sheet)), ((7, b"", b""), b"eval (1)"))
         check("error text that can't be written: " + closed, run_shell(closed, text, ["--warn"])[:2], (63, b""))
-    check("nothing of a text that is too long", run(["--warn"], b"len " * 20000)[2].startswith(b"quenhovach: standard input: refused"), True)
+    check("nothing of a text that is too long", run(["--warn"], b"eval (" * 20000)[2].startswith(b"quenhovach: standard input: refused"), True)
     check("given twice", run(["--warn", "--warn"])[::2], (2, b"quenhovach: --warn: it is given twice\nTry 'quenhovach --help'.\n"))
     check("nothing behind it", run(["--warn=all"])[::2], (2, b"quenhovach: --warn takes nothing behind it\nTry 'quenhovach --help'.\n"))
     check("with one dash", run(["-warn"])[::2], (2, b"quenhovach: unknown option -warn; did you mean --warn?\nTry 'quenhovach --help'.\n"))
@@ -222,14 +252,14 @@ def beside(folder):
 
 def linear(_):
     """Texts that would take long if something in them were looked at again and again."""
-    for text in (b"len ", b"len (", b"define(", b"(", b"`(", b"$1", b"1.", b"eval(1.5", b"a\r\n", b"divert ", b"\xe2\x80\x9c", b"eval(x "):
+    for text in (b"len ", b"len (", b"len (a,", b"eval (", b"eval(len ", b"define(", b"(", b"`(", b"$1", b"1.", b"eval(1.5", b"a\r\n", b"divert ", b"\xe2\x80\x9c", b"eval(x "):
         whole = b"define(`f', `" + text * (65000 // len(text))
         began = time.monotonic()
         status, _, err = run(["--warn"], whole)
         check("soon done: %r" % text, (status, b"refused: a quote is not closed" in err, time.monotonic() - began < 2), (69, True, True))
     began = time.monotonic()
-    _, _, err = run(["--warn"], b"the len\n" * 8000)
-    check("a warning for each, soon", (err.count(b"\n"), err.splitlines()[-1].split(b": ")[2], time.monotonic() - began < 2), (8000, b"standard input:8000:5", True))
+    _, _, err = run(["--warn"], b"eval (1)\n" * 7000)
+    check("a warning for each, soon", (err.count(b"\n"), err.splitlines()[-1].split(b": ")[2], time.monotonic() - began < 2), (7000, b"standard input:7000:1", True))
 
 
 def known(_):
@@ -239,6 +269,17 @@ def known(_):
     book = get(os.path.join(ROOT, "crates", "rules", "specs", "Table.antt")).decode()
     names = re.findall(r'bytesOf "(\w+)"', re.search(r"^predefinedNames =\n(.*?)\[\]", book, re.M | re.S)[1])
     check("predefined names", sorted(lists["NEED_CALL"] + lists["TAKE_CALL"] + lists["BARE"]), sorted(names))
+    for name in lists["NEED_CALL"]:
+        check("plain text by itself: " + name, run(["--warn"], b"[%s]" % name.encode()), (0, b"[%s]" % name.encode(), b""))
+    for name in lists["TAKE_CALL"] + lists["BARE"]:
+        check("called by itself: " + name, name.encode() in run([], b"[%s]" % name.encode())[1], False)
+    for name in sorted(set(lists["NEED_CALL"]) - set(lists["EVERYDAY"])):
+        text = b"the %s (see below)" % name.encode()
+        check("never a word: " + name, run(["--warn"], text), (0, text, lines(["standard input:1:5: " + GAP % name])))
+    for name in lists["EVERYDAY"]:
+        text = b"the %s (see below)" % name.encode()
+        check("a word of everyday writing: " + name, run(["--warn"], text), (0, text, b""))
+    check("four of them", sorted(lists["EVERYDAY"]), ["define", "index", "len", "shift"])
     check("names of GNU m4", sorted(set(lists["FOREIGN"]) & set(names)), [])
     check("21 of them", len(lists["FOREIGN"]), len(OTHERS.split()))
     for name in OTHERS.split():

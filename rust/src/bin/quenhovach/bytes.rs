@@ -36,6 +36,13 @@ pub fn is_in_name(byte: u8) -> bool {
     begins_name(byte) || is_digit(byte)
 }
 
+/// The bytes of a text from `from` on that meet a test.
+pub fn run_of(text: &[u8], from: usize, test: impl Fn(u8) -> bool) -> &[u8] {
+    let rest = text.get(from..).unwrap_or_default();
+    let length = rest.iter().position(|&b| !test(b)).unwrap_or(rest.len());
+    &rest[..length]
+}
+
 #[cfg(test)]
 mod tests {
     use super::*;

@@ -1,7 +1,7 @@
 //! Which of the likely mistakes in the text fit a refusal, and how they are told.
 
-use crate::hints::{self, Kind, Seen};
-use crate::suspects::refusal_of;
+use crate::hints::{self, Gap, Kind, Seen};
+use crate::suspects::changes_marks;
 use crate::templates::Templates;
 use quenhovach::{Answer, Opened, Report};
 
@@ -88,28 +88,33 @@ fn is_near(seen: &Seen, report: &Report) -> bool {
 /// Whether it changes what is read behind it.
 fn lasts(kind: &Kind) -> bool {
     match kind {
-        Kind::Gap { name, .. } => ["changequote", "changecom"].contains(name),
+        Kind::Gap(Gap { name, .. }) | Kind::Bare(name) => is_missed_later(name),
         Kind::Foreign(name) => ["include", "sinclude"].contains(name),
         _ => false,
     }
 }
 
+/// Whether what is read behind a call of it is read otherwise without the call: by other marks, or without a definition.
+fn is_missed_later(name: &str) -> bool {
+    changes_marks(name) || ["define", "pushdef"].contains(&name)
+}
+
 /// How well something fits an answer, 0 the best; none if it can't have caused it.
 fn rank(seen: &Seen, answer: Answer) -> Option<u8> {
-    let argument = matches!(answer, Answer::Name | Answer::Number | Answer::Expression);
-    let closing = matches!(answer, Answer::Unclosed(Opened::Quote | Opened::Call));
+    let counted = matches!(answer, Answer::Number | Answer::Expression);
+    let argument = counted || answer == Answer::Name;
     match seen.kind {
-        Kind::Point { .. } | Kind::NamedPoint { .. } | Kind::GivenPoint { .. } => {
-            matches!(answer, Answer::Number | Answer::Expression).then_some(0)
-        }
-        Kind::Gap { name, .. } if lasts(&seen.kind) => {
-            (argument && name == "changequote" || closing).then_some(1)
-        }
-        Kind::Gap { name, .. } => rank_of_name(name, answer).or_else(|| {
+        Kind::Point { .. }
+        | Kind::NamedPoint { .. }
+        | Kind::GivenPoint { .. }
+        | Kind::Plain { .. } => counted.then_some(0),
+        Kind::Gap(Gap { counted: true, .. }) if counted => Some(0),
+        Kind::Gap(Gap { name, called, .. }) => {
             let endless = matches!(answer, Answer::Spent | Answer::Room(_) | Answer::Deep);
-            (endless && ["ifelse", "ifdef", "shift"].contains(&name)).then_some(1)
-        }),
-        Kind::Bare(name) => rank_of_name(name, answer).filter(|&rank| rank == 0 || seen.within),
+            let here = called || seen.within;
+            (fits_name(name, here, answer) || endless && seen.within).then_some(1)
+        }
+        Kind::Bare(name) => fits_name(name, seen.within, answer).then_some(1),
         Kind::Return => (seen.within && (argument || answer == Answer::Mark)).then_some(1),
         Kind::LookAlike { quoted: true, .. } => {
             (answer == Answer::Unclosed(Opened::Quote)).then_some(0)
@@ -123,28 +128,34 @@ fn rank(seen: &Seen, answer: Answer) -> Option<u8> {
     }
 }
 
-/// How well a name without arguments fits an answer.
-fn rank_of_name(name: &str, answer: Answer) -> Option<u8> {
-    let refused = refusal_of(name);
+/// Whether a name without its arguments can lead to an answer: `here`, where it stands, or behind that.
+fn fits_name(name: &str, here: bool, answer: Answer) -> bool {
     match answer {
-        _ if refused.is_some() => (refused == Some(answer)).then_some(0),
-        Answer::Name | Answer::Number | Answer::Expression => Some(1),
-        // They give 0.
-        Answer::Divisor => ["index", "len"].contains(&name).then_some(1),
-        _ => None,
+        Answer::Name | Answer::Number | Answer::Expression | Answer::Divisor | Answer::Mark => {
+            here || is_missed_later(name)
+        }
+        Answer::Unclosed(Opened::Quote | Opened::Call) => changes_marks(name),
+        _ => false,
     }
 }
 
 /// What was seen, and no more.
 fn words(kind: &Kind) -> String {
     match *kind {
-        Kind::Gap { name, newline } => {
-            let blank = if newline { "newline" } else { "blank" };
-            let name = shortened(name);
-            format!("there is a {blank} between `{name}` and `(`; without the {blank} it is a call with arguments")
+        Kind::Gap(gap) => {
+            let blank = if gap.newline { "newline" } else { "blank" };
+            let name = shortened(gap.name);
+            let (is, would_be) = match gap.called {
+                true => ("it is called without arguments", "it gets them"),
+                false => ("it is plain text", "it is a call"),
+            };
+            format!("there is a {blank} between `{name}` and `(`, so {is}; without the {blank} {would_be}")
         }
         Kind::Bare(name) => {
             format!("`{name}` is predefined and called here without arguments; quote it if it is a plain word")
+        }
+        Kind::Plain { name, taker } => {
+            format!("`{name}` without `(` is plain text and is in an argument of `{taker}`, which takes whole numbers only")
         }
         Kind::Point { number, taker } => {
             let number = shortened(number);

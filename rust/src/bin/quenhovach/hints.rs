@@ -4,7 +4,7 @@
 //! seen, and behind a change of the marks little is. A byte has the class that it has in the expander (bytes.rs).
 
 use crate::scanner;
-use crate::suspects::{needs_call, refusal_of, takes_call};
+use crate::suspects::{needs_call, takes_call};
 use std::collections::HashMap;
 
 /// Something that may be a mistake.
@@ -22,9 +22,11 @@ pub struct Seen<'t> {
 #[derive(Clone, Copy, Debug, PartialEq)]
 pub enum Kind<'t> {
     /// A name that takes arguments, blanks, and then `(`.
-    Gap { name: &'t str, newline: bool },
-    /// A predefined name that is of no use without arguments, and has none.
+    Gap(Gap<'t>),
+    /// A predefined name that is called without arguments, between two plain words.
     Bare(&'t str),
+    /// A predefined name that is plain text without `(`, in an argument of a macro that takes whole numbers.
+    Plain { name: &'t str, taker: &'t str },
     /// A number with a point in an argument of a macro that takes whole numbers.
     Point { number: &'t str, taker: &'t str },
     /// A name in such an argument that the text defines as a number with a point.
@@ -49,14 +51,22 @@ pub enum Kind<'t> {
     Foreign(&'t str),
 }
 
+/// The blanks between a name and `(`.
+#[derive(Clone, Copy, Debug, PartialEq)]
+pub struct Gap<'t> {
+    pub name: &'t str,
+    /// There is a newline among them.
+    pub newline: bool,
+    /// The name is called, without arguments; else it is plain text.
+    pub called: bool,
+    /// It stands in an argument of a macro that takes whole numbers.
+    pub counted: bool,
+}
+
 impl Kind<'_> {
-    /// Whether it does no more than to give or be other text than is meant.
+    /// Whether it does no more than to be other text than is meant.
     pub fn is_mere_text(&self) -> bool {
-        match self {
-            Kind::Bare(name) => refusal_of(name).is_none(),
-            Kind::Return | Kind::LookAlike { .. } => true,
-            _ => false,
-        }
+        matches!(self, Kind::Return | Kind::LookAlike { .. })
     }
 }
 
@@ -84,11 +94,13 @@ pub fn scan<'t>(text: &'t [u8], ends: &'t [usize]) -> Vec<Seen<'t>> {
 /// Whether what was seen may be a mistake, now that all definitions of the text are known.
 fn stands<'t>(seen: &mut Seen<'t>, own: &Owned<'t>) -> bool {
     match &mut seen.kind {
-        Kind::Gap { name, newline } => match own.get(name) {
+        Kind::Gap(gap) => match own.get(gap.name) {
             Some(own) => own.takes,
-            None => needs_call(name) || takes_call(name) && !*newline,
+            None => needs_call(gap.name) || takes_call(gap.name) && !gap.newline,
         },
-        Kind::Bare(name) | Kind::Foreign(name) => !own.contains_key(name),
+        Kind::Bare(name) | Kind::Plain { name, .. } | Kind::Foreign(name) => {
+            !own.contains_key(name)
+        }
         Kind::NamedPoint { name, number, .. } => {
             let point = own.get(name).and_then(|own| own.point);
             *number = point.unwrap_or_default();
@@ -116,29 +128,61 @@ mod tests {
             .collect()
     }
 
-    fn gap(name: &str) -> Kind<'_> {
-        let newline = false;
-        Kind::Gap { name, newline }
+    /// A blank behind a name that is plain text so.
+    fn gap(name: &str) -> Gap<'_> {
+        Gap {
+            name,
+            newline: false,
+            called: false,
+            counted: false,
+        }
+    }
+
+    /// A blank behind a name that is called so.
+    fn called(name: &str) -> Kind<'_> {
+        Kind::Gap(Gap {
+            called: true,
+            ..gap(name)
+        })
     }
 
     #[test]
     fn each_kind() {
-        let (number, taker, newline) = ("18.4", "eval", true);
+        let (number, taker) = ("18.4", "eval");
         let (name, to) = ("h", "f");
         let mark = '\u{201c}';
         for (text, place, kind) in [
-            ("a define (`n')", 2, gap("define")),
-            ("define(`f', `$1')f \t(1)", 17, gap("f")),
+            ("a define (`n')", 2, Kind::Gap(gap("define"))),
             (
                 "len\n(`a')",
                 0,
-                Kind::Gap {
-                    name: "len",
-                    newline,
+                Kind::Gap(Gap {
+                    newline: true,
+                    ..gap("len")
+                }),
+            ),
+            (
+                "eval(len (a))",
+                5,
+                Kind::Gap(Gap {
+                    counted: true,
+                    ..gap("len")
+                }),
+            ),
+            ("define(`f', `$1')f \t(1)", 17, called("f")),
+            ("pushdef(`len', `$1')len (1)", 20, called("len")),
+            ("len (`a')pushdef(`len', `$1')", 0, Kind::Gap(gap("len"))),
+            ("divert (1)", 0, called("divert")),
+            ("we divert the cable", 3, Kind::Bare("divert")),
+            ("we changecom here # “", 3, Kind::Bare("changecom")),
+            (
+                "eval(index / 2)",
+                5,
+                Kind::Plain {
+                    name: "index",
+                    taker,
                 },
             ),
-            ("the index of", 4, Kind::Bare("index")),
-            ("we divert the cable", 3, Kind::Bare("divert")),
             ("eval((18.4) / 2)", 6, Kind::Point { number, taker }),
             (
                 "define(`f', `eval(18.4)')",
@@ -177,6 +221,20 @@ mod tests {
     }
 
     #[test]
+    fn word_or_call() {
+        for name in ["define", "index", "len", "shift"] {
+            let found = vec![(4, Kind::Gap(gap(name)))];
+            assert_eq!(seen(&format!("the {name} (see below)")), []);
+            assert_eq!(seen(&format!("the {name} (gain, 5)")), found);
+            assert_eq!(seen(&format!("abc={name} (boom)")), found);
+        }
+        for name in ["eval", "ifelse", "undefine"] {
+            let found = vec![(4, Kind::Gap(gap(name)))];
+            assert_eq!(seen(&format!("the {name} (see below)")), found);
+        }
+    }
+
+    #[test]
     fn no_mistake() {
         for text in [
             "# define (`n') len “\n",
@@ -185,9 +243,17 @@ mod tests {
             "define(`f', `# len (1)\n')",
             "`define (a), the len of “b”'",
             "errprint(`usage: define (a)')",
-            "define(`len', `x')the len (a)",
-            "the len of undefine(`len')",
+            "the len of the boom, define, eval, undefine",
+            "len(index) define(`f', `the len of it')",
+            "define(`len', `x')the len (`a')",
+            "define(`len', `2')eval(len)",
+            "eval(2) len",
+            "eval(len(index))",
+            "undefine(`shift')shift (`a')",
             "define(`f', `x')f (1)",
+            "divnum words",
+            "the divnum of it",
+            "m4exit dnl",
             "divert\n(a) divnum (b) dnl (c)",
             "divert dnl\nundivert",
             "word (a) Len (b) lens",
@@ -214,7 +280,7 @@ mod tests {
             let seen = scan(text.as_bytes(), Vec::leak(vec![text.len()]));
             seen.iter().map(|seen| seen.ends).collect::<Vec<_>>()
         };
-        assert_eq!(ends("the len of"), [Some(7)]);
+        assert_eq!(ends("we divert it"), [Some(9)]);
         assert_eq!(ends("f(incr(eval(1.5) + 1) )"), [Some(21)]);
         assert_eq!(ends("define(`f', `eval(1.5)')"), [None]);
         assert_eq!(ends("ifelse(1, 1, `eval(1.5)')"), [Some(25)]);

@@ -7,6 +7,7 @@ mod hints;
 mod identity;
 mod place;
 mod progress;
+mod prose;
 mod refusal;
 mod scanner;
 mod signals;

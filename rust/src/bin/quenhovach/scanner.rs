@@ -1,8 +1,11 @@
 //! The walk over a template's text that hints.rs goes by.
 
-use crate::bytes::{begins_name, is_blank, is_digit, is_in_name};
-use crate::hints::{Kind, Owned, Seen};
-use crate::suspects::{is_foreign, is_predefined, looks_alike, needs_call};
+use crate::bytes::{begins_name, is_blank, is_digit, is_in_name, run_of};
+use crate::hints::{Gap, Kind, Owned, Seen};
+use crate::prose;
+use crate::suspects::{
+    changes_marks, is_everyday, is_foreign, is_predefined, looks_alike, needs_call, takes_call,
+};
 
 const ORDER_MARK: &[u8] = "\u{feff}".as_bytes();
 
@@ -104,11 +107,8 @@ impl<'t> Scan<'t> {
         self.quotes.is_empty() || in_call && !as_is
     }
 
-    /// The bytes from `from` on that meet a test.
     fn run_of(&self, from: usize, test: impl Fn(u8) -> bool) -> &'t [u8] {
-        let rest = self.text.get(from..).unwrap_or_default();
-        let length = rest.iter().position(|&b| !test(b)).unwrap_or(rest.len());
-        &rest[..length]
+        run_of(self.text, from, test)
     }
 
     /// Names and numbers are ASCII.
@@ -240,42 +240,61 @@ impl<'t> Scan<'t> {
     }
 
     fn no_call(&mut self, place: usize, name: &'t str) {
-        let blanks = self.run_of(self.at, is_blank);
-        let taker = self.frame().taker;
         let predefined = is_predefined(name) && !self.own.contains_key(name);
         if name == "divert" && predefined && !self.frame().in_call {
             self.discards = false;
         }
-        if !blanks.is_empty() && self.text.get(self.at + blanks.len()) == Some(&b'(') {
-            let newline = blanks.contains(&b'\n');
-            self.note(place, Kind::Gap { name, newline });
-        } else if name == "changecom" && predefined {
-            self.change_marks();
-        } else if self.quotes.is_empty() && (needs_call(name) || self.is_in_prose(place, name)) {
+        let blanks = self.run_of(self.at, is_blank);
+        let behind = self.at + blanks.len();
+        if !blanks.is_empty() && self.text.get(behind) == Some(&b'(') {
+            if !predefined || self.may_be_meant(place, name, behind + 1) {
+                self.note(place, Kind::Gap(self.gap(name, blanks)));
+            }
+            return;
+        }
+        // What divnum gives is seen in the sheet, and dnl stands behind words by its nature.
+        let may_vanish = predefined && takes_call(name) && self.quotes.is_empty();
+        if may_vanish && prose::is_between_words(self.text, place..self.at) {
             self.note(place, Kind::Bare(name));
-        } else if let Some(taker) = taker.filter(|_| !predefined) {
-            let number = "";
-            self.note(
-                place,
-                Kind::NamedPoint {
-                    name,
-                    number,
-                    taker,
-                },
-            );
+        }
+        if predefined && name == "changecom" {
+            self.change_marks();
+        } else if let Some(taker) = self.frame().taker {
+            self.note_counted(place, name, taker, predefined);
         }
     }
 
-    /// Whether a name that is of use by itself, and a word of English too, stands between two words of a line.
-    fn is_in_prose(&self, place: usize, name: &str) -> bool {
-        if !["divert", "undivert"].contains(&name) {
-            return false;
+    fn gap(&self, name: &'t str, blanks: &[u8]) -> Gap<'t> {
+        Gap {
+            name,
+            newline: blanks.contains(&b'\n'),
+            called: !needs_call(name) || self.own.contains_key(name),
+            counted: self.frame().taker.is_some(),
         }
-        let mut before = self.text[..place].iter().rev().skip_while(|&&b| b == b' ');
-        let blanks = self.run_of(self.at, |b| b == b' ').len();
-        let next = self.word(self.at + blanks, is_in_name);
-        let behind = blanks > 0 && !next.is_empty() && next != "dnl";
-        behind && before.next().is_some_and(|&b| is_in_name(b))
+    }
+
+    /// Whether a predefined name that has blanks and `(` behind it can hardly be a word with a remark in parentheses.
+    fn may_be_meant(&self, place: usize, name: &str, behind: usize) -> bool {
+        let counted = self.frame().taker.is_some();
+        !is_everyday(name)
+            || counted
+            || prose::is_reading(self.text, place)
+            || prose::begins_arguments(self.text, behind)
+    }
+
+    /// A name in an argument of a macro that takes whole numbers.
+    fn note_counted(&mut self, place: usize, name: &'t str, taker: &'t str, predefined: bool) {
+        let number = "";
+        let kind = match predefined {
+            false => Kind::NamedPoint {
+                name,
+                number,
+                taker,
+            },
+            true if needs_call(name) => Kind::Plain { name, taker },
+            true => return,
+        };
+        self.note(place, kind);
     }
 
     fn call(&mut self, place: usize, name: &'t str) {
@@ -311,7 +330,7 @@ impl<'t> Scan<'t> {
             }
             "errprint" => frame.as_is = true,
             "divert" if !around.in_call => self.discards = self.text.get(self.at) == Some(&b'-'),
-            "changequote" | "changecom" => return self.change_marks(),
+            _ if changes_marks(name) => return self.change_marks(),
             _ => {}
         }
         self.frames.push(frame);

@@ -1,8 +1,6 @@
 //! The names and characters that the scan for likely mistakes knows. tests/command/hints.py holds the names to the book of rules.
 
-use quenhovach::Answer;
-
-/// Predefined names that are of no use without arguments.
+/// Predefined names that are plain text unless `(` directly follows.
 const NEED_CALL: [&str; 17] = [
     "decr", "define", "defn", "errprint", "eval", "ifdef", "ifelse", "incr", "index", "len",
     "m4wrap", "popdef", "pushdef", "shift", "substr", "translit", "undefine",
@@ -11,6 +9,8 @@ const NEED_CALL: [&str; 17] = [
 const TAKE_CALL: [&str; 5] = ["changecom", "changequote", "divert", "m4exit", "undivert"];
 /// Predefined names that have no arguments.
 const BARE: [&str; 2] = ["divnum", "dnl"];
+/// Those that are plain text without `(` and words of everyday writing, too, where a parenthesis may follow.
+const EVERYDAY: [&str; 4] = ["define", "index", "len", "shift"];
 /// Macros of GNU m4 that are not predefined here.
 const FOREIGN: [&str; 21] = [
     "__file__",
@@ -36,16 +36,6 @@ const FOREIGN: [&str; 21] = [
     "traceon",
 ];
 
-/// What a predefined name without arguments is refused with.
-pub fn refusal_of(name: &str) -> Option<Answer> {
-    match name {
-        "define" | "pushdef" => Some(Answer::Name),
-        "decr" | "incr" | "substr" => Some(Answer::Number),
-        "eval" => Some(Answer::Expression),
-        _ => None,
-    }
-}
-
 pub fn needs_call(name: &str) -> bool {
     NEED_CALL.contains(&name)
 }
@@ -56,6 +46,14 @@ pub fn takes_call(name: &str) -> bool {
 
 pub fn is_predefined(name: &str) -> bool {
     needs_call(name) || takes_call(name) || BARE.contains(&name)
+}
+
+pub fn is_everyday(name: &str) -> bool {
+    EVERYDAY.contains(&name)
+}
+
+pub fn changes_marks(name: &str) -> bool {
+    ["changecom", "changequote"].contains(&name)
 }
 
 pub fn is_foreign(name: &str) -> bool {
