@@ -1,7 +1,8 @@
 """Random texts on which document 01 and GNU m4 have one rule: texts.text(seed) gives the bytes of one, the same for the same seed.
 
 docs/GNU.md lists the rules that differ; the texts keep clear of them by the way they are made:
-- A predefined macro that works on arguments is never called without them, and no name that GNU m4 has beside the 24 is written.
+- No name that GNU m4 has beside the 24 is written. A text covers a predefined name only as long as nothing else is called by it. More than an empty
+  quote stands between a predefined name and a parenthesis that is none of its own: in an argument the quote would be gone when the text is read again.
 - The first token of every argument, quoted text and defined text is solid: a word, number, sign, quote, or a call whose result starts
   with such a token. So no call that gives nothing, or a blank first, stands in front of an argument's blanks.
 - A name is defined, pushed or removed outside of calls; inside of them only names that are called nowhere inside.
@@ -12,6 +13,8 @@ A macro calls only macros of a lower rank and loops count down, so every text en
 import random
 
 WORDS = "mast guy cable sway wind load north lee drum boom crew rig tall _base x7 Top".split()
+# predefined, and words like those above unless a parenthesis directly follows
+UNOPENED = "decr define defn errprint eval ifdef ifelse incr index len m4wrap popdef pushdef shift substr translit undefine".split()
 SIGNS = ["+", "-", "*", "=", "!", "?", ".", ":", "<", ">", "/", "^", "&", "~", "\\", "\xe9", "\xc3\xa4", "'s"]
 BLANKS = [" ", "  ", "\t", "\n", " \n "]
 QUOTES = [("`", "'"), ("`", "'"), ("[", "]"), ("{", "}"), ("[[", "]]"), ("{|", "|}"), ("`[", "]'"), ("+{+{+", "+}+}+"), ('"', '"'), ("\xab", "\xbb")]
@@ -96,9 +99,12 @@ class Writer:
                 more += ",%d" % self.upto(12)
         return "eval(" + self.expression(3) + more + ")"
 
+    def word(self):
+        return self.pick(UNOPENED if self.chance(25) else WORDS)
+
     def plain(self):
         """A word without calls, quotes or commas."""
-        return self.pick(WORDS) + self.pick(["", "17", "_a", "".join(self.pick(LETTERS) for _ in range(self.upto(6)))])
+        return self.word() + self.pick(["", "17", "_a", "".join(self.pick(LETTERS) for _ in range(self.upto(6)))])
 
     def measured(self):
         """A call whose result is a number."""
@@ -151,7 +157,7 @@ class Writer:
     def solid(self, rank, depth):
         kind = self.upto(7)
         if kind <= 1:
-            return self.pick(WORDS) + self.pick(["", " "])
+            return self.word() + self.pick(["", " "])
         if kind == 2:
             return self.number()
         if kind == 3:
@@ -184,7 +190,7 @@ class Writer:
         return self.cut()
 
     def choice(self, rank, depth):
-        some = [self.pick(WORDS), self.quoted(rank, depth), self.measured(), self.quote("")]
+        some = [self.word(), self.quoted(rank, depth), self.measured(), self.quote("")]
         pair = lambda: self.pick(some) + "," + self.pick(some) + ","
         last = self.pick(["", "," + self.argument(rank, depth), "," + self.argument(rank, depth) + ",surplus"])
         return "ifelse(" + "".join(pair() + self.quoted(rank, depth) + "," for _ in range(self.upto(2))) + pair() + self.quoted(rank, depth) + last + ")"
@@ -200,7 +206,7 @@ class Writer:
         if kind == 2:
             return self.loose(rank, depth)
         if kind == 3 and depth:
-            return "(" + self.solid(rank, depth - 1) + self.items(rank, depth - 1, 2) + ")"
+            return self.pick([" ", "."]) + "(" + self.solid(rank, depth - 1) + self.items(rank, depth - 1, 2) + ")"
         if kind == 4 and self.comment:
             return " " + self.remark()
         return self.solid(rank, depth)
@@ -216,13 +222,13 @@ class Writer:
             if kind == 3 and self.known(rank):
                 return "%s(%s)" % (self.pick(self.known(rank)), self.pick(["$@", self.quote("$1"), self.quote("$2") + ",shift($@)", "a," + self.quote("$*")]))
             if kind == 4:
-                return "ifelse(%s,%s,%s,%s)" % (self.quote("$1"), self.pick(WORDS), self.quote(self.pick(WORDS) + " $2"), self.quote("<$1>" if "<" not in "".join(self.marks) else "$1"))
+                return "ifelse(%s,%s,%s,%s)" % (self.quote("$1"), self.word(), self.quote(self.word() + " $2"), self.quote("<$1>" if "<" not in "".join(self.marks) else "$1"))
             if kind == 5:
-                return "divert(%d)%s$1\ndivert(0)" % (self.pick([1, 2, 5, 9, -1]), self.pick(WORDS) + " ")
+                return "divert(%d)%s$1\ndivert(0)" % (self.pick([1, 2, 5, 9, -1]), self.word() + " ")
             return self.item(rank, 1)
         if not self.nests():
             return self.flat()
-        return self.pick(WORDS) + "".join(self.pick([" ", ":", self.quote("")]) + part() for _ in range(1 + self.upto(3)))
+        return self.word() + "".join(self.pick([" ", ":", self.quote("")]) + part() for _ in range(1 + self.upto(3)))
 
     def flat(self):
         """A defined text without quotes or comments."""
@@ -256,11 +262,36 @@ class Writer:
         text = "ifelse($#,1,%s,%s)" % (q("last $1"), q("$1" + q("") + " " + inner + q("") + name + "(shift($@))"))
         return "define(%s,%s)dnl\n%s(%s)\n" % (q(name), q(text), name, ",".join(q(self.plain()) for _ in range(1 + self.upto(6))))
 
+    # predefined names and the parenthesis
+
+    def apart(self):
+        """What keeps a parenthesis from opening a call of the name before it."""
+        return self.pick([" ", "\t", "\n", ".", self.quote("")] + ([self.remark()] if self.comment else []))
+
+    def covered(self):
+        """A text over a predefined name, called with a parenthesis and without; then the name uncovered."""
+        name = self.pick([name for name in UNOPENED if name not in ("define", "popdef", "pushdef")])
+        q = self.quote(name)
+        unopened = [name, name + self.apart() + "(" + self.quote(self.plain()) + ")"]
+        opened = name + "(" + self.pick(["", self.quote(self.plain()), self.plain() + "," + self.number()]) + ")"
+        cover = self.pick(["pushdef", "pushdef(%s,below)define" % q, "pushdef(%s,below)pushdef" % q])
+        text = cover + "(%s,%s)dnl\n" % (q, self.quote(self.flat()))
+        text += " ".join(self.pick(unopened + [opened]) for _ in range(1 + self.upto(2))) + "\n"
+        return text + cover.count("pushdef") * ("popdef(%s)" % q + self.pick(unopened) + "\n")
+
+    def opened_later(self):
+        """A macro that gives a predefined name, and a parenthesis in the text behind its call."""
+        name, q, word = self.fresh("open"), self.quote, self.plain()
+        calls = [("len", word), ("incr", self.number()), ("index", word + ",e"), ("shift", "a," + q(word)), ("substr", q(word) + ",1"), ("ifelse", "a,a," + q(word))]
+        given, arguments = self.pick(calls)
+        text = q(given) if self.nests() and self.chance(20) else given
+        return "define(%s,%s)dnl\n%s()%s(%s)\n" % (q(name), q(text), name, self.pick(["", "", self.apart()]), arguments)
+
     # the whole text
 
     def top(self):
         """One line or so outside of calls."""
-        kind = self.upto(13)
+        kind = self.upto(15)
         if kind <= 2:
             return self.definition()
         if kind == 3 and self.nests():
@@ -279,6 +310,10 @@ class Writer:
             return self.lasting_definition()
         if kind == 9 and self.comment:
             return self.remark()
+        if kind == 10:
+            return self.covered()
+        if kind == 11:
+            return self.opened_later()
         return self.solid(RANKS, 3) + self.items(RANKS, 3, 5) + self.pick(["\n", " ", "dnl gone\n"])
 
     def change(self):
