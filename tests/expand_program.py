@@ -35,6 +35,7 @@ check("01's third case", run(b"define(`n',`5')n"), (b"5", b"0 8 16 0\n"))
 check("empty input", run(b""), (b"", b"0 1 0 0\n"))
 check("error text stands before the answer line", run(b"errprint(`a',`b')x"), (b"x", b"a b0 7 18 0\n"))
 check("a refusal writes nothing else", run(b"good`'errprint(`e')`bad"), (b"", b"5 5 19 1\n"))
+check("02's word that vanished", run(b"the len of the boom"), (b"the len of the boom", b"0 10 19 0\n"))
 check("m4exit", run(b"a`'m4exit(7)b"), (b"a", b"1 5 12 7\n"))
 longest = b"x" * 65536
 check("65,536 bytes", run(longest), (longest, b"0 2 65536 0\n"))

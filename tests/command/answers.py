@@ -9,6 +9,7 @@ from common import FIVE, check, get, put, run
 ENDINGS = {
     "done": (FIVE, [], 0, b"5", b"", "0 0 8 16 1 0"),
     "done, the empty text": (b"", [], 0, b"", b"", "0 0 1 0 0 0"),
+    "done, a predefined name that is a word": (b"the len of the boom", [], 0, b"the len of the boom", b"", "0 0 10 19 19 0"),
     "done, error text": (b"errprint(`a',`b')x", [], 0, b"x", b"a b", "0 0 7 18 1 3"),
     "done, any bytes": (b"\0\xff\n", [], 0, b"\0\xff\n", b"", "0 0 4 3 3 0"),
     "done, streams and wrap text": (b"m4wrap(`z')divert(1)b`'divert`'a", [], 0, b"azb", b"", "0 0 14 32 3 0"),
