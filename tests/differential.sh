@@ -66,7 +66,7 @@ shown "the third demand on $((count / 4 + 1)) pairs of settings" "$program" dema
 part "$((count / 100 + 1)) cases between inaccessible pages, twice each" 0 "$program" fences "$seed" "$((count / 100 + 1))"
 part 'lengths above 4,294,967,295' 0 "$program" huge
 part '500 cases under valgrind' 0 memcheck "$program" memcheck "$seed" 500
-part 'a changed byte or number is noticed, inaccessible pages trap' 0 "$program" noticed
+part 'a changed byte or number is noticed, ways are told apart, inaccessible pages trap' 0 "$program" noticed
 part 'valgrind finds a byte read outside' 9 memcheck "$program" memcheck-outside "$seed" 1
 part 'valgrind finds the use of what was there before' 9 memcheck "$program" memcheck-undefined "$seed" 1
 

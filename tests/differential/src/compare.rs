@@ -43,6 +43,7 @@ fn compare_all(progress: &Progress, seed: u64, count: u64, first: u64) -> bool {
             }
         }
         tally.add(&expected, &trace);
+        tally.add_ways(&case.text, &expected);
     }
     tally.print();
     let missing = tally.missing();

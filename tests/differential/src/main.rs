@@ -5,8 +5,8 @@
 //!
 //! - `differential compare SEED COUNT [FIRST]`: random cases; every number of the report and every
 //!   byte of the text, of the seven buffers and of 16 guard bytes around each of them is compared
-//!   with what the model's answer asks. From 20,000 cases on every answer, every detail of 4 and 5
-//!   and every macro must be reached.
+//!   with what the model's answer asks. From 20,000 cases on every answer, every detail of 4 and 5,
+//!   every macro and every way of request 2 of 02 must be reached.
 //! - `differential demand3 SEED COUNT [FIRST]`: the letter's third demand on random pairs of
 //!   settings, without the model.
 //! - `differential fences SEED COUNT [FIRST]`: random cases with what is lent against inaccessible
@@ -17,8 +17,8 @@
 //!   valgrind. `memcheck-outside` and `memcheck-undefined` do the same with a mistake that valgrind
 //!   must find.
 //! - `differential vectors FILE`: the lines of a table like tests/vectors.tsv.
-//! - `differential noticed`: the comparisons notice one changed byte or number, and the
-//!   inaccessible pages trap.
+//! - `differential noticed`: the comparisons notice one changed byte or number, the ways are told
+//!   apart, and the inaccessible pages trap.
 //!
 //! Case number FIRST (default 0) of a seed is always the same: a failing one is repeated with COUNT
 //! 1. It is also printed as a line of a table, and a smaller one with it.
@@ -29,10 +29,12 @@ mod case;
 mod compare;
 mod demand3;
 mod fences;
+mod front;
 mod generate;
 mod judge;
 mod memcheck;
 mod noise;
+mod noted;
 mod noticed;
 mod random;
 mod readers;
@@ -40,6 +42,8 @@ mod setting;
 mod shrink;
 mod supervise;
 mod tally;
+mod walk;
+mod ways;
 
 use memcheck::Mistake;
 use std::process::ExitCode;

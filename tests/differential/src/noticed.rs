@@ -7,6 +7,7 @@ use crate::case::case;
 use crate::demand3::{check, Ran, Sentence};
 use crate::fences::{Fences, Side};
 use crate::judge::judge;
+use crate::noted::ways_noted;
 use crate::random::Random;
 use crate::supervise::{libc, supervise, End};
 use model::{expand, Setting};
@@ -20,8 +21,9 @@ pub fn all_noticed() -> bool {
     // not one short-circuit: every finding is to be printed
     let bytes = bytes_noticed();
     let sentences = sentences_noticed();
+    let ways = ways_noted();
     let fences = fences_trap();
-    bytes && sentences && fences
+    bytes && sentences && ways && fences
 }
 
 /// One bit of one lent byte, of one surrounding byte or of the returned number.

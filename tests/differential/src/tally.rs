@@ -1,5 +1,7 @@
 //! How many cases ended how, and what they reached. What no case reached is not tested.
 
+use crate::walk::walk;
+use crate::ways::Ways;
 use model::macros::Predefined;
 use model::{Report, Trace};
 
@@ -14,6 +16,7 @@ pub struct Tally {
     calls: [u64; 24],
     steps: u64,
     crossings: u64,
+    ways: Ways,
 }
 
 impl Tally {
@@ -29,6 +32,11 @@ impl Tally {
         }
         self.steps += u64::from(report.steps);
         self.crossings += trace.crossings;
+    }
+
+    /// Adds the ways of a run, which takes its steps once more.
+    pub fn add_ways(&mut self, text: &[u8], report: &Report) {
+        walk(&mut self.ways, text, report);
     }
 
     /// Every count with its name.
@@ -60,6 +68,7 @@ impl Tally {
         );
         counts.push(("token across the border".to_string(), self.crossings));
         counts.push(("step".to_string(), self.steps));
+        counts.extend(self.ways.counts());
         counts
     }
 

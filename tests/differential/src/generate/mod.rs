@@ -1,9 +1,10 @@
 //! Random texts that reach every macro and every answer of document 01.
 //!
 //! A text comes from a grammar of plausible pieces ([`writer`]), from a scenario with a purpose
-//! ([`scenarios`], [`heavy`]), from the table of vectors, from the model's own generator, or is a
+//! ([`scenarios`], [`bare`], [`heavy`]), from the table of vectors, from the model's own generator, or is a
 //! soup of words; then some of its bytes may be changed ([`mutate`]).
 
+mod bare;
 pub mod expressions;
 mod heavy;
 mod mutate;
@@ -30,8 +31,9 @@ pub fn text(random: &mut Random) -> Vec<u8> {
 /// A text as it comes from its source.
 pub fn plausible(random: &mut Random) -> Vec<u8> {
     match random.below(1000) {
-        0..=519 => written(random),
-        520..=829 => scenarios::scenario(random),
+        0..=499 => written(random),
+        500..=779 => scenarios::scenario(random),
+        780..=829 => bare::bare(random),
         830..=889 => from_vectors(random),
         890..=949 => model::generate::text(&mut model::random::Random::new(random.bits())),
         950..=994 => soup(random),

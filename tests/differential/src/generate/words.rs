@@ -1,6 +1,7 @@
 //! The smallest pieces of texts: names, words, numbers, marks, odd bytes.
 
 use crate::random::Random;
+use crate::ways::NEED_PARENTHESIS;
 use model::macros::Predefined;
 
 const NAMES: [&str; 18] = [
@@ -95,7 +96,7 @@ pub const BAD_NUMBERS: [&str; 18] = [
 
 pub fn name(random: &mut Random) -> Vec<u8> {
     match random.below(40) {
-        0 => predefined(random).to_vec(),
+        0 => predefined(random).into(),
         1 => {
             let length = random.between(1, 60);
             [b"q".to_vec(), random.bytes(b"ab_Z1", length)].concat()
@@ -104,12 +105,20 @@ pub fn name(random: &mut Random) -> Vec<u8> {
     }
 }
 
-pub fn predefined(random: &mut Random) -> &'static [u8] {
-    random.pick(&Predefined::ALL).name().as_bytes()
+pub fn predefined(random: &mut Random) -> &'static str {
+    random.pick(&Predefined::ALL).name()
+}
+
+/// A name that is a plain word unless `(` follows.
+pub fn needs_parenthesis(random: &mut Random) -> &'static str {
+    random.pick(&NEED_PARENTHESIS).name()
 }
 
 pub fn plain(random: &mut Random) -> Vec<u8> {
-    random.pick(&PLAIN).as_bytes().to_vec()
+    match random.below(24) {
+        0 => needs_parenthesis(random).into(),
+        _ => random.pick(&PLAIN).into(),
+    }
 }
 
 pub fn odd(random: &mut Random) -> Vec<u8> {
@@ -123,7 +132,7 @@ pub fn blanks(random: &mut Random) -> Vec<u8> {
 /// A word of any kind.
 pub fn any(random: &mut Random) -> Vec<u8> {
     match random.below(20) {
-        0..=4 => predefined(random).to_vec(),
+        0..=4 => predefined(random).into(),
         5..=7 => name(random),
         8..=9 => plain(random),
         10 => blanks(random),

@@ -251,7 +251,7 @@ impl<'r> Writer<'r> {
         let whole = match self.random.below(6) {
             0 => self.quoted_pieces(depth + 1),
             1 => self.comment(),
-            2 => words::predefined(self.random).to_vec(),
+            2 => words::predefined(self.random).into(),
             3 => self.user_call(depth + 1),
             _ => self.predefined_call(depth + 1),
         };

@@ -1,0 +1,94 @@
+//! Whether the ways of request 2 of 02 are told apart: short texts, each with all the ways that it
+//! takes.
+
+use crate::tally::Tally;
+use crate::walk::walk;
+use crate::ways::Ways;
+use model::{expand, Setting};
+
+const WITH_AMPLE_ROOM: [&str; 25] = [
+    "len -> plain to output + plain at the end + plain len",
+    "eval ( -> plain to output + space, then ( + plain eval",
+    "incr\t( -> plain to output + tab, then ( + plain incr",
+    "decr\n( -> plain to output + newline, then ( + plain decr",
+    "shift`'( -> plain to output + quote, then ( + plain shift",
+    "index#\n( -> plain to output + comment, then ( + plain index",
+    "len\r( -> plain to output + plain len",
+    "len(a) -> opened len",
+    "divnum -> bare divnum",
+    "divnum( -> opened divnum",
+    "divert(1)define; -> opened divert + plain to a stream + plain define",
+    "divert(-1)define; -> opened divert + plain discarded + plain define",
+    "shift(len ) -> opened shift + plain first in call + blank kept behind + plain len",
+    "shift(a, len) -> opened shift + behind dropped blank + plain len",
+    "shift(a len ) -> opened shift + behind another token + plain len",
+    "define(`p',`len')p()(a) -> opened define + opened at the border + opened len",
+    "define(`p',`len')p();len(a) -> opened define + plain at the border + plain to output \
+        + plain len + opened len",
+    "define(`p',`le')p()n(a) -> opened define + opened across it + opened len",
+    "define(`p',`le')p()n; -> opened define + plain across it + plain to output + plain len",
+    "define(`p',`len(a)')p() -> opened define + opened in pending + opened len",
+    "define(`p',`len;')p() -> opened define + plain in pending + plain to output + plain len",
+    "m4wrap(`(a)')len -> opened m4wrap + ( in waiting wrap + plain to output + plain len",
+    "pushdef(`len',`x')len popdef(`len')len; -> opened pushdef + text over it, bare \
+        + opened popdef + uncovered and plain + plain to output + plain len",
+    "undefine(`len')len( -> opened undefine + undefined before (",
+    "shift(len -> opened shift + plain first in call + plain at the end + plain, then unclosed \
+        + plain len",
+];
+
+/// Every text takes just the ways that are said, and none is said to be reached by no run at all.
+pub fn ways_noted() -> bool {
+    let ample = Setting::ample();
+    let room = |buffer: usize, length| {
+        let mut setting = ample.clone();
+        setting.lengths[buffer - 1] = length;
+        setting
+    };
+    let spent = Setting {
+        budget: 0,
+        ..ample.clone()
+    };
+    WITH_AMPLE_ROOM.iter().all(|said| takes(said, &ample))
+        && takes("len -> plain, no room 7", &room(7, 2))
+        && takes(
+            "divert(1)len -> opened divert + plain, no room 4",
+            &room(4, 2),
+        )
+        && takes(
+            "divnum(len -> opened divnum + plain, no room 2",
+            &room(2, 8),
+        )
+        && takes("len -> plain, spent", &spent)
+        && all_missed()
+}
+
+/// Whether a text takes the ways that are said of it.
+fn takes(said: &str, setting: &Setting) -> bool {
+    let (text, said) = said.split_once(" -> ").expect("a text and its ways");
+    let mut said: Vec<&str> = said.split(" + ").collect();
+    let mut ways = Ways::default();
+    walk(
+        &mut ways,
+        text.as_bytes(),
+        &expand(text.as_bytes(), setting),
+    );
+    let counts = ways.counts().into_iter().filter(|(_, count)| *count > 0);
+    let mut taken: Vec<String> = counts.map(|(way, _)| way).collect();
+    said.sort();
+    taken.sort();
+    if taken != said {
+        println!("{text:?} takes {taken:?} instead of {said:?}");
+    }
+    taken == said
+}
+
+fn all_missed() -> bool {
+    let missing = Tally::default().missing();
+    let ways = Ways::default().counts();
+    let all = ways.iter().all(|(way, _)| missing.contains(way));
+    if !all {
+        println!("a way that no run takes is not missed");
+    }
+    all
+}

@@ -1,0 +1,139 @@
+//! The ways of request 2 of 02: names of predefined meanings that stand as plain text, open a call
+//! or are called bare, and how often each of them was taken.
+
+use model::macros::Predefined::{self, *};
+
+/// 02: these "shall stand as plain text unless `(` directly follows".
+pub const NEED_PARENTHESIS: [Predefined; 17] = [
+    Decr, Define, Defn, Errprint, Eval, Ifdef, Ifelse, Incr, Index, Len, M4wrap, Popdef, Pushdef,
+    Shift, Substr, Translit, Undefine,
+];
+
+/// 02: "The other seven keep their bare call."
+pub fn keeps_bare_call(which: Predefined) -> bool {
+    !NEED_PARENTHESIS.contains(&which)
+}
+
+/// What one of the 24 names did.
+#[derive(Clone, Copy, Debug, PartialEq, Eq)]
+pub enum Use {
+    /// Its meaning is predefined, and it stood for itself.
+    Plain,
+    /// A predefined meaning was called without arguments.
+    Bare,
+    /// `(` opened a call of a predefined meaning.
+    Opened,
+    /// A text defined over the name was called without arguments.
+    Text,
+    /// It had no definition, and `(` followed.
+    Undefined,
+}
+
+/// Where a plain word, or the `(` of a call, stood, and what came of it.
+#[derive(Clone, Copy)]
+pub enum Way {
+    ToOutput,
+    ToStream,
+    Discarded,
+    FirstInArgument,
+    BehindDropped,
+    BehindToken,
+    BlankKept,
+    SpaceBetween,
+    TabBetween,
+    NewlineBetween,
+    QuoteBetween,
+    CommentBetween,
+    PlainInPending,
+    PlainAtBorder,
+    PlainAcross,
+    PlainAtEnd,
+    BeforeWaitingWrap,
+    OpenedInPending,
+    OpenedAtBorder,
+    OpenedAcross,
+    PlainAgain,
+    Room2,
+    Room4,
+    Room7,
+    Spent,
+    EndInCall,
+}
+
+const WAYS: [(Way, &str); 26] = [
+    (Way::ToOutput, "plain to output"),
+    (Way::ToStream, "plain to a stream"),
+    (Way::Discarded, "plain discarded"),
+    (Way::FirstInArgument, "plain first in call"),
+    (Way::BehindDropped, "behind dropped blank"),
+    (Way::BehindToken, "behind another token"),
+    (Way::BlankKept, "blank kept behind"),
+    (Way::SpaceBetween, "space, then ("),
+    (Way::TabBetween, "tab, then ("),
+    (Way::NewlineBetween, "newline, then ("),
+    (Way::QuoteBetween, "quote, then ("),
+    (Way::CommentBetween, "comment, then ("),
+    (Way::PlainInPending, "plain in pending"),
+    (Way::PlainAtBorder, "plain at the border"),
+    (Way::PlainAcross, "plain across it"),
+    (Way::PlainAtEnd, "plain at the end"),
+    (Way::BeforeWaitingWrap, "( in waiting wrap"),
+    (Way::OpenedInPending, "opened in pending"),
+    (Way::OpenedAtBorder, "opened at the border"),
+    (Way::OpenedAcross, "opened across it"),
+    (Way::PlainAgain, "uncovered and plain"),
+    (Way::Room2, "plain, no room 2"),
+    (Way::Room4, "plain, no room 4"),
+    (Way::Room7, "plain, no room 7"),
+    (Way::Spent, "plain, spent"),
+    (Way::EndInCall, "plain, then unclosed"),
+];
+
+/// How often each way was taken.
+#[derive(Default)]
+pub struct Ways {
+    ways: [u64; WAYS.len()],
+    uses: [[u64; 24]; 5],
+}
+
+impl Ways {
+    pub fn note(&mut self, way: Way) {
+        self.ways[way as usize] += 1;
+    }
+
+    pub fn note_use(&mut self, how: Use, which: Predefined) {
+        self.uses[how as usize][which as usize] += 1;
+    }
+
+    /// How often a name was used so.
+    pub fn used(&self, how: Use, which: Predefined) -> u64 {
+        self.uses[how as usize][which as usize]
+    }
+
+    /// Every count that must not stay 0, with its name.
+    pub fn counts(&self) -> Vec<(String, u64)> {
+        let ways = WAYS.map(|(way, name)| (name.to_string(), self.ways[way as usize]));
+        let mut counts = ways.to_vec();
+        counts.push(("text over it, bare".to_string(), self.sum(Use::Text)));
+        counts.push(("undefined before (".to_string(), self.sum(Use::Undefined)));
+        for which in Predefined::ALL {
+            let (how, word) = if keeps_bare_call(which) {
+                (Use::Bare, "bare")
+            } else {
+                (Use::Plain, "plain")
+            };
+            counts.push((format!("{word} {}", which.name()), self.used(how, which)));
+        }
+        for which in Predefined::ALL {
+            let opened = self.used(Use::Opened, which);
+            counts.push((format!("opened {}", which.name()), opened));
+        }
+        counts
+    }
+
+    /// How often names that need a parenthesis were used so.
+    fn sum(&self, how: Use) -> u64 {
+        let counts = NEED_PARENTHESIS.iter().map(|&which| self.used(how, which));
+        counts.sum()
+    }
+}
