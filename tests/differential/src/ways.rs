@@ -105,6 +105,13 @@ impl Ways {
         self.uses[how as usize][which as usize] += 1;
     }
 
+    /// Adds the counts of others.
+    pub fn add(&mut self, others: &Ways) {
+        let counts = self.ways.iter_mut().chain(self.uses.as_flattened_mut());
+        let more = others.ways.iter().chain(others.uses.as_flattened());
+        counts.zip(more).for_each(|(count, more)| *count += more);
+    }
+
     /// How often a name was used so.
     pub fn used(&self, how: Use, which: Predefined) -> u64 {
         self.uses[how as usize][which as usize]
