@@ -13,13 +13,14 @@ use Rattle.rules.specs.Macros.{called}
 use Rattle.rules.specs.Run.{Setting}
 use Rattle.rules.specs.Source.{ahead}
 use Rattle.rules.specs.State.{Call, State, taking, withSource}
-use Rattle.rules.specs.Step.{NameUse, plain, nameUse, named, act, step}
+use Rattle.rules.specs.Step.{NameUse, nameUse, named, act, step}
+use Rattle.rules.specs.Step as rule
 use Rattle.rules.specs.Table.{Meaning, meaningOf}
 use Rattle.expander.specs.declared.events.Role.{Role}
 use Rattle.expander.specs.declared.events.Role.the-variants as role
 use Rattle.expander.specs.declared.events.Event.{Event}
 use Rattle.expander.specs.declared.events.Event.the-variants as event
-use Rattle.expander.specs.declared.events.Plain.the-variants as plainly
+use Rattle.expander.specs.declared.events.Plain.the-variants as plain
 use Rattle.expander.specs.declared.events.Special.the-variants as special
 use Rattle.expander.specs.declared.machine.Machine.{Machine}
 use Rattle.expander.specs.declared.source.Position.{Position}
@@ -46,10 +47,10 @@ module _ {e w : Event} (q : e ≡ w) where
 
 -- what a byte in a call calls for, by its role
 unfoldable pub roleEvent : ℕ → Role → Event
-roleEvent x role.Dropped = event.Plain plainly.Skip
-roleEvent x (role.Collected depth) = event.Plain (plainly.Collect x depth)
+roleEvent x role.Dropped = event.Plain plain.Skip
+roleEvent x (role.Collected depth) = event.Plain (plain.Collect x depth)
 roleEvent x role.Closes = event.Special special.Close
-roleEvent x role.Separates = event.Plain plainly.Separate
+roleEvent x role.Separates = event.Plain plain.Separate
 
 pub role-within :
     (text pending : Bytes) (m : Machine) (x : ℕ) (w : Role) → 0 < m .calls .opens → 1 ≤ aheadOf text pending (m .source)
@@ -62,7 +63,7 @@ role-within text pending m x role.Separates o h = (h, o)
 
 module _ {a : Setting} {b : Memory} {m : Machine} {s : State} (r : Means a b m s) (x : ℕ) (e : step s ≡ act (token.Byte x) s) where
   -- no call is open
-  pub emit-is : m .calls .opens ≡ 0 → EventIs s (event.Plain (plainly.Emit x))
+  pub emit-is : m .calls .opens ≡ 0 → EventIs s (event.Plain (plain.Emit x))
   unfolding EventIs PlainIs act taking withSource
   emit-is z = e ∙ byte-none x (taking 1 s) (no-calls r z)
 
@@ -93,20 +94,20 @@ module _ (s : State) (n : ℕ) (e : step s ≡ act (token.Name n) s) {g : Looked
   unfolding act
   used q = e ∙ ap (λ (u : NameUse). named u (take n (ahead (s .source))) n s) q
 
-  plain-is : nameUse (take n (ahead (s .source))) n s ≡ plain → EventIs s (event.Plain (plainly.Deliver 0 n n))
+  plain-is : nameUse (take n (ahead (s .source))) n s ≡ rule.plain → EventIs s (event.Plain (plain.Deliver 0 n n))
   unfolding EventIs PlainIs named
   plain-is q = used q
 
-  pub undefined-is : g ≡ looked.Undefined → EventIs s (event.Plain (plainly.Deliver 0 n n))
+  pub undefined-is : g ≡ looked.Undefined → EventIs s (event.Plain (plain.Deliver 0 n n))
   unfolding nameUse
   undefined-is q = plain-is (used-undefined f _ q)
 
   module _ (d : g ≡ looked.Undefined → ⊥) {t : Bool} (p : t ≡ eqb (getD (ahead (s .source)) n 0) 40) where
-    pub open-is : t ≡ true → EventIs s (event.Plain (plainly.Open n))
+    pub open-is : t ≡ true → EventIs s (event.Plain (plain.Open n))
     unfolding EventIs PlainIs nameUse named
     open-is q = used (used-opening f _ (known f d) (sym p ∙ q))
 
-    pub unopened-is : t ≡ false → plainUnopened g ≡ true → EventIs s (event.Plain (plainly.Deliver 0 n n))
+    pub unopened-is : t ≡ false → plainUnopened g ≡ true → EventIs s (event.Plain (plain.Deliver 0 n n))
     unfolding nameUse
     unopened-is q h = plain-is (used-plain f _ (known f d) (sym p ∙ q) h)
 
@@ -124,11 +125,11 @@ module _ (s : State) {t : Token} (e : step s ≡ act t s) where
   unfolding EventIs SpecialIs act
   end-is q = e ∙ acts q s
 
-  pub comment-is : {n : ℕ} → t ≡ token.Comment n → EventIs s (event.Plain (plainly.Deliver 0 n n))
+  pub comment-is : {n : ℕ} → t ≡ token.Comment n → EventIs s (event.Plain (plain.Deliver 0 n n))
   unfolding EventIs PlainIs act
   comment-is q = e ∙ acts q s
 
-  pub quoted-is : {i j n : ℕ} → t ≡ token.Quoted i j n → EventIs s (event.Plain (plainly.Deliver i (j - i) n))
+  pub quoted-is : {i j n : ℕ} → t ≡ token.Quoted i j n → EventIs s (event.Plain (plain.Deliver i (j - i) n))
   unfolding EventIs PlainIs act
   quoted-is q = e ∙ acts q s
 

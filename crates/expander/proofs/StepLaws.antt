@@ -226,11 +226,11 @@ known {r = looked.Predefined k} f g = record { meaning = _; is = f .is; finds = 
 known {r = looked.Undefined} f g = absurd (g refl)
 
 -- one that no parenthesis follows
-unopened-is : {ds : List Definition} {m : Meaning} (r : Looked) → Finds ds (some m) r → unopened m ≡ cond (plainUnopened r) plain (bare m)
+unopened-found : {ds : List Definition} {m : Meaning} (r : Looked) → Finds ds (some m) r → unopened m ≡ cond (plainUnopened r) plain (bare m)
 unfolding unopened meaningFor plainUnopened
-unopened-is {ds} {m} (looked.Text i) f = rw (Option·some-injective m _ (f .is), unopened)
-unopened-is {ds} {m} (looked.Predefined k) f = rw (Option·some-injective m _ (f .is), unopened)
-unopened-is looked.Undefined f = absurd (Option·none-ne-some _ (sym (f .is)))
+unopened-found {ds} {m} (looked.Text i) f = rw (Option·some-injective m _ (f .is), unopened)
+unopened-found {ds} {m} (looked.Predefined k) f = rw (Option·some-injective m _ (f .is), unopened)
+unopened-found looked.Undefined f = absurd (Option·none-ne-some _ (sym (f .is)))
 
 -- what a name does where it is read, by what looking it up answered
 module _ {ds : List Definition} {o : Option Meaning} {r : Looked} (f : Finds ds o r) (t : Bool) where
@@ -249,7 +249,7 @@ module _ {ds : List Definition} {o : Option Meaning} {r : Looked} (f : Finds ds 
     module _ (e : t ≡ false) where
       used-unopened : usedWith o t ≡ cond (plainUnopened r) plain (bare (k .meaning))
       unfolding usedWith
-      used-unopened = used-known ∙ rw (e, usedWith) (unopened-is r (k .finds))
+      used-unopened = used-known ∙ rw (e, usedWith) (unopened-found r (k .finds))
 
       pub used-plain : plainUnopened r ≡ true → usedWith o t ≡ plain
       used-plain p = used-unopened ∙ rw p

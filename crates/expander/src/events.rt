@@ -139,7 +139,8 @@ fn byte_event(stack: &[u32], m: Machine, x: u8) -> Event
     }
 }
 
-// Whether a name of this meaning is plain text where no parenthesis follows.
+// Whether a name of this meaning is plain text where no parenthesis follows. (One that means nothing is so with a parenthesis too, and
+// `name_event` has asked for that before.)
 fn plain_unopened(meaning: Meaning) -> bool
     ensures { λ r. ⌜ r ≡ plainUnopened meaning ⌝ }
 {

@@ -1,4 +1,5 @@
--- Which predefined macros are called bare: the list of 02, request 2, as numbers. Assumes nothing.
+-- Which predefined macros need a parenthesis, and which are called bare: the list of 02, request 2, read both ways and as numbers. Assumes
+-- nothing.
 use Prim.Native.Nat.{ℕ, zero, suc, _+_, _≤_, _<_}
 use native.Mathlib.Omega.{arith}
 use mathlib.Core.Path.{_≡_, refl, sym, ap, _∙_}

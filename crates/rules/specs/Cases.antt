@@ -1,4 +1,5 @@
--- The worked texts that 01 marks P, every one and no other text, the four traps of the old box, and texts of 02's requests, as cases that are computed.
+-- The worked texts that 01 marks P (every one and no other text), the four traps of the old box, and texts of 02's requests, as cases that
+-- are computed.
 use Prim.Native.Nat.{ℕ, suc}
 use Prim.Native.String.{String}
 use mathlib.Core.Bool.{Bool, true, false, _&&_}
@@ -120,13 +121,16 @@ trapCases =
     ∷ case "changequote(`|',`|')|a|" ample (answers 0 0 7 23 "a")
     ∷ []
 
--- 02, request 2: its own text; a parenthesis behind a blank, and one that comes from the input behind pending text; the meaning counts
--- and not the name; one of the other seven
+-- 02, request 2: its own text; a plain word that an argument collects, so that the blank behind it stays; a parenthesis behind a blank,
+-- one that comes from the input behind pending text, and one in wrap text that still waits; the meaning counts and not the name; one of
+-- the other seven
 unfoldable pub wordCases : List Case
 wordCases =
     case "the len of the boom" ample (answers 0 0 10 19 "the len of the boom")
+    ∷ case "len(define a)" ample (answers 0 0 7 13 "8")
     ∷ case "len (a)" ample (answers 0 0 6 7 "len (a)")
     ∷ case "define(`p',`len')p()(a)" ample (answers 0 0 12 23 "1")
+    ∷ case "m4wrap(`(a)')len" ample (answers 0 0 9 16 "len(a)")
     ∷ case "define(`len',`x')len" ample (answers 0 0 8 20 "x")
     ∷ case "divnum" ample (answers 0 0 3 6 "0")
     ∷ []

@@ -70,17 +70,18 @@ unfoldable pub unopened : Meaning → NameUse
 unopened (text w) = bare (text w)
 unopened (predefined k) = cond (needsParenthesis k) plain (bare (predefined k))
 
--- by its meaning, and whether `(` directly follows: 01 "A defined name directly followed by `(` opens a call"
+-- the use of a name, by its meaning and by whether `(` directly follows: 01 "A defined name directly followed by `(` opens a call"
 unfoldable pub usedWith : Option Meaning → Bool → NameUse
 usedWith none follows = plain
 usedWith (some m) true = opening
 usedWith (some m) false = unopened m
 
--- the name's that ends there in the text ahead
+-- the use of the name that ends at `end` in the text ahead
 unfoldable pub nameUse : Bytes → ℕ → State → NameUse
 nameUse name end s = usedWith (meaningOf name (s .table)) (eqb (getD (ahead (s .source)) end 0) 40)
 
--- 01 "and that byte belongs to the same step"
+-- 02 "shall stand as plain text": a token that stands for itself; 01 "opens a call, and that byte belongs to the same step"; 01 "is called
+-- at once without arguments"
 unfoldable pub named : NameUse → Bytes → ℕ → State → Outcome
 named plain name end s = next (delivered name (s .calls) (taking end s))
 named opening name end s = opened name (taking (suc end) s)
