@@ -1,8 +1,8 @@
 """Random texts on which document 01 and GNU m4 have one rule: texts.text(seed) gives the bytes of one, the same for the same seed.
 
 docs/GNU.md lists the rules that differ; the texts keep clear of them by the way they are made:
-- No name that GNU m4 has beside the 24 is written. A text covers a predefined name only as long as nothing else is called by it. More than an empty
-  quote stands between a predefined name and a parenthesis that is none of its own: in an argument the quote would be gone when the text is read again.
+- No name that GNU m4 has beside the 24 is written. A text covers a predefined name only where nothing in between calls it. In calls more than an empty
+  quote stands between a predefined name and a parenthesis that is none of its own: the quote would be gone when the text is read again.
 - The first token of every argument, quoted text and defined text is solid: a word, number, sign, quote, or a call whose result starts
   with such a token. So no call that gives nothing, or a blank first, stands in front of an argument's blanks.
 - A name is defined, pushed or removed outside of calls; inside of them only names that are called nowhere inside.

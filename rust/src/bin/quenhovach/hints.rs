@@ -79,6 +79,8 @@ pub struct Own<'t> {
     pub taker: Option<&'t str>,
     /// Its only definition is a number with a point.
     pub point: Option<&'t str>,
+    /// A definition of it was taken away, and none has been made since: it may mean something else, or nothing.
+    pub popped: bool,
 }
 
 /// The names of which the text makes something.
@@ -171,6 +173,7 @@ mod tests {
             ),
             ("define(`f', `$1')f \t(1)", 17, called("f")),
             ("pushdef(`len', `$1')len (1)", 20, called("len")),
+            ("popdef(`f')define(`f', `$1')f (1)", 28, called("f")),
             ("len (`a')pushdef(`len', `$1')", 0, Kind::Gap(gap("len"))),
             ("divert (1)", 0, called("divert")),
             ("we divert the cable", 3, Kind::Bare("divert")),
@@ -251,6 +254,8 @@ mod tests {
             "eval(len(index))",
             "undefine(`shift')shift (`a')",
             "define(`f', `x')f (1)",
+            "define(`f', `$1')f(1)undefine(`f')f (1)",
+            "pushdef(`len', `$1')len(1)popdef(`len')len (`a')",
             "divnum words",
             "the divnum of it",
             "m4exit dnl",

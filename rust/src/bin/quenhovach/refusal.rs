@@ -240,9 +240,9 @@ fn fixed_words(answer: Answer) -> (&'static str, &'static str) {
         ),
         Answer::Expression => (
             "eval can't read its expression",
-            "look for a decimal point (there are whole numbers only), a name that is not defined, 08 or 09 (a leading 0 means octal), \
-             -- or ++, a CR at a line's end, a missing operand or parenthesis, a number above 4294967295, or more than 32 \
-             parentheses and signs in each other",
+            "look for a decimal point (there are whole numbers only), a name that is not defined or a predefined one without (, \
+             08 or 09 (a leading 0 means octal), -- or ++, a CR at a line's end, a missing operand or parenthesis, \
+             a number above 4294967295, or more than 32 parentheses and signs in each other",
         ),
         Answer::Divisor => (
             "eval would divide by zero, or shift by a count outside 0 to 31",

@@ -247,7 +247,8 @@ impl<'t> Scan<'t> {
         let blanks = self.run_of(self.at, is_blank);
         let behind = self.at + blanks.len();
         if !blanks.is_empty() && self.text.get(behind) == Some(&b'(') {
-            if !predefined || self.may_be_meant(place, name, behind + 1) {
+            let popped = self.own.get(name).is_some_and(|own| own.popped);
+            if !popped && (!predefined || self.may_be_meant(place, name, behind + 1)) {
                 self.note(place, Kind::Gap(self.gap(name, blanks)));
             }
             return;
@@ -320,7 +321,7 @@ impl<'t> Scan<'t> {
             "define" | "pushdef" => frame.defines = self.definition().or(around.defines),
             "undefine" | "popdef" => {
                 let name = self.argument_name();
-                self.own.entry(name).or_default();
+                self.own.entry(name).or_default().popped = true;
             }
             "eval" | "incr" | "decr" => {
                 frame.taker = Some(name);
@@ -369,6 +370,7 @@ impl<'t> Scan<'t> {
         let first = !self.own.contains_key(name);
         let own = self.own.entry(name).or_default();
         own.point = point.filter(|_| first);
+        own.popped = false;
         Some(name)
     }
 
