@@ -1,12 +1,13 @@
 //! Takes the steps of a run once more, with the model, and notes the ways of request 2 of 02. What a
 //! name did is told by what its step did, not by the rule.
 
-use crate::front::{Front, Kind, Name};
+use crate::name::{Kind, Name};
 use crate::ways::{keeps_bare_call, Use, Way, Ways};
 use model::bytes::is_blank;
 use model::macros::Predefined;
 use model::state::State;
 use model::step::step;
+use model::tokens::{next, Token};
 use model::Report;
 
 /// Longer runs are not looked at: they take long and show no more.
@@ -62,39 +63,39 @@ struct Walk<'w, 't> {
 impl Walk<'_, '_> {
     /// Takes a step that the run completed.
     fn completed(&mut self) {
-        let front = Front::of(&self.state);
-        let did = match front {
-            Front::Name(name) => self.name(&name),
+        let read = next(&self.state.ahead, &self.state.marks).expect("a completed step");
+        let did = match read.token {
+            Token::Name(name) => self.name(&Name::of(&self.state, &name)),
             other => self.token(&other),
         };
         self.last = [did, self.last[0]];
     }
 
     /// Takes a token that is no name.
-    fn token(&mut self, front: &Front) -> Did {
-        self.note_parenthesis(front);
+    fn token(&mut self, token: &Token) -> Did {
+        self.note_parenthesis(token);
         let (collecting, held) = (self.state.calls.collecting(), self.state.calls.held());
         step(&mut self.state).expect("a completed step");
         let grew = self.state.calls.held() > held;
-        match *front {
-            Front::Comment => Did::Comment,
-            Front::Quoted => Did::Quoted,
-            Front::Byte(b',') if collecting && !grew => Did::Began,
-            Front::Byte(byte) if is_blank(byte) && collecting && !grew => Did::Dropped,
-            Front::Byte(byte) if is_blank(byte) => {
+        match *token {
+            Token::Comment(_) => Did::Comment,
+            Token::Quoted(_) => Did::Quoted,
+            Token::Byte(b',') if collecting && !grew => Did::Began,
+            Token::Byte(byte) if is_blank(byte) && collecting && !grew => Did::Dropped,
+            Token::Byte(byte) if is_blank(byte) => {
                 if self.last[0] == (Did::Plain { first: true }) {
                     self.ways.note(Way::BlankKept);
                 }
                 Did::Blank(byte)
             }
-            Front::Byte(_) if grew => Did::Collected,
+            Token::Byte(_) if grew => Did::Collected,
             _ => Did::Other,
         }
     }
 
     /// A left parenthesis that stands behind a plain word and one token more.
-    fn note_parenthesis(&mut self, front: &Front) {
-        let (Front::Byte(b'('), [between, Did::Plain { .. }]) = (front, self.last) else {
+    fn note_parenthesis(&mut self, token: &Token) {
+        let (Token::Byte(b'('), [between, Did::Plain { .. }]) = (token, self.last) else {
             return;
         };
         match between {
@@ -198,11 +199,15 @@ impl Walk<'_, '_> {
 
     /// Looks at the step that was refused, if one was.
     fn refused(&mut self, report: &Report) {
-        match (report.number, Front::of(&self.state)) {
-            (5, Front::End) if matches!(self.last[0], Did::Plain { .. }) => {
+        let Ok(read) = next(&self.state.ahead, &self.state.marks) else {
+            return;
+        };
+        match (report.number, read.token) {
+            (5, Token::End) if matches!(self.last[0], Did::Plain { .. }) => {
                 self.ways.note(Way::EndInCall);
             }
-            (3 | 4, Front::Name(name)) => {
+            (3 | 4, Token::Name(name)) => {
+                let name = Name::of(&self.state, &name);
                 if let Some((Use::Plain, _)) = self.take(&name) {
                     self.note_refused(report);
                 }
