@@ -3,6 +3,7 @@
 
 use crate::name::{Kind, Name};
 use crate::ways::{keeps_bare_call, Use, Way, Ways};
+use model::answer::Refusal;
 use model::bytes::is_blank;
 use model::macros::Predefined;
 use model::state::State;
@@ -110,7 +111,7 @@ impl Walk<'_, '_> {
 
     fn name(&mut self, name: &Name) -> Did {
         let collecting = self.state.calls.collecting();
-        if let Some((how, which)) = self.take(name) {
+        if let Some((how, which)) = self.take(name).expect("a completed step") {
             self.ways.note_use(how, which);
             self.covered[which as usize] |= how == Use::Text;
             match how {
@@ -126,11 +127,11 @@ impl Walk<'_, '_> {
         }
     }
 
-    /// Takes the step of a name. Tells what it did if it is one of the 24 and was not refused.
-    fn take(&mut self, name: &Name) -> Option<(Use, Predefined)> {
+    /// Takes the step of a name. Tells what it did if it is a predefined one.
+    fn take(&mut self, name: &Name) -> Result<Option<(Use, Predefined)>, Refusal> {
         let ahead = self.state.ahead.length();
         self.state.called = None;
-        step(&mut self.state).ok()?;
+        step(&mut self.state)?;
         let called = self.state.called.is_some();
         let taken = ahead.checked_sub(self.state.ahead.length());
         let how = match name.kind {
@@ -139,9 +140,9 @@ impl Walk<'_, '_> {
             Kind::Predefined => Use::Plain,
             Kind::Text if !name.opens() => Use::Text,
             Kind::Undefined if name.opens() => Use::Undefined,
-            _ => return None,
+            _ => return Ok(None),
         };
-        name.which.map(|which| (how, which))
+        Ok(name.which.map(|which| (how, which)))
     }
 
     /// A plain word was delivered or collected.
@@ -208,7 +209,8 @@ impl Walk<'_, '_> {
             }
             (3 | 4, Token::Name(name)) => {
                 let name = Name::of(&self.state, &name);
-                if let Some((Use::Plain, _)) = self.take(&name) {
+                // a step for which the budget did not last may be refused anyhow
+                if let Ok(Some((Use::Plain, _))) = self.take(&name) {
                     self.note_refused(report);
                 }
             }
