@@ -24,7 +24,7 @@ pub fn walk(ways: &mut Ways, text: &[u8], report: &Report) {
         ways,
         state: State::at_start(text),
         last: [Did::Other; 2],
-        covered: [false; 24],
+        covered: [false; Predefined::ALL.len()],
     };
     for _ in 0..report.steps {
         walk.completed();
@@ -58,7 +58,7 @@ struct Walk<'w, 't> {
     /// What the last two steps did, the newest first.
     last: [Did; 2],
     /// Which names were texts and called bare.
-    covered: [bool; 24],
+    covered: [bool; Predefined::ALL.len()],
 }
 
 impl Walk<'_, '_> {

@@ -14,7 +14,7 @@ pub fn keeps_bare_call(which: Predefined) -> bool {
     !NEED_PARENTHESIS.contains(&which)
 }
 
-/// What one of the 24 names did.
+/// What a predefined name did.
 #[derive(Clone, Copy, Debug, PartialEq, Eq)]
 pub enum Use {
     /// Its meaning is predefined, and it stood for itself.
@@ -93,7 +93,7 @@ const WAYS: [(Way, &str); 26] = [
 #[derive(Default)]
 pub struct Ways {
     ways: [u64; WAYS.len()],
-    uses: [[u64; 24]; 5],
+    uses: [[u64; Predefined::ALL.len()]; 5],
 }
 
 impl Ways {
