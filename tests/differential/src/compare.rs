@@ -35,15 +35,15 @@ fn compare_all(progress: &Progress, seed: u64, count: u64, first: u64) -> bool {
         progress.at(index);
         let case = case(seed, index);
         let (expected, trace) = expand_traced(&case.text, &case.setting);
-        if let Err(what) = arenas.try_case(&case, &expected) {
+        tally.add(&expected, &trace);
+        let ways = tally.add_ways(&case.text, &expected);
+        if let Err(what) = arenas.try_case(&case, &expected).and(ways) {
             tell(seed, index, &what);
             failed += 1;
             if failed == PATIENCE {
                 return false;
             }
         }
-        tally.add(&expected, &trace);
-        tally.add_ways(&case.text, &expected);
     }
     tally.print();
     let missing = tally.missing();

@@ -33,7 +33,6 @@ mod fences;
 mod generate;
 mod judge;
 mod memcheck;
-mod name;
 mod names;
 mod noise;
 mod noted;
@@ -44,8 +43,6 @@ mod setting;
 mod shrink;
 mod supervise;
 mod tally;
-mod walk;
-mod ways;
 
 use memcheck::Mistake;
 use std::process::ExitCode;

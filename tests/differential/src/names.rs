@@ -3,9 +3,8 @@
 
 use crate::arenas::Arenas;
 use crate::case::{line, Case};
-use crate::walk::walk;
-use crate::ways::{keeps_bare_call, Use, Ways};
 use model::macros::Predefined;
+use model::ways::{keeps_bare_call, Use, Ways};
 use model::{expand, expand_traced, Report, Setting, Trace};
 
 /// A text with a name in it: `@` stands for the name, `<` and `>` for its first byte and the others,
@@ -108,13 +107,13 @@ impl Table {
     }
 
     fn try_case(&mut self, ways: &mut Ways, text: &str, setting: Setting, expected: Report) {
-        walk(ways, text.as_bytes(), &expected);
+        let walked = ways.walk(text.as_bytes(), &expected);
         let case = Case {
             text: text.into(),
             setting,
             salt: self.passed as u64,
         };
-        match self.arenas.try_case(&case, &expected) {
+        match self.arenas.try_case(&case, &expected).and(walked) {
             Ok(()) => self.passed += 1,
             Err(what) => {
                 println!("{text:?}: {what}\n{}", line("words", &case, expected));

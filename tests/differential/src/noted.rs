@@ -2,8 +2,7 @@
 //! takes.
 
 use crate::tally::Tally;
-use crate::walk::walk;
-use crate::ways::Ways;
+use model::ways::Ways;
 use model::{expand, Setting};
 
 const WITH_AMPLE_ROOM: [&str; 25] = [
@@ -70,13 +69,9 @@ fn takes(said: &str, setting: &Setting) -> bool {
     let (text, said) = said.split_once(" -> ").expect("a text and its ways");
     let mut said: Vec<&str> = said.split(" + ").collect();
     let mut ways = Ways::default();
-    walk(
-        &mut ways,
-        text.as_bytes(),
-        &expand(text.as_bytes(), setting),
-    );
+    let wrong = ways.walk(text.as_bytes(), &expand(text.as_bytes(), setting));
     let counts = ways.counts().into_iter().filter(|(_, count)| *count > 0);
-    let mut taken: Vec<String> = counts.map(|(way, _)| way).collect();
+    let mut taken: Vec<String> = counts.map(|(way, _)| way).chain(wrong.err()).collect();
     said.sort();
     taken.sort();
     if taken != said {

@@ -1,12 +1,13 @@
 //! How many cases ended how, and what they reached. What no case reached is not tested.
 
-use crate::walk::walk;
-use crate::ways::Ways;
 use model::macros::Predefined;
+use model::ways::Ways;
 use model::{Report, Trace};
 
 /// From so many cases on everything must be reached.
 pub const ENOUGH: u64 = 20_000;
+/// The ways of longer runs are not looked at: they take long and show no more.
+const MOST_STEPS: u32 = 100;
 
 #[derive(Default)]
 pub struct Tally {
@@ -34,9 +35,13 @@ impl Tally {
         self.crossings += trace.crossings;
     }
 
-    /// Adds the ways of a run, which takes its steps once more.
-    pub fn add_ways(&mut self, text: &[u8], report: &Report) {
-        walk(&mut self.ways, text, report);
+    /// Adds the ways of a run, which takes its steps once more. Fails if the model breaks the rule
+    /// of 02.
+    pub fn add_ways(&mut self, text: &[u8], report: &Report) -> Result<(), String> {
+        if report.steps > MOST_STEPS {
+            return Ok(());
+        }
+        self.ways.walk(text, report)
     }
 
     /// Every count with its name.

@@ -8,7 +8,7 @@
 //! The modules follow the paper: [`bytes`], [`marks`] and [`tokens`] read; [`calls`],
 //! [`definitions`], [`streams`] and [`ahead`] hold; [`numbers`], [`eval`], [`expansion`] and
 //! [`macros`] work; [`step`] and [`run`] join them. [`table`], [`random`], [`generate`] and
-//! [`demand3`] serve the programs `vectors` and `random`.
+//! [`demand3`] serve the programs `vectors` and `random`, [`ways`] serves tests.
 
 pub mod ahead;
 pub mod answer;
@@ -29,6 +29,7 @@ pub mod step;
 pub mod streams;
 pub mod table;
 pub mod tokens;
+pub mod ways;
 
 pub use answer::{Report, Setting};
 pub use run::{expand, expand_buffers, expand_traced, Trace};

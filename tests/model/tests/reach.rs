@@ -1,13 +1,12 @@
 //! The generator reaches every answer, every detail of 4 and 5, every macro and every way of request
 //! 2, and the third demand holds on random pairs.
 
-mod ways;
-
 use model::demand3::{pair, try_pair};
 use model::generate::case;
+use model::macros::Predefined;
 use model::random::Random;
+use model::ways::{Use, Way, Ways, NEED_PARENTHESIS};
 use model::{expand, expand_traced, Setting};
-use ways::{Ways, WORDS};
 
 #[test]
 fn everything_is_reached() {
@@ -31,29 +30,36 @@ fn everything_is_reached() {
     assert!(calls.iter().all(|&count| count > 0), "{calls:?}");
 }
 
-/// 02, request 2: each word as plain text, outside calls and inside, parted from a parenthesis, with
-/// its parenthesis across the border, covered by a text and uncovered.
+/// 02, request 2: each word as plain text, outside calls and inside, parted from a parenthesis by a
+/// blank, a quote and a comment, with its parenthesis across the border, and uncovered.
+const OF_EACH_WORD: [&[Way]; 7] = [
+    &[Way::ToOutput, Way::ToStream, Way::Discarded],
+    &[Way::FirstInArgument, Way::BehindDropped, Way::BehindToken],
+    &[Way::SpaceBetween, Way::TabBetween, Way::NewlineBetween],
+    &[Way::QuoteBetween],
+    &[Way::CommentBetween],
+    &[Way::OpenedAtBorder],
+    &[Way::PlainAgain],
+];
+
 #[test]
 fn every_way_of_a_plain_word_is_reached() {
     let mut random = Random::new(1);
     let mut ways = Ways::default();
     for _ in 0..4_000 {
         let case = case(&mut random);
-        let steps = expand(&case.text, &case.setting).steps;
-        ways.watch(&case.text, steps);
+        let verdict = ways.walk(&case.text, &expand(&case.text, &case.setting));
+        assert_eq!(verdict, Ok(()), "{}", String::from_utf8_lossy(&case.text));
     }
-    let reached = |counts: &[u64]| counts.iter().all(|&count| count > 0);
-    assert!(reached(&ways.delivered), "{ways:?}");
-    assert!(reached(&ways.collected), "{ways:?}");
-    assert!(reached(&ways.parted), "{ways:?}");
-    assert!(reached(&ways.opened_over_the_border), "{ways:?}");
-    assert!(reached(&ways.covered), "{ways:?}");
-    // A text that covers popdef stays: no other macro uncovers.
-    let can_be_uncovered: Vec<u64> = (0..WORDS.len())
-        .filter(|&word| WORDS[word] != "popdef")
-        .map(|word| ways.uncovered[word])
-        .collect();
-    assert!(reached(&can_be_uncovered), "{ways:?}");
+    for word in NEED_PARENTHESIS {
+        assert!(ways.used(Use::Text, word) > 0, "{word:?} is never covered");
+        for any in OF_EACH_WORD {
+            // A text that covers popdef stays: no other macro uncovers.
+            let stays = word == Predefined::Popdef && any.contains(&Way::PlainAgain);
+            let taken = any.iter().any(|&way| ways.taken(way, word) > 0);
+            assert!(taken || stays, "{word:?} never takes {any:?}");
+        }
+    }
 }
 
 #[test]

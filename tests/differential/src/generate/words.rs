@@ -1,8 +1,8 @@
 //! The smallest pieces of texts: names, words, numbers, marks, odd bytes.
 
 use crate::random::Random;
-use crate::ways::NEED_PARENTHESIS;
 use model::macros::Predefined;
+use model::ways::NEED_PARENTHESIS;
 
 const NAMES: [&str; 18] = [
     "a",

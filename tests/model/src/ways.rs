@@ -1,9 +1,15 @@
 //! The ways of request 2 of 02: names of predefined meanings that stand as plain text, open a call
-//! or are called bare, and how often each of them was taken.
+//! or are called bare, and how often each of them was taken. Tests look here at runs from outside.
 
-use model::macros::Predefined::{self, *};
+mod name;
+mod walk;
 
-/// 02: these "shall stand as plain text unless `(` directly follows".
+use crate::macros::Predefined::{self, *};
+use crate::Report;
+use walk::Walk;
+
+/// 02: these "shall stand as plain text unless `(` directly follows". The list is the paper's, and
+/// the model's own rule is held to it.
 pub const NEED_PARENTHESIS: [Predefined; 17] = [
     Decr, Define, Defn, Errprint, Eval, Ifdef, Ifelse, Incr, Index, Len, M4wrap, Popdef, Pushdef,
     Shift, Substr, Translit, Undefine,
@@ -30,7 +36,7 @@ pub enum Use {
 }
 
 /// Where a plain word, or the `(` of a call, stood, and what came of it.
-#[derive(Clone, Copy)]
+#[derive(Clone, Copy, Debug, PartialEq, Eq)]
 pub enum Way {
     ToOutput,
     ToStream,
@@ -89,27 +95,46 @@ const WAYS: [(Way, &str); 26] = [
     (Way::EndInCall, "plain, then unclosed"),
 ];
 
-/// How often each way was taken.
+/// A count for each predefined name.
+type Counts = [u64; Predefined::ALL.len()];
+
+/// How often each name took each way.
 #[derive(Default)]
 pub struct Ways {
-    ways: [u64; WAYS.len()],
-    uses: [[u64; Predefined::ALL.len()]; 5],
+    ways: [Counts; WAYS.len()],
+    uses: [Counts; 5],
 }
 
 impl Ways {
-    pub fn note(&mut self, way: Way) {
-        self.ways[way as usize] += 1;
+    /// Notes what the run of a text did that ended in this report. Fails if a name did not do what
+    /// 02 asks.
+    pub fn walk(&mut self, text: &[u8], report: &Report) -> Result<(), String> {
+        let mut walk = Walk::at_start(self, text);
+        for _ in 0..report.steps {
+            walk.completed();
+        }
+        walk.refused(report);
+        walk.verdict
     }
 
-    pub fn note_use(&mut self, how: Use, which: Predefined) {
+    fn note(&mut self, way: Way, which: Predefined) {
+        self.ways[way as usize][which as usize] += 1;
+    }
+
+    fn note_use(&mut self, how: Use, which: Predefined) {
         self.uses[how as usize][which as usize] += 1;
     }
 
     /// Adds the counts of others.
     pub fn add(&mut self, others: &Ways) {
-        let counts = self.ways.iter_mut().chain(self.uses.as_flattened_mut());
-        let more = others.ways.iter().chain(others.uses.as_flattened());
+        let counts = self.ways.iter_mut().chain(&mut self.uses).flatten();
+        let more = others.ways.iter().chain(&others.uses).flatten();
         counts.zip(more).for_each(|(count, more)| *count += more);
+    }
+
+    /// How often a name took a way.
+    pub fn taken(&self, way: Way, which: Predefined) -> u64 {
+        self.ways[way as usize][which as usize]
     }
 
     /// How often a name was used so.
@@ -119,7 +144,7 @@ impl Ways {
 
     /// Every count that must not stay 0, with its name.
     pub fn counts(&self) -> Vec<(String, u64)> {
-        let ways = WAYS.map(|(way, name)| (name.to_string(), self.ways[way as usize]));
+        let ways = WAYS.map(|(way, name)| (name.to_string(), self.ways[way as usize].iter().sum()));
         let mut counts = ways.to_vec();
         counts.push(("text over it, bare".to_string(), self.sum(Use::Text)));
         counts.push(("undefined before (".to_string(), self.sum(Use::Undefined)));
