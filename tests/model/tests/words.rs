@@ -2,13 +2,8 @@
 //! plain text unless `(` directly follows. The other seven keep their bare call." Every answer below
 //! is worked out by hand from the papers, a step for each token; room is ample unless said.
 
+use model::ways::NEED_PARENTHESIS;
 use model::{expand, Report, Setting};
-
-/// Those of the request's list that 01 knows, in its order.
-const WORDS: [&str; 17] = [
-    "decr", "define", "defn", "errprint", "eval", "ifdef", "ifelse", "incr", "index", "len",
-    "m4wrap", "popdef", "pushdef", "shift", "substr", "translit", "undefine",
-];
 
 fn report([number, detail, steps, place]: [u32; 4], output: &str) -> Report {
     Report {
@@ -40,7 +35,8 @@ fn with_room(text: &str, buffer: usize, length: usize) -> Report {
 
 #[test]
 fn each_word_alone_is_itself() {
-    for word in WORDS {
+    for which in NEED_PARENTHESIS {
+        let word = which.name();
         let got = expand(word.as_bytes(), &Setting::ample());
         assert_eq!(got, report([0, 0, 2, word.len() as u32], word));
     }
