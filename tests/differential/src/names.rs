@@ -16,7 +16,7 @@ const KEPT: &[Use] = &[Use::Plain, Use::Bare, Use::Opened];
 const WAITING: &[Use] = &[Use::Plain, Use::Bare];
 const UNCOVERED: &[Use] = &[Use::Text, Use::Plain, Use::Bare, Use::Opened];
 
-const PLACES: [Place; 23] = [
+const PLACES: [Place; 25] = [
     // outside of calls
     ("@~", KEPT),
     ("a 1@~ z", KEPT),
@@ -45,6 +45,9 @@ const PLACES: [Place; 23] = [
     ("pushdef(`@',`[]')@`'popdef(`@')@~", UNCOVERED),
     ("define(`@',`[$1]')@~", &[Use::Text]),
     ("undefine(`@')@~", &[Use::Undefined]),
+    // another meaning at closing, or none
+    ("@(define(`@',`x'))~", &[Use::Opened]),
+    ("@(undefine(`@'))~", &[Use::Opened]),
 ];
 const FOLLOWERS: [&str; 18] = [
     "", "(", "()", "(2)", " (2)", "\t(2)", "\n(2)", "`'", "`'(2)", "`(2)'", "#c\n", "#c\n(2)", ",",
