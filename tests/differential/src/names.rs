@@ -9,14 +9,14 @@ use model::{expand, expand_traced, Report, Setting, Trace};
 
 /// A text with a name in it: `@` stands for the name, `<` and `>` for its first byte and the others,
 /// `~` for what follows; and how every name must be used there with one follower or another.
-type Place = (&'static str, &'static [Use]);
+pub type Place = (&'static str, &'static [Use]);
 
 const KEPT: &[Use] = &[Use::Plain, Use::Bare, Use::Opened];
 /// The follower is not ahead yet when the name is read.
 const WAITING: &[Use] = &[Use::Plain, Use::Bare];
 const UNCOVERED: &[Use] = &[Use::Text, Use::Plain, Use::Bare, Use::Opened];
 
-const PLACES: [Place; 25] = [
+pub const PLACES: [Place; 25] = [
     // outside of calls
     ("@~", KEPT),
     ("a 1@~ z", KEPT),
@@ -49,7 +49,7 @@ const PLACES: [Place; 25] = [
     ("@(define(`@',`x'))~", &[Use::Opened]),
     ("@(undefine(`@'))~", &[Use::Opened]),
 ];
-const FOLLOWERS: [&str; 18] = [
+pub const FOLLOWERS: [&str; 18] = [
     "", "(", "()", "(2)", " (2)", "\t(2)", "\n(2)", "`'", "`'(2)", "`(2)'", "#c\n", "#c\n(2)", ",",
     ")", "7(2)", "_(2)", "x(2)", "$(2)",
 ];
@@ -126,7 +126,7 @@ impl Table {
     }
 }
 
-fn filled(place: &str, name: &str, follower: &str) -> String {
+pub fn filled(place: &str, name: &str, follower: &str) -> String {
     let (first, others) = name.split_at(1);
     let parts = [('@', name), ('<', first), ('>', others), ('~', follower)];
     parts.iter().fold(place.to_string(), |text, (sign, part)| {
