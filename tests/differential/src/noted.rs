@@ -36,7 +36,8 @@ const WITH_AMPLE_ROOM: [&str; 25] = [
         + plain len",
 ];
 
-/// Every text takes just the ways that are said, and a way that no run takes is reported as missing.
+/// Every text takes just the ways that are said, and a way that no run takes is reported as
+/// missing.
 pub fn ways_noted() -> bool {
     let ample = Setting::ample();
     let room = |buffer: usize, length| {

@@ -1,8 +1,9 @@
-//! Random texts that reach every macro and every answer of document 01.
+//! Random texts that reach every macro and every answer of document 01, and every way of request 2
+//! of 02.
 //!
 //! A text comes from a grammar of plausible pieces ([`writer`]), from a scenario with a purpose
-//! ([`scenarios`], [`bare`], [`heavy`]), from the table of vectors, from the model's own generator, or is a
-//! soup of words; then some of its bytes may be changed ([`mutate`]).
+//! ([`scenarios`], [`bare`], [`heavy`]), from the table of vectors, from the model's own generator,
+//! or is a soup of words; then some of its bytes may be changed ([`mutate`]).
 
 mod bare;
 pub mod expressions;
