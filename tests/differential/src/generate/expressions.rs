@@ -114,9 +114,12 @@ fn binary(random: &mut Random, wild: usize, depth: usize) -> String {
         "/" | "%" if random.chance(90) => random
             .pick(&["1", "2", "3", "-1", "7", "-7", "0x10"])
             .to_string(),
-        "<<" | ">>" if random.chance(90) => random
-            .pick(&["0", "1", "4", "31", "30", "037", "0x1f"])
-            .to_string(),
+        "<<" | ">>" if random.chance(95) => match random.below(10) {
+            0 => random.pick(&["32", "32", "33", "-1"]).to_string(),
+            _ => random
+                .pick(&["0", "1", "4", "31", "30", "037", "0x1f"])
+                .to_string(),
+        },
         _ => tree(random, wild, depth - 1),
     };
     let gap = if right.starts_with(&operator[operator.len() - 1..]) && !random.chance(wild) {
