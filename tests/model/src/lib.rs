@@ -1,14 +1,15 @@
 //! A plain executable model of the expander that document 01 defines, with the requests 2 and 5 of
 //! document 02.
 //!
-//! It is written from the papers alone and cares for clarity first. Memory comes from the heap; the
-//! seven lent lengths only judge what the state holds after each step, as 01 says: "Room is judged
-//! on the state after a step, not on the way."
+//! Its rules are written from the papers alone and care for clarity first. Memory comes from the
+//! heap; the seven lent lengths only judge what the state holds after each step, as 01 says: "Room
+//! is judged on the state after a step, not on the way."
 //!
 //! The modules follow the paper: [`bytes`], [`marks`] and [`tokens`] read; [`calls`],
 //! [`definitions`], [`streams`] and [`ahead`] hold; [`numbers`], [`eval`], [`expansion`] and
 //! [`macros`] work; [`step`] and [`run`] join them. [`table`], [`random`], [`generate`] and
-//! [`demand3`] serve the programs `vectors` and `random`, [`ways`] serves tests.
+//! [`demand3`] serve the programs `vectors` and `random`. [`ways`] serves tests: it watches runs, and
+//! no rule asks it.
 
 pub mod ahead;
 pub mod answer;
