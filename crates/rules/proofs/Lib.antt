@@ -2,6 +2,7 @@
 pub mod Book
 pub mod Classes
 pub mod Bare
+pub mod Comments
 pub mod Cases
 pub mod Reach
 pub mod Fuel

@@ -134,3 +134,20 @@ wordCases =
     ∷ case "define(`len',`x')len" ample (answers 0 0 8 20 "x")
     ∷ case "divnum" ample (answers 0 0 3 6 "0")
     ∷ []
+
+-- 02, request 3: the end of the text closes, in a stream and in a call, whose right parenthesis the comment takes; waiting wrap text is not
+-- ahead, and the end of wrap text closes too; a comment that pending text begins and the input ends; a newline set by one argument, and one
+-- that is given; another end mark; a quote that a newline ends; the comment's own room
+unfoldable pub commentCases : List Case
+commentCases =
+    case "a#b" ample (answers 0 0 3 3 "a#b")
+    ∷ case "len(#)" ample (answers 5 3 2 6 "")
+    ∷ case "m4wrap(`len(a)')#x" ample (answers 0 0 10 18 "#x1")
+    ∷ case "m4wrap(`#x')y" ample (answers 0 0 7 13 "y#x")
+    ∷ case "define(`f',`#')f g" ample (answers 0 0 8 18 "# g")
+    ∷ case "changecom(`%')%" ample (answers 0 0 5 15 "%")
+    ∷ case "changecom(`%',`\n')%a" ample (answers 0 0 7 20 "%a")
+    ∷ case "changecom(%,;)%a" ample (answers 5 2 5 14 "")
+    ∷ case "changequote([)[a" ample (answers 5 1 3 14 "")
+    ∷ case "#a" (lending 0 0 0 1) (answers 4 7 0 0 "")
+    ∷ []

@@ -8,8 +8,8 @@ use lib.ListN.{length, drop}
 use Rattle.rules.specs.declared.Token.the-variants as token
 use Rattle.rules.specs.declared.Reading.{Reading}
 use Rattle.rules.specs.declared.Reading.the-variants.{Is, OpenQuote, OpenComment}
-use Rattle.rules.specs.Bytes.{Bytes, beginsName, nameLength}
-use Rattle.rules.specs.Marks.{MarkTexts}
+use Rattle.rules.specs.Bytes.{Bytes, sameBytes, beginsName, nameLength}
+use Rattle.rules.specs.Marks.{MarkTexts, newlineMark}
 
 -- a text stands at the front
 unfoldable pub beginsWith : Bytes → Bytes → Bool
@@ -55,15 +55,21 @@ quoteEnd begin end inner zero (x ∷ xs) =
           ]
     ]
 
--- 2: from the begin-comment mark through the next end-comment mark, both kept
-unfoldable pub commentRead : ℕ → ℕ → Option ℕ → Reading
-commentRead begin end none = OpenComment
-commentRead begin end (some n) = Is (token.Comment (begin + (n + end)))
+-- a comment that no end mark closes, with `ahead` bytes from its begin mark to the end of the text ahead: 02, request 3 "Where the
+-- end-comment mark is a newline, the end of the text ahead closes the comment too, and nothing is added. Any other end mark still refuses
+-- with detail 2"
+unfoldable pub commentToEnd : Bytes → ℕ → Reading
+commentToEnd end ahead = elim (sameBytes end newlineMark) [ true ↦ Is (token.Comment ahead) | false ↦ OpenComment ]
+
+-- 2: from the begin-comment mark through the next end-comment mark, both kept; the end mark is sought from the place `i` on
+unfoldable pub commentRead : Bytes → ℕ → ℕ → Option ℕ → Reading
+commentRead end ahead i none = commentToEnd end ahead
+commentRead end ahead i (some n) = Is (token.Comment (i + (n + length end)))
 
 unfoldable pub readComment : MarkTexts → Bytes → Reading
 readComment m text =
     let b = length (m .beginComment) in
-    commentRead b (length (m .endComment)) (firstPlace (m .endComment) (drop b text))
+    commentRead (m .endComment) (length text) b (firstPlace (m .endComment) (drop b text))
 
 -- 3: from the begin-quote mark to its matching end mark; "Only the outermost marks go"
 unfoldable pub quoteRead : ℕ → ℕ → QuoteEnd → Reading
