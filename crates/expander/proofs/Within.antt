@@ -10,9 +10,9 @@ use Rattle.rules.specs.declared.Token.{Token}
 use Rattle.rules.specs.declared.Token.the-variants as token
 use Rattle.rules.specs.declared.Reading.{Reading}
 use Rattle.rules.specs.declared.Reading.the-variants.{Is, OpenQuote, OpenComment}
-use Rattle.rules.specs.Bytes.{Bytes, beginsName, nameLength}
-use Rattle.rules.specs.Marks.{MarkTexts}
-use Rattle.rules.specs.Tokens.{beginsWith, later, firstPlace, QuoteEnd, closesAt, leftOpen, oneOn, quoteEnd, commentRead, readToken}
+use Rattle.rules.specs.Bytes.{Bytes, sameBytes, beginsName, nameLength}
+use Rattle.rules.specs.Marks.{MarkTexts, newlineMark}
+use Rattle.rules.specs.Tokens.{beginsWith, later, firstPlace, QuoteEnd, closesAt, leftOpen, oneOn, quoteEnd, commentToEnd, commentRead, readToken}
 use Rattle.expander.specs.declared.tokens.Met.{Met}
 use Rattle.expander.specs.declared.tokens.Met.the-variants.{First, Second, Neither}
 use Rattle.expander.specs.Tokens.{metAt, commentFrom, closedFrom, quotedFrom, plainRead, Within}
@@ -93,14 +93,22 @@ quote-in begin end d zero (x ∷ xs) = go d (beginsWith end (x ∷ xs)) refl (be
     go d false e false f h = rw (quote-same begin end x xs d e f) (h d 0)
 
 -- the tokens behind a begin mark of b bytes, and those with none
+to-end-in : (end text : Bytes) → ReadingIn text (commentToEnd end (length text))
+unfolding commentToEnd
+to-end-in end text = go (sameBytes end newlineMark)
+  where
+    go : (t : Bool) → ReadingIn text (elim t [ true ↦ Is (token.Comment (length text)) | false ↦ OpenComment ])
+    go true = omega arith
+    go false = tt
+
 comment-in : (end text : Bytes) (b : ℕ) → b ≤ length text → ReadingIn text (commentFrom end text b)
 unfolding commentFrom commentRead
 comment-in end text b h =
     let s = drop b text in
     go (firstPlace end s) (subst (λ (l : ℕ). PlaceIn (length end) l (firstPlace end s)) (length-drop b text) (first-in end s))
   where
-    go : (o : Option ℕ) → PlaceIn (length end) (length text - b) o → ReadingIn text (commentRead b (length end) o)
-    go none k = tt
+    go : (o : Option ℕ) → PlaceIn (length end) (length text - b) o → ReadingIn text (commentRead end (length text) b o)
+    go none k = to-end-in end text
     go (some i) k = omega arith
 
 quoted-in : (begin end text : Bytes) → length begin ≤ length text → ReadingIn text (quotedFrom begin end text 1 (length begin))

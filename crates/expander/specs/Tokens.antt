@@ -2,12 +2,13 @@
 use Prim.Native.Nat.{ℕ, zero, suc, _+_, _-_, _≤_, _<_}
 use mathlib.Core.Path.{_≡_}
 use mathlib.Core.Bool.{Bool, true, false}
+use lib.Dec.{ltb}
 use lib.ListN.{length, drop, getD}
 use Rattle.rules.specs.declared.Mark.{Mark}
 use Rattle.rules.specs.declared.Marks.{Marks}
 use Rattle.rules.specs.declared.Token.the-variants as token
 use Rattle.rules.specs.declared.Reading.{Reading}
-use Rattle.rules.specs.declared.Reading.the-variants.{Is, OpenQuote}
+use Rattle.rules.specs.declared.Reading.the-variants.{Is, OpenQuote, OpenComment}
 use Rattle.rules.specs.Bytes.{Bytes, beginsName, nameLength}
 use Rattle.rules.specs.Marks.{markText}
 use Rattle.rules.specs.Tokens.{atMark, firstPlace, QuoteEnd, closesAt, leftOpen, quoteEnd, commentRead}
@@ -46,9 +47,13 @@ metBy false false = Neither
 unfoldable pub metAt : Bytes → Bytes → Bytes → Met
 metAt first second text = metBy (atMark first text) (atMark second text)
 
+-- a comment that ends at the place i, left open if that is beyond the n bytes ahead
+unfoldable pub commentTo : ℕ → ℕ → Reading
+commentTo n i = elim (ltb n i) [ true ↦ OpenComment | false ↦ Is (token.Comment i) ]
+
 -- what a comment comes to, from a place inside it on
 unfoldable pub commentFrom : Bytes → Bytes → ℕ → Reading
-commentFrom end text i = commentRead i (length end) (firstPlace end (drop i text))
+commentFrom end text i = commentRead end (length text) i (firstPlace end (drop i text))
 
 -- a quoted text whose marks have b and e bytes, by where it closes, counted from the place i
 unfoldable pub closedFrom : ℕ → ℕ → ℕ → QuoteEnd → Reading

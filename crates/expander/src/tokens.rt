@@ -8,12 +8,12 @@ use rules::Reading;
 use rules::Token;
 ghost use mathlib.Core.Path.{_≡_};
 ghost use mathlib.Core.List.{_++_};
-ghost use Prim.Native.Nat.{_≤_};
+ghost use Prim.Native.Nat.{_+_, _^_, _≤_, _<_};
 ghost use lib.ListN.{length, drop, getD};
-ghost use Rattle.rules.specs.Bytes.{nameLength};
-ghost use Rattle.rules.specs.Marks.{markText, markTexts};
-ghost use Rattle.rules.specs.Tokens.{beginsWith, atMark, readToken};
-ghost use Rattle.expander.specs.Tokens.{FullMark, GoodMarks, MarkLength, FirstByte, metAt, commentFrom, quotedFrom, Inside, Passed, plainRead, Within};
+ghost use Rattle.rules.specs.Bytes.{sameBytes, nameLength};
+ghost use Rattle.rules.specs.Marks.{markText, markTexts, newlineMark};
+ghost use Rattle.rules.specs.Tokens.{beginsWith, atMark, commentToEnd, readToken};
+ghost use Rattle.expander.specs.Tokens.{FullMark, GoodMarks, MarkLength, FirstByte, metAt, commentTo, commentFrom, quotedFrom, Inside, Passed, plainRead, Within};
 
 // The first of two marks stands at a place, or else the second, or neither.
 enum Met {
@@ -40,6 +40,17 @@ fn first_byte(m: Mark) -> u8
     ensures { λ r. ⌜ FirstByte m r ⌝ }
 {
     m.bytes[0]
+}
+
+// The mark is a single newline.
+fn is_newline(m: Mark) -> bool
+    requires { ⌜ FullMark m ⌝ }
+    ensures { λ r. ⌜ r ≡ sameBytes (markText m) newlineMark ⌝ }
+{
+    if mark_length(m) != 1 {
+        return false;
+    }
+    first_byte(m) == b'\n'
 }
 
 // The mark stands at the place i.
@@ -147,23 +158,46 @@ fn read_quoted(begin: Mark, end: Mark, front: &[u8], rest: &[u8]) -> Reading
     Reading::OpenQuote(depth)
 }
 
+// Where a comment ends that no end mark closes: with the bytes ahead if the end mark is a newline, else beyond them.
+fn unclosed_end(end: Mark, ahead: usize) -> usize
+    requires { ⌜ FullMark end × (ahead + 1 < 2 ^ 64) ⌝ }
+    ensures { λ r. ⌜ commentTo ahead r ≡ commentToEnd (markText end) ahead ⌝ }
+{
+    let beyond = ahead + 1;
+    if is_newline(end) {
+        return ahead;
+    }
+    beyond
+}
+
+// Where a comment ends, whose end mark is sought from a place inside it on; beyond the text ahead if it does not end there.
+fn comment_end(end: Mark, front: &[u8], rest: &[u8], from: usize) -> usize
+    requires { ⌜ FullMark end ⌝ }
+    ensures { λ r. ⌜ commentTo (length (now (front .entry) ++ now (rest .entry))) r ≡ commentFrom (markText end) (now (front .entry) ++ now (rest .entry)) from ⌝ }
+{
+    let n = ahead_length(front, rest);
+    let a = first_byte(end);
+    let mut i = from;
+    while i < n {
+        let at = next_either(front, rest, i, a, a);
+        if mark_at(end, front, rest, at) {
+            return at + mark_length(end);
+        }
+        i = at + 1;
+    }
+    unclosed_end(end, n)
+}
+
 // A comment, whose begin mark stands ahead.
 fn read_comment(begin: Mark, end: Mark, front: &[u8], rest: &[u8]) -> Reading
     requires { ⌜ (begin .len ≤ 5) × FullMark end ⌝ }
     ensures { λ r. ⌜ r ≡ commentFrom (markText end) (now (front .entry) ++ now (rest .entry)) (length (markText begin)) ⌝ }
 {
-    let n = ahead_length(front, rest);
-    let a = first_byte(end);
-    let mut i = mark_length(begin);
-    while i < n {
-        let at = next_either(front, rest, i, a, a);
-        if mark_at(end, front, rest, at) {
-            let behind = at + mark_length(end);
-            return Reading::Is(Token::Comment { end: behind });
-        }
-        i = at + 1;
+    let behind = comment_end(end, front, rest, mark_length(begin));
+    if ahead_length(front, rest) < behind {
+        return Reading::OpenComment;
     }
-    Reading::OpenComment
+    Reading::Is(Token::Comment { end: behind })
 }
 
 // How many bytes ahead go on with a name.

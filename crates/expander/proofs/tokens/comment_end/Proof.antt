@@ -1,0 +1,115 @@
+-- `expander::tokens::comment_end` meets its contract: the loop keeps what the comment comes to from the place on. Assumes nothing.
+use Prim.Native.Nat.{ℕ, _+_, _-_, _≤_}
+use native.Mathlib.Omega.{arith}
+use mathlib.Core.Path.{_≡_, refl, sym, ap, _∙_}
+use mathlib.Core.List.{_++_}
+use lib.ListN.{length}
+use borrow.Author.Needs.{needs}
+use Rattle.rules.specs.Marks.{markText}
+use Rattle.rules.specs.Tokens.{commentToEnd}
+use Rattle.expander.specs.Tokens.{commentTo, commentFrom}
+use Rattle.expander.proofs.Marks.{mark-room}
+use Rattle.expander.proofs.Comments.{ends-within, comment-here, comment-over, comment-skips, comment-on}
+use Rattle.expander.proofs.tokens.comment_end.Statement.{statement}
+use Rattle.expander.proofs.tokens.comment_end.Tie as tie
+
+abbrev Inv-loop : tie.InvT-loop
+Inv-loop end front rest from n a i₀ i = commentFrom (markText end) (front ++ rest) i ≡ commentFrom (markText end) (front ++ rest) from
+
+abbrev μ-loop : tie.MeasureT-loop
+μ-loop end front rest from n a i₀ i = length (front ++ rest) - i
+
+-- what is kept, at the next place where the end mark may stand
+kept : (c : tie.After-next-either Inv-loop μ-loop)
+    → (let a = c .before .before .before .before .before .before .before .args in commentFrom (markText (a .end)) (a .front .now ++ a .rest .now) (c .next-either .result))
+    ≡ (let a = c .before .before .before .before .before .before .before .args in commentFrom (markText (a .end)) (a .front .now ++ a .rest .now) (a .from))
+kept c =
+    let a = c .before .before .before .before .before .before .before .args in
+    let l = c .before .before .loop in
+    let e = c .before .before .before .first-byte .ensures in
+    comment-skips (markText (a .end)) (a .front .now ++ a .rest .now) (l .i) (e .full) _ _ (e .byte) (c .next-either .ensures) ∙ l .inv
+
+ahead-length-requires : tie.Need-ahead-length-requires Inv-loop μ-loop
+ahead-length-requires c κs = search needs
+
+first-byte-requires : tie.Need-first-byte-requires Inv-loop μ-loop
+first-byte-requires c κs = search needs
+
+loop-holds : tie.Need-loop-holds Inv-loop μ-loop
+loop-holds c = refl
+
+next-either-requires : tie.Need-next-either-requires Inv-loop μ-loop
+next-either-requires c κs = search needs
+
+mark-at-requires : tie.Need-mark-at-requires Inv-loop μ-loop
+mark-at-requires c κs = search needs
+
+mark-length-requires : tie.Need-mark-length-requires Inv-loop μ-loop
+mark-length-requires c κs = search needs
+
+-- the end mark that stands at the place lies in the text
+room : (c : tie.After-mark-length Inv-loop μ-loop)
+    → (let a = c .before .before .before .before .before .before .before .before .before .before .args in c .before .before .before .next-either .result + length (markText (a .end)) ≤ length (a .front .now ++ a .rest .now))
+room c =
+    let a = c .before .before .before .before .before .before .before .before .before .before .args in
+    let at = c .before .before .before .next-either in
+    mark-room (markText (a .end)) (a .front .now ++ a .rest .now) (at .result) (at .ensures .within) (sym (c .before .before .mark-at .ensures) ∙ c .before .if1 .taken)
+
+add-result : tie.Need-add-result Inv-loop μ-loop
+add-result c = omega (arith, room c)
+
+returns : tie.Need-returns Inv-loop μ-loop
+returns c =
+    let a = c .before .before .before .before .before .before .before .before .before .before .args in
+    let text = a .front .now ++ a .rest .now in
+    let at = c .before .before .before .next-either .result in
+    ap (λ (n : ℕ). commentTo (length text) (at + n)) (c .mark-length .ensures .whole)
+    ∙ sym (ends-within (length text) (at + length (markText (a .end))) (room c))
+    ∙ comment-here (markText (a .end)) text at (sym (c .before .before .mark-at .ensures) ∙ c .before .if1 .taken)
+    ∙ kept (c .before .before .before)
+
+add-i : tie.Need-add-i Inv-loop μ-loop
+add-i c = omega arith
+
+loop-less : tie.Need-loop-less Inv-loop μ-loop
+loop-less c = omega arith
+
+loop-again : tie.Need-loop-again Inv-loop μ-loop
+loop-again c =
+    let a = c .before .before .before .before .before .before .before .before .before .args in
+    comment-on (markText (a .end)) (a .front .now ++ a .rest .now) (c .before .before .next-either .result) (sym (c .before .mark-at .ensures) ∙ c .if1 .left) ∙ kept (c .before .before)
+
+unclosed-end-requires : tie.Need-unclosed-end-requires Inv-loop μ-loop
+unclosed-end-requires c κs = search needs
+
+returns-2 : tie.Need-returns-2 Inv-loop μ-loop
+returns-2 c =
+    let a = c .before .before .before .before .before .before .before .args in
+    let text = a .front .now ++ a .rest .now in
+    let l = c .before .before .loop in
+    let n = c .before .before .before .before .ahead-length in
+    ap (λ (k : ℕ). commentTo k (c .unclosed-end .result)) (sym (n .ensures .whole))
+    ∙ c .unclosed-end .ensures
+    ∙ ap (commentToEnd (markText (a .end))) (n .ensures .whole)
+    ∙ comment-over (markText (a .end)) text (l .i) (c .before .before .before .first-byte .ensures .full) (omega arith)
+    ∙ l .inv
+
+pub comment-end-spec : {M : Type 1} → statement M
+comment-end-spec =
+    tie.close
+    (tie.spec
+    Inv-loop
+    μ-loop
+    ahead-length-requires
+    first-byte-requires
+    loop-holds
+    next-either-requires
+    mark-at-requires
+    mark-length-requires
+    add-result
+    returns
+    add-i
+    loop-less
+    loop-again
+    unclosed-end-requires
+    returns-2)
