@@ -1,5 +1,5 @@
-//! A plain executable model of the expander that document 01 defines, with the requests 2 and 5 of
-//! document 02.
+//! A plain executable model of the expander that document 01 defines, with the requests 2, 3 and 5
+//! of document 02.
 //!
 //! Its rules are written from the papers alone and care for clarity first. Memory comes from the
 //! heap; the seven lent lengths only judge what the state holds after each step, as 01 says: "Room

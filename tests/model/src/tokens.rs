@@ -51,12 +51,21 @@ fn read(token: Token, length: usize) -> Read {
 fn read_comment(ahead: &Ahead, comment: &Pair) -> Result<Read, Refusal> {
     for at in comment.begin.len()..ahead.length() {
         if ahead.matches(at, &comment.end) {
-            let length = at + comment.end.len();
-            return Ok(read(Token::Comment(ahead.copy(0, length)), length));
+            return Ok(comment_of(ahead, at + comment.end.len()));
         }
     }
-    // "An unclosed quote or comment is refused."
+    // 02, request 3: "Where the end-comment mark is a newline, the end of the text ahead closes the
+    // comment too, and nothing is added. Any other end mark still refuses with detail 2." The text
+    // ahead is "the pending text followed by the rest of the input": wrap text that waits is none.
+    if comment.end == b"\n" {
+        return Ok(comment_of(ahead, ahead.length()));
+    }
     Err(Refusal::Unclosed(Open::Comment))
+}
+
+/// A comment of so many bytes.
+fn comment_of(ahead: &Ahead, length: usize) -> Read {
+    read(Token::Comment(ahead.copy(0, length)), length)
 }
 
 /// "from the begin-quote mark to its matching end mark. Inside, the end mark is tried first, then
@@ -95,6 +104,7 @@ fn read_name(ahead: &Ahead) -> Read {
 #[cfg(test)]
 mod tests {
     use super::*;
+    use crate::expansion::Expansion;
 
     fn first(text: &[u8], marks: &Marks) -> Result<Token, Refusal> {
         next(&Ahead::new(text), marks).map(|read| read.token)
@@ -116,11 +126,55 @@ mod tests {
         assert_eq!(first(b"1a", &marks), Ok(Token::Byte(b'1')));
     }
 
+    fn with_comment(begin: &[u8], end: &[u8]) -> Marks {
+        Marks {
+            comment: Some(Pair {
+                begin: begin.to_vec(),
+                end: end.to_vec(),
+            }),
+            ..Marks::at_start()
+        }
+    }
+
     #[test]
     fn unclosed_is_refused() {
-        let marks = Marks::at_start();
-        assert_eq!(first(b"#a", &marks), Err(Refusal::Unclosed(Open::Comment)));
+        let marks = with_comment(b"#", b";");
+        let unclosed = Err(Refusal::Unclosed(Open::Comment));
+        assert_eq!(first(b"#a", &marks), unclosed);
+        assert_eq!(first(b"#a\n", &marks), unclosed);
+        assert_eq!(first(b"##", &with_comment(b"##", b"#")), unclosed);
+        assert_eq!(first(b"[a]", &with_comment(b"[", b"]]")), unclosed);
         assert_eq!(first(b"``'", &marks), Err(Refusal::Unclosed(Open::Quote)));
+    }
+
+    /// 02, request 3: "and nothing is added".
+    #[test]
+    fn the_end_closes_a_comment_that_a_newline_ends() {
+        let start = Marks::at_start();
+        assert_eq!(first(b"#", &start), Ok(Token::Comment(b"#".to_vec())));
+        assert_eq!(first(b"#a", &start), Ok(Token::Comment(b"#a".to_vec())));
+        let longer = with_comment(b"[[", b"\n");
+        assert_eq!(first(b"[[", &longer), Ok(Token::Comment(b"[[".to_vec())));
+        assert_eq!(
+            first(b"[[`a#", &longer),
+            Ok(Token::Comment(b"[[`a#".to_vec()))
+        );
+        // half a begin mark is none
+        assert_eq!(first(b"[", &longer), Ok(Token::Byte(b'[')));
+        // a newline that is there ends the comment; an open quote is refused as before
+        assert_eq!(first(b"#a\nb", &start), first(b"#a\n", &start));
+        assert_eq!(first(b"`#a", &start), Err(Refusal::Unclosed(Open::Quote)));
+    }
+
+    /// "The text ahead is the pending text followed by the rest of the input, as one string".
+    #[test]
+    fn the_end_is_that_of_pending_text_and_input() {
+        let mut ahead = Ahead::new(b"#bc");
+        ahead.push_back(&Expansion::of(b"#a"));
+        let all = read(Token::Comment(b"#a#bc".to_vec()), 5);
+        assert_eq!(next(&ahead, &Marks::at_start()), Ok(all.clone()));
+        let across = with_comment(b"#a#", b"\n");
+        assert_eq!(next(&ahead, &across), Ok(all));
     }
 
     #[test]
