@@ -48,14 +48,14 @@ impl OpenCalls {
     /// Collects the text of a token in the innermost call. "A quoted token, even empty, counts as
     /// collected; so does a comment."
     pub fn collect(&mut self, bytes: &[u8]) {
-        let call = self.innermost();
+        let call = self.collector();
         call.collected = true;
         call.argument().extend_from_slice(bytes);
     }
 
     /// Takes a token of one byte. Gives the innermost call back if that byte closes it.
     pub fn take_byte(&mut self, byte: u8) -> Result<Option<Call>, Refusal> {
-        let call = self.innermost();
+        let call = self.collector();
         match byte {
             // "unquoted spaces, tabs and newlines before the first collected token of an argument
             // are dropped"
@@ -77,13 +77,18 @@ impl OpenCalls {
         if self.arguments() == MOST_ARGUMENTS {
             return Err(Refusal::Deep);
         }
-        let call = self.innermost();
+        let call = self.collector();
         call.arguments.push(Vec::new());
         call.collected = false;
         Ok(())
     }
 
-    fn innermost(&mut self) -> &mut Call {
+    /// The call that collects, if one is open.
+    pub fn innermost(&self) -> Option<&Call> {
+        self.calls.last()
+    }
+
+    fn collector(&mut self) -> &mut Call {
         self.calls.last_mut().expect("a call is open")
     }
 

@@ -1,10 +1,13 @@
 //! The ways of request 2 of 02: names of predefined meanings that stand as plain text, open a call
 //! or are called bare, and how often each of them was taken. Tests look here at runs from outside.
+//! Those of request 3 are in [`remarks`].
 
 mod name;
+pub mod remarks;
 mod walk;
 
 use crate::macros::Predefined::{self, *};
+use crate::state::State;
 use crate::Report;
 use walk::Walk;
 
@@ -168,4 +171,23 @@ impl Ways {
         let counts = NEED_PARENTHESIS.iter().map(|&which| self.used(how, which));
         counts.sum()
     }
+}
+
+/// What the buffers hold once a token of `length` bytes left the text ahead and came to one place,
+/// whole, if they held `before` until then.
+fn held_if_placed(
+    before: &[usize; 7],
+    length: usize,
+    collecting: bool,
+    after: &State,
+) -> [usize; 7] {
+    let mut held = *before;
+    held[0] -= length.min(before[0]);
+    match after.streams.current() {
+        _ if collecting => held[1] += length,
+        0 => held[6] += length,
+        1..=9 => held[3] += length,
+        _ => {}
+    }
+    held
 }

@@ -1,6 +1,6 @@
 //! A name at the front of the text ahead, and what its way depends on.
 
-use super::{keeps_bare_call, Use};
+use super::{held_if_placed, keeps_bare_call, Use};
 use crate::definitions::Meaning;
 use crate::macros::Predefined;
 use crate::state::State;
@@ -66,15 +66,7 @@ impl Name {
 
     /// What the buffers hold once it left the text ahead and came to one place, whole.
     pub fn held_if_plain(&self, after: &State) -> [usize; 7] {
-        let mut held = self.held;
-        held[0] -= self.length.min(self.pending());
-        match after.streams.current() {
-            _ if self.collecting => held[1] += self.length,
-            0 => held[6] += self.length,
-            1..=9 => held[3] += self.length,
-            _ => {}
-        }
-        held
+        held_if_placed(&self.held, self.length, self.collecting, after)
     }
 }
 
