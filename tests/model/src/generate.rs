@@ -1,7 +1,8 @@
 //! Random texts with settings, from a seed. They are made to reach every macro and every answer of
-//! 01, and every way of a plain word of 02.
+//! 01, and every way of a plain word and of a last comment of 02.
 
 mod expressions;
+mod remarks;
 mod templates;
 mod words;
 mod writer;
@@ -82,11 +83,20 @@ pub fn setting(random: &mut Random, text: &[u8]) -> Setting {
         0..=44 => {}
         45..=69 => tighten_one(random, &mut setting, &trace),
         70..=79 => tighten_all(random, &mut setting, &trace),
-        80..=91 => setting.budget = random.below(report.steps as usize + 2) as u32,
+        80..=91 => setting.budget = budget(random, report.steps),
         92..=93 => setting.lengths[random.below(7)] = LIMIT + random.between(1, 3),
         _ => tiny(random, &mut setting),
     }
     setting
+}
+
+/// A budget that may do, often one that ends at the last steps.
+fn budget(random: &mut Random, needed: u32) -> u32 {
+    if random.chance(40) {
+        needed.saturating_sub(random.below(3) as u32)
+    } else {
+        random.below(needed as usize + 2) as u32
+    }
 }
 
 /// What the text does with ample room.

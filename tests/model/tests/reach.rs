@@ -1,10 +1,11 @@
-//! The generator reaches every answer, every detail of 4 and 5, every macro and every way of request
-//! 2, and the third demand holds on random pairs.
+//! The generator reaches every answer, every detail of 4 and 5, every macro and every way of requests
+//! 2 and 3, and the third demand holds on random pairs.
 
 use model::demand3::{pair, try_pair};
 use model::generate::case;
 use model::macros::Predefined;
 use model::random::Random;
+use model::ways::remarks::Remarks;
 use model::ways::{Use, Way, Ways, NEED_PARENTHESIS};
 use model::{expand, expand_traced, Setting};
 
@@ -59,6 +60,22 @@ fn every_way_of_a_plain_word_is_reached() {
             let taken = any.iter().any(|&way| ways.taken(way, word) > 0);
             assert!(taken || stays, "{word:?} never takes {any:?}");
         }
+    }
+}
+
+/// 02, request 3: comments that are open at the end of the text ahead, wherever that may be, and what
+/// becomes of them.
+#[test]
+fn every_way_of_a_last_comment_is_reached() {
+    let mut random = Random::new(1);
+    let mut remarks = Remarks::default();
+    for _ in 0..4_000 {
+        let case = case(&mut random);
+        let verdict = remarks.walk(&case.text, &expand(&case.text, &case.setting));
+        assert_eq!(verdict, Ok(()), "{}", String::from_utf8_lossy(&case.text));
+    }
+    for (way, count) in remarks.counts() {
+        assert!(count > 0, "{way} is never reached");
     }
 }
 

@@ -2,12 +2,13 @@
 //! text, loops.
 
 use super::expressions::expression;
+use super::remarks::last_remark;
 use super::words::{plain_name, sentences};
 use crate::random::Random;
 
 /// A text with a purpose, written with the default quote marks.
 pub fn template(random: &mut Random) -> Vec<u8> {
-    match random.below(48) {
+    match random.below(62) {
         0..=3 => border(random),
         4..=8 => marks(random),
         9..=10 => limit(random),
@@ -23,6 +24,7 @@ pub fn template(random: &mut Random) -> Vec<u8> {
         33..=35 => strings(random),
         36..=37 => parameters(random),
         38..=45 => sentences(random),
+        46..=59 => last_remark(random),
         _ => refused(random),
     }
 }

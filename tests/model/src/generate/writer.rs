@@ -78,7 +78,8 @@ impl<'r> Writer<'r> {
         }
     }
 
-    /// Pieces until the text is about `length` bytes long; sometimes a template first.
+    /// Pieces until the text is about `length` bytes long; sometimes a template first, or an open
+    /// comment last.
     pub fn text(&mut self, length: usize) -> Vec<u8> {
         let mut text = Vec::new();
         if self.random.chance(45) {
@@ -89,6 +90,9 @@ impl<'r> Writer<'r> {
         }
         while text.len() < length {
             text.extend(self.piece(0));
+        }
+        if self.random.chance(8) {
+            text.extend(self.open_comment());
         }
         text
     }
@@ -182,12 +186,21 @@ impl<'r> Writer<'r> {
     }
 
     fn comment(&mut self) -> Vec<u8> {
-        let (begin, end) = self
-            .comment
-            .clone()
-            .unwrap_or((b"#".to_vec(), b"\n".to_vec()));
+        let (_, end) = self.comment_marks();
+        [self.open_comment(), end].concat()
+    }
+
+    /// A comment without its end mark.
+    fn open_comment(&mut self) -> Vec<u8> {
+        let (begin, _) = self.comment_marks();
         let inside = self.random.pick(&["", "a", "len(", "`", ",)", " b'"]);
-        [&begin, inside.as_bytes(), &end].concat()
+        [&begin, inside.as_bytes()].concat()
+    }
+
+    /// Those in force, or those of the start where comments are off.
+    fn comment_marks(&self) -> (Vec<u8>, Vec<u8>) {
+        let start = || (b"#".to_vec(), b"\n".to_vec());
+        self.comment.clone().unwrap_or_else(start)
     }
 
     /// An argument of any kind.
