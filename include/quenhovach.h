@@ -55,7 +55,7 @@ enum {
 /* The detail of "unclosed". */
 enum {
     QUENHOVACH_UNCLOSED_QUOTE = 1,
-    QUENHOVACH_UNCLOSED_COMMENT = 2,
+    QUENHOVACH_UNCLOSED_COMMENT = 2, /* whose end mark is not a newline: where it is one, the end of the text closes the comment too */
     QUENHOVACH_UNCLOSED_CALL = 3
 };
 

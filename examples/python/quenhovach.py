@@ -63,7 +63,7 @@ class Unclosed(IntEnum):
     """What is open where the text ends."""
 
     QUOTE = 1
-    COMMENT = 2
+    COMMENT = 2  # whose end mark is not a newline; where it is one, the end of the text closes the comment too
     CALL = 3
 
 

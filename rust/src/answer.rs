@@ -70,7 +70,7 @@ pub enum Buffer {
 pub enum Opened {
     /// 1: a quote.
     Quote = 1,
-    /// 2: a comment.
+    /// 2: a comment whose end mark is not a newline. Where it is one, the end of the text closes the comment too.
     Comment = 2,
     /// 3: a call.
     Call = 3,

@@ -67,6 +67,7 @@ fn texts() {
     assert_eq!(output("incr(-1)"), "0");
     assert_eq!(output("define(`g',`[$2]')g(a,  b )"), "[b ]");
     assert_eq!(output("m4wrap(`z')y"), "yz");
+    assert_eq!(output("m4wrap(`len(a)')#x"), "#x1");
 }
 
 #[test]
@@ -77,7 +78,7 @@ fn every_answer() {
     assert_eq!(run(b"x y", AMPLE, 2).report.answer, Answer::Spent);
     assert_eq!(answer("define(`f',`f f')f"), Answer::Room(Buffer::Pending));
     assert_eq!(answer("x`"), Answer::Unclosed(Opened::Quote));
-    assert_eq!(answer("x#"), Answer::Unclosed(Opened::Comment));
+    assert_eq!(answer("changecom(%,;)%"), Answer::Unclosed(Opened::Comment));
     assert_eq!(answer("len("), Answer::Unclosed(Opened::Call));
     assert_eq!(answer("define(`1')"), Answer::Name);
     assert_eq!(answer("incr(2147483647)"), Answer::Number);

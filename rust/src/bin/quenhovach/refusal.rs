@@ -220,12 +220,14 @@ fn fixed_words(answer: Answer) -> (&'static str, &'static str) {
             "add the end-quote mark (' unless changequote set another)",
         ),
         Answer::Unclosed(Opened::Comment) => (
-            "a comment is opened and the text ends before it is closed",
-            "end the line with a newline (or the mark that changecom set), or quote the mark if no comment is meant",
+            "a comment is opened and the text ends before the end mark that changecom set",
+            "add that end mark, or quote the begin mark if no comment is meant; changecom with the begin mark alone ends each \
+             comment with its line",
         ),
         Answer::Unclosed(Opened::Call) => (
             "the arguments of a call are still being collected where the text ends",
-            "look for a missing right parenthesis, or for a left one that is too many; quote those that are plain text",
+            "look for a missing right parenthesis (one in a quote or a comment closes nothing), or for a left one that is too many; \
+             quote those that are plain text",
         ),
         Answer::Name => (
             "define or pushdef was given a first argument that is not a name",
