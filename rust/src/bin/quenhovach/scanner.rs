@@ -85,7 +85,7 @@ impl<'t> Scan<'t> {
             b'`' => self.quotes.push(self.frames.len()),
             b'\'' => self.end_quote(),
             _ if self.remark.is_some() => {}
-            b'#' => return self.remark(),
+            b'#' => return self.comment(),
             b'(' => self.frames.push(self.frame()),
             b')' => self.close(),
             b'$' => return self.parameter(),
@@ -177,13 +177,17 @@ impl<'t> Scan<'t> {
         }
     }
 
-    /// A comment, or what dnl drops. In a quote the end mark still counts.
+    fn comment(&mut self) {
+        self.at += 1;
+        self.remark();
+    }
+
+    /// A comment, or what dnl drops, behind its mark. In a quote the end mark still counts.
     fn remark(&mut self) {
         if self.quotes.is_empty() {
             self.at += self.run_of(self.at, |b| b != b'\n').len();
         } else {
             self.remark = Some(self.quotes.len());
-            self.at += 1;
         }
     }
 
