@@ -19,6 +19,10 @@ RETURNS = "the line ends with CR%s; CR is no blank and stays in the sheet"
 MARK = "the template begins with a byte-order mark, which is plain text"
 ALIKE = "%s (U+%s) looks like a quote mark and is plain text"
 FOREIGN = "`%s` is a macro of GNU m4 and not predefined here; it is plain text"
+RUNS_ON = "%s the first line of the next template, too; this one does not end with a newline"
+RUNS_ON_COMMENT, RUNS_ON_DNL = RUNS_ON % "the comment takes", RUNS_ON % "`dnl` drops"
+CLOSER = "%s the rest of the line, so the `)` there closes no call"
+CLOSER_COMMENT, CLOSER_DNL = CLOSER % "`#` makes a comment of", CLOSER % "`dnl` drops"
 
 # The macros of GNU m4 that are not in document 01.
 OTHERS = """
@@ -65,6 +69,14 @@ REFUSED = {
     "an include before": (["include(`common.m4')dnl\neval(height + 1)\n"], 8, ["1.m4:1:1: " + FOREIGN % "include"]),
     "a byte-order mark in an argument": (["incr(", "\ufeff1)"], 7, ["2.m4:1:1: " + MARK]),
     "a byte-order mark outside calls": (["a\n", "\ufeffeval(08)"], 8, []),
+    "a parenthesis in a comment": (["gain=len(#)"], 5, ["1.m4:1:10: " + CLOSER_COMMENT]),
+    "a parenthesis in a comment that a newline ends": (["gain=len(`a' # b)\nc\n"], 5, ["1.m4:1:14: " + CLOSER_COMMENT]),
+    "a parenthesis of an inner call": (["define(`f', `$1')f(len(`a' # b)\n)"], 5, ["1.m4:1:28: " + CLOSER_COMMENT]),
+    "a parenthesis that dnl drops": (["gain=len(`a'dnl)\n"], 5, ["1.m4:1:13: " + CLOSER_DNL]),
+    "a parenthesis in the next template": (["len(`a' # b", ")\n"], 5, ["1.m4:1:9: " + CLOSER_COMMENT, "1.m4:1:9: " + RUNS_ON_COMMENT]),
+    "a line that a comment takes": (["a\n# end", "define(`n', 5)dnl\neval(n)\n"], 8, ["1.m4:2:1: " + RUNS_ON_COMMENT]),
+    "a line that dnl drops": (["dnl end", "define(`n', 5)dnl\nincr(n)\n"], 7, ["1.m4:1:1: " + RUNS_ON_DNL]),
+    "a line that a comment takes, and a loop": (["# end", "a\ndefine(`n', `n n')n"], 4, []),
     "in the second file": (["a\nb\n", "c\nd define (`n', 5)\n", "e eval(n)\n"], 8, ["2.m4:2:3: " + GAP % "define"]),
     "in the first, refused in the second": (["a\ndefine(`h', `eval(1.5)')\n", "\nh\n"], 8, ["1.m4:2:19: " + POINT % ("1.5", "eval")]),
     "in the second's first line, behind a line that goes on": (["a ", "", "define (`n', 5)eval(n)"], 8, ["3.m4:1:1: " + GAP % "define"]),
@@ -106,6 +118,10 @@ UNFITTING = [
     ("the ‘boom’ `open", 5),
     ("`the boom’s end", 5),
     ("len(eval(15)", 5),
+    ("len(`a' # (b)\n", 5),
+    ("# )\nlen(`a'", 5),
+    ("len(`a' # )\n)len(`b'", 5),
+    ("len(`a' # )\n)eval(08)", 8),
     ("changecom(%, ;)a % b “c”\n", 5),
     ("\ufeffeval(08)", 8),
     ("changequote([, ])eval(1.5)", 8),
@@ -149,6 +165,13 @@ WARNED = {
     "a byte-order mark behind an empty template": (["", "\ufeffa\n"], "\ufeffa\n", ["2.m4:1:1: " + MARK]),
     "a byte-order mark behind a line that goes on": (["a\nb ", "\ufeffc\n"], "a\nb \ufeffc\n", ["2.m4:1:1: " + MARK]),
     "curly quotes": (["‘n’\n"], "‘n’\n", ["1.m4:1:1: " + ALIKE % ("‘", "2018"), "1.m4:1:5: " + ALIKE % ("’", "2019")]),
+    "a comment that goes on in the next template": (["a # b", "c d\ne\n"], "a # bc d\ne\n", ["1.m4:1:3: " + RUNS_ON_COMMENT]),
+    "dnl that goes on in the next template": (["a dnl b", "c d\ne\n"], "a e\n", ["1.m4:1:3: " + RUNS_ON_DNL]),
+    "a comment that goes on behind an empty template": (["# b", "", "c"], "# bc", ["1.m4:1:1: " + RUNS_ON_COMMENT]),
+    "a comment that goes on in what is thrown away": (["divert(-1)\n# b", "divert(0)dnl\nc\n"], "", ["1.m4:2:1: " + RUNS_ON_COMMENT]),
+    "a comment that the next template's newline ends": (["a # b", "\nc\n"], "a # b\nc\n", []),
+    "a comment that ends with its template": (["a # b\n", "c # d"], "a # b\nc # d", []),
+    "a comment that goes on behind other marks": (["changecom(%)% b", "c\n"], "% bc\n", []),
     "a macro of GNU m4": (["a\n", "b syscmd(`ls')\n"], "a\nb syscmd(ls)\n", ["2.m4:1:3: " + FOREIGN % "syscmd"]),
 }
 
@@ -163,6 +186,7 @@ SILENT = [
     ("# the len of (a), define (b), “c”, eval(1.5)\n", None),
     ("a # the len of (a), define (b), “c”", None),
     ("a dnl the len of (a), define (b), “c”\r\n", "a "),
+    ("define(`f', `<$1>')f(`a' # )\n)", "<a # )\n>"),
     ("`the len of define (b), “c”, format(d)'", "the len of define (b), “c”, format(d)"),
     ("define(`len', `x')len (a) len", "x (a) x"),
     ("pushdef(`index', `i')index", "i"),

@@ -57,7 +57,9 @@ pub fn warnings(templates: &Templates) -> String {
     for seen in &seen {
         match seen.kind {
             // These do harm only where the message of a refusal tells of them.
-            Kind::GivenPoint { .. } | Kind::LookAlike { quoted: true, .. } => {}
+            Kind::GivenPoint { .. }
+            | Kind::LookAlike { quoted: true, .. }
+            | Kind::Closer { .. } => {}
             Kind::Return => {
                 let count = std::mem::take(&mut returns[templates.number_at(seen.place)]);
                 if count > 0 {
@@ -90,6 +92,7 @@ fn lasts(kind: &Kind) -> bool {
     match kind {
         Kind::Gap(Gap { name, .. }) | Kind::Bare(name) => is_missed_later(name),
         Kind::Foreign(name) => ["include", "sinclude"].contains(name),
+        Kind::RunsOn { .. } => true,
         _ => false,
     }
 }
@@ -125,6 +128,8 @@ fn rank(seen: &Seen, answer: Answer) -> Option<u8> {
         }
         Kind::Foreign(_) => (argument && (seen.within || lasts(&seen.kind))).then_some(1),
         Kind::OrderMark => (argument && seen.within).then_some(2),
+        Kind::RunsOn { .. } => fits_lost_line(answer).then_some(1),
+        Kind::Closer { .. } => (answer == Answer::Unclosed(Opened::Call)).then_some(0),
     }
 }
 
@@ -136,6 +141,14 @@ fn fits_name(name: &str, here: bool, answer: Answer) -> bool {
         }
         Answer::Unclosed(Opened::Quote | Opened::Call) => changes_marks(name),
         _ => false,
+    }
+}
+
+/// Whether a line of definitions, marks or parentheses that is not read can lead to an answer behind it.
+fn fits_lost_line(answer: Answer) -> bool {
+    match answer {
+        Answer::Unclosed(opened) => opened != Opened::Comment,
+        _ => fits_name("define", false, answer),
     }
 }
 
@@ -187,6 +200,20 @@ fn words(kind: &Kind) -> String {
         }
         Kind::Foreign(name) => {
             format!("`{name}` is a macro of GNU m4 and not predefined here; it is plain text")
+        }
+        Kind::RunsOn { dnl } => {
+            let takes = match dnl {
+                true => "`dnl` drops",
+                false => "the comment takes",
+            };
+            format!("{takes} the first line of the next template, too; this one does not end with a newline")
+        }
+        Kind::Closer { dnl } => {
+            let takes = match dnl {
+                true => "`dnl` drops",
+                false => "`#` makes a comment of",
+            };
+            format!("{takes} the rest of the line, so the `)` there closes no call")
         }
     }
 }

@@ -49,6 +49,10 @@ pub enum Kind<'t> {
     LookAlike { mark: char, quoted: bool },
     /// A macro of GNU m4 that this expander has not, with `(`.
     Foreign(&'t str),
+    /// A comment, or what dnl drops, at the end of a template that goes on in the next one.
+    RunsOn { dnl: bool },
+    /// A comment, or what dnl drops, that has a `)` for a call in it.
+    Closer { dnl: bool },
 }
 
 /// The blanks between a name and `(`.
@@ -114,6 +118,7 @@ fn stands<'t>(seen: &mut Seen<'t>, own: &Owned<'t>) -> bool {
             found.is_some()
         }
         Kind::Point { .. } | Kind::Return | Kind::OrderMark | Kind::LookAlike { .. } => true,
+        Kind::RunsOn { .. } | Kind::Closer { .. } => true,
     }
 }
 
@@ -218,9 +223,32 @@ mod tests {
                 },
             ),
             ("format(`a')", 0, Kind::Foreign("format")),
+            ("len(`a' # )\n)", 8, Kind::Closer { dnl: false }),
+            ("len(`a'dnl (b))\n)", 7, Kind::Closer { dnl: true }),
         ] {
             assert_eq!(seen(text), [(place, kind)], "{text}");
         }
+    }
+
+    #[test]
+    fn remarks_at_borders() {
+        let seen = |text: &'static str, ends: &'static [usize]| {
+            let seen = scan(text.as_bytes(), ends);
+            seen.iter()
+                .map(|seen| (seen.place, seen.kind))
+                .collect::<Vec<_>>()
+        };
+        let (comment, dropped) = (Kind::RunsOn { dnl: false }, Kind::RunsOn { dnl: true });
+        assert_eq!(seen("a #b", &[4]), []);
+        assert_eq!(seen("a #bc\n", &[4, 6]), [(2, comment)]);
+        assert_eq!(seen("a #b\nc", &[4, 6]), []);
+        assert_eq!(seen("a #b\nc", &[5, 6]), []);
+        assert_eq!(seen("a #bc", &[4, 4, 5, 5]), [(2, comment)]);
+        assert_eq!(seen("dnl bc\n", &[5, 7]), [(0, dropped)]);
+        assert_eq!(seen("dnl b", &[3, 5]), [(0, dropped)]);
+        assert_eq!(seen("`# b'", &[3, 5]), []);
+        let closer = Kind::Closer { dnl: false };
+        assert_eq!(seen("len(#b)\n", &[6, 8]), [(4, comment), (4, closer)]);
     }
 
     #[test]
@@ -241,6 +269,8 @@ mod tests {
     fn no_mistake() {
         for text in [
             "# define (`n') len “\n",
+            "a # define (`n') len “",
+            "len(`a' # (b)\n) # )\n",
             "dnl define (`n') len “\r\n",
             "define(`f', `a dnl len (1)\n')",
             "define(`f', `# len (1)\n')",

@@ -9,6 +9,7 @@ mod place;
 mod progress;
 mod prose;
 mod refusal;
+mod remarks;
 mod scanner;
 mod signals;
 mod standard;

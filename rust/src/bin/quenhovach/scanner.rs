@@ -3,6 +3,7 @@
 use crate::bytes::{begins_name, is_blank, is_digit, is_in_name, run_of};
 use crate::hints::{Gap, Kind, Owned, Seen};
 use crate::prose;
+use crate::remarks;
 use crate::suspects::{
     changes_marks, is_everyday, is_foreign, is_predefined, looks_alike, needs_call, takes_call,
 };
@@ -85,7 +86,7 @@ impl<'t> Scan<'t> {
             b'`' => self.quotes.push(self.frames.len()),
             b'\'' => self.end_quote(),
             _ if self.remark.is_some() => {}
-            b'#' => return self.comment(),
+            b'#' => return self.remark(self.at),
             b'(' => self.frames.push(self.frame()),
             b')' => self.close(),
             b'$' => return self.parameter(),
@@ -177,17 +178,22 @@ impl<'t> Scan<'t> {
         }
     }
 
-    fn comment(&mut self) {
-        self.at += 1;
-        self.remark();
-    }
-
-    /// A comment, or what dnl drops, behind its mark. In a quote the end mark still counts.
-    fn remark(&mut self) {
-        if self.quotes.is_empty() {
-            self.at += self.run_of(self.at, |b| b != b'\n').len();
-        } else {
+    /// A comment, or what dnl drops, with its mark at a place. In a quote the end mark still counts.
+    fn remark(&mut self, place: usize) {
+        let dnl = self.text[place] != b'#';
+        let mark = if dnl { "dnl" } else { "#" };
+        self.at = place + mark.len();
+        if !self.quotes.is_empty() {
             self.remark = Some(self.quotes.len());
+            return;
+        }
+        let remark = self.run_of(self.at, |b| b != b'\n');
+        self.at += remark.len();
+        if remarks::runs_on(place..self.at, self.ends) {
+            self.note(place, Kind::RunsOn { dnl });
+        }
+        if self.frame().in_call && remarks::has_closer(remark) {
+            self.note(place, Kind::Closer { dnl });
         }
     }
 
@@ -235,7 +241,7 @@ impl<'t> Scan<'t> {
         self.at += name.len();
         if !self.is_live() {
         } else if name == "dnl" && !self.own.contains_key(name) {
-            self.remark();
+            self.remark(place);
         } else if self.text.get(self.at) == Some(&b'(') {
             self.call(place, name);
         } else {
