@@ -7,6 +7,7 @@ docs/GNU.md lists the rules that differ; the texts keep clear of them by the way
   with such a token. So no call that gives nothing, or a blank first, stands in front of an argument's blanks.
 - A name is defined, pushed or removed outside of calls; inside of them only names that are called nowhere inside.
 - Marks change between the parts of a text. What has quotes or comments in it is called only in the part that defined it.
+- Every comment is written with its end mark: at the end of a text GNU m4 asks for it, whatever it is.
 - Numbers are written as 01 has them, divisors are not 0, shift counts are 0 to 31. One m4wrap waits at a time. No $1 has a digit behind it.
 A macro calls only macros of a lower rank and loops count down, so every text ends.
 """
