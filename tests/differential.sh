@@ -5,9 +5,10 @@
 # COUNT random cases (default 400000, seed 1) are compared with the model: every number, and every byte of the text, of the seven
 # buffers and around them. A quarter as many pairs of settings are held to the letter's third demand, and a hundredth of the cases
 # are run between inaccessible pages; some hundred go through valgrind. It also runs tests/vectors.tsv, each byte wherever its
-# class is asked for, and each predefined name wherever it may stand, before all that may follow it, and shows that each of these
-# checks can fail. A longer run is `tests/differential.sh SEED COUNT`, 10,000 cases take one to two seconds; how to repeat a
-# failing case is printed with it (the program is target/differential/release/differential).
+# class is asked for, each predefined name wherever it may stand, before all that may follow it, and comments that nothing closes,
+# wherever one may begin and under marks of every kind, and shows that each of these checks can fail. A longer run is
+# `tests/differential.sh SEED COUNT`, 10,000 cases take one to two seconds; how to repeat a failing case is printed with it (the
+# program is target/differential/release/differential).
 # Ends with 'N passed, M failed', counting parts; exit status 0 only if M is 0.
 set -u
 if [ -n "${QUENHOVACH_LIB_DIR:-}" ]; then
@@ -63,6 +64,7 @@ fi
 part 'tests/vectors.tsv through the archive' 0 "$program" vectors tests/vectors.tsv
 part 'each byte wherever its class is asked for, archive and model' 0 "$program" bytes
 part 'each predefined name, bare or not, wherever it may stand, archive and model' 0 "$program" words
+part 'open comments, wherever one may begin and whatever ends comments, archive and model' 0 "$program" comments
 shown "$count random cases, archive and model" "$program" compare "$seed" "$count"
 shown "the third demand on $((count / 4 + 1)) pairs of settings" "$program" demand3 "$seed" "$((count / 4 + 1))"
 part "$((count / 100 + 1)) cases between inaccessible pages, twice each" 0 "$program" fences "$seed" "$((count / 100 + 1))"

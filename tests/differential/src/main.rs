@@ -13,6 +13,8 @@
 //!   pages.
 //! - `differential bytes`: each of the 256 bytes in each place where a reader asks for its class.
 //! - `differential words`: each of the 24 names in every place, before all that may follow it.
+//! - `differential comments`: comments that nothing closes, in every place, under marks of every
+//!   kind.
 //! - `differential huge`: lengths above 4,294,967,295.
 //! - `differential memcheck SEED COUNT`: random cases in blocks of the heap, to be run under
 //!   valgrind. `memcheck-outside` and `memcheck-undefined` do the same with a mistake that valgrind
@@ -27,6 +29,7 @@
 mod archive;
 mod arenas;
 mod case;
+mod comments;
 mod compare;
 mod demand3;
 mod fences;
@@ -48,7 +51,7 @@ use memcheck::Mistake;
 use std::process::ExitCode;
 
 const USE: &str = "use: differential compare|demand3|fences SEED COUNT [FIRST], \
-    memcheck SEED COUNT, vectors FILE, bytes, words, huge or noticed";
+    memcheck SEED COUNT, vectors FILE, bytes, words, comments, huge or noticed";
 
 fn main() -> ExitCode {
     let arguments: Vec<String> = std::env::args().skip(1).collect();
@@ -69,6 +72,7 @@ fn run(words: &[&str]) -> Option<(usize, usize)> {
         ["noticed"] => one(noticed::all_noticed()),
         ["bytes"] => Some(readers::every_byte()),
         ["words"] => Some(names::every_name()),
+        ["comments"] => Some(comments::every_comment()),
         ["huge"] => one(fences::huge_lengths()),
         [command, seed, count] => random(command, seed, count, "0").and_then(one),
         [command, seed, count, first] => random(command, seed, count, first).and_then(one),

@@ -3,6 +3,7 @@
 
 use crate::arenas::Arenas;
 use crate::case::{line, Case};
+use crate::setting::exact_and_shorter;
 use model::macros::Predefined;
 use model::ways::{keeps_bare_call, Use, Ways};
 use model::{expand, expand_traced, Report, Setting, Trace};
@@ -141,12 +142,7 @@ fn tight(report: &Report, trace: &Trace, number: u32) -> Vec<Setting> {
         lengths: trace.peaks,
         budget: report.steps,
     };
-    let mut settings = vec![exact.clone()];
-    for buffer in (0..7).filter(|&buffer| trace.peaks[buffer] > 0) {
-        let mut short = exact.clone();
-        short.lengths[buffer] -= 1;
-        settings.push(short);
-    }
+    let mut settings = exact_and_shorter(&exact);
     if report.steps > 0 {
         settings.push(Setting {
             budget: number % report.steps,

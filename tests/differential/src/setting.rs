@@ -59,6 +59,17 @@ pub fn probe(random: &mut Random, text: &[u8]) -> Probe {
     }
 }
 
+/// A setting of just what a run needs, and those with one byte less of a buffer that it uses.
+pub fn exact_and_shorter(exact: &Setting) -> Vec<Setting> {
+    let used = (0..7).filter(|&buffer| exact.lengths[buffer] > 0);
+    let shorter = used.map(|buffer| {
+        let mut setting = exact.clone();
+        setting.lengths[buffer] -= 1;
+        setting
+    });
+    std::iter::once(exact.clone()).chain(shorter).collect()
+}
+
 /// Chooses lengths and budget.
 pub fn choose(random: &mut Random, text: &[u8]) -> Setting {
     let probe = probe(random, text);
