@@ -6,7 +6,7 @@
 //! - `differential compare SEED COUNT [FIRST]`: random cases; every number of the report and every
 //!   byte of the text, of the seven buffers and of 16 guard bytes around each of them is compared
 //!   with what the model's answer asks. From 20,000 cases on every answer, every detail of 4 and 5,
-//!   every macro and every way of request 2 of 02 must be reached.
+//!   every macro and every way of requests 2 and 3 of 02 must be reached.
 //! - `differential demand3 SEED COUNT [FIRST]`: the letter's third demand on random pairs of
 //!   settings, without the model.
 //! - `differential fences SEED COUNT [FIRST]`: random cases with what is lent against inaccessible

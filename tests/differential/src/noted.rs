@@ -1,7 +1,8 @@
 //! Whether the ways of request 2 of 02 are told apart: short texts, each with all the ways that it
-//! takes.
+//! takes. Those of request 3 are told apart by tests of the model's own.
 
 use crate::tally::Tally;
+use model::ways::remarks::Remarks;
 use model::ways::Ways;
 use model::{expand, Setting};
 
@@ -83,9 +84,11 @@ fn takes(said: &str, setting: &Setting) -> bool {
 
 fn all_missed() -> bool {
     let missing = Tally::default().missing();
-    let mut unmissed = Ways::default().counts();
-    unmissed.retain(|(way, _)| !missing.contains(way));
-    for (way, _) in &unmissed {
+    let remarks = Remarks::default().counts().map(|(way, _)| way.to_string());
+    let words = Ways::default().counts().into_iter().map(|(way, _)| way);
+    let mut unmissed: Vec<String> = words.chain(remarks).collect();
+    unmissed.retain(|way| !missing.contains(way));
+    for way in &unmissed {
         println!("no run takes {way:?}, and it is not reported as missing");
     }
     unmissed.is_empty()

@@ -158,10 +158,11 @@ fn used_buffer(random: &mut Random, probe: &Probe) -> usize {
 
 /// A budget that is about used up, or used up somewhere on the way.
 fn fewer(random: &mut Random, steps: u32) -> u32 {
-    match random.below(6) {
+    match random.below(7) {
         0 => random.below(4) as u32,
         1 => steps.saturating_sub(1),
-        2 => steps,
+        2 => steps.saturating_sub(2),
+        3 => steps,
         _ => random.below(steps as usize + 2) as u32,
     }
 }

@@ -1,6 +1,7 @@
 //! How many cases ended how, and what they reached. What no case reached is not tested.
 
 use model::macros::Predefined;
+use model::ways::remarks::Remarks;
 use model::ways::Ways;
 use model::{Report, Trace};
 
@@ -18,6 +19,7 @@ pub struct Tally {
     steps: u64,
     crossings: u64,
     ways: Ways,
+    remarks: Remarks,
 }
 
 impl Tally {
@@ -35,13 +37,14 @@ impl Tally {
         self.crossings += trace.crossings;
     }
 
-    /// Adds the ways of a run, which takes its steps once more. Fails if the model breaks the rule
-    /// of 02.
+    /// Adds the ways of a run, which takes its steps twice more. Fails if the model breaks a rule of
+    /// 02.
     pub fn add_ways(&mut self, text: &[u8], report: &Report) -> Result<(), String> {
         if report.steps > MOST_STEPS {
             return Ok(());
         }
-        self.ways.walk(text, report)
+        let words = self.ways.walk(text, report);
+        self.remarks.walk(text, report).and(words)
     }
 
     /// Every count with its name.
@@ -74,6 +77,8 @@ impl Tally {
         counts.push(("token across the border".to_string(), self.crossings));
         counts.push(("step".to_string(), self.steps));
         counts.extend(self.ways.counts());
+        let remarks = self.remarks.counts().into_iter();
+        counts.extend(remarks.map(|(way, count)| (way.to_string(), count)));
         counts
     }
 

@@ -1,13 +1,14 @@
-//! Random texts that reach every macro and every answer of document 01, and every way of request 2
-//! of 02.
+//! Random texts that reach every macro and every answer of document 01, and every way of requests 2
+//! and 3 of 02.
 //!
 //! A text comes from a grammar of plausible pieces ([`writer`]), from a scenario with a purpose
-//! ([`scenarios`], [`bare`], [`heavy`]), from the table of vectors, from the model's own generator,
-//! or is a soup of words; then some of its bytes may be changed ([`mutate`]).
+//! ([`scenarios`], [`bare`], [`last`], [`heavy`]), from the table of vectors, from the model's own
+//! generator, or is a soup of words; then some of its bytes may be changed ([`mutate`]).
 
 mod bare;
 pub mod expressions;
 mod heavy;
+mod last;
 mod mutate;
 mod scenarios;
 pub mod words;
@@ -32,7 +33,8 @@ pub fn text(random: &mut Random) -> Vec<u8> {
 /// A text as it comes from its source.
 pub fn plausible(random: &mut Random) -> Vec<u8> {
     match random.below(1000) {
-        0..=499 => written(random),
+        0..=439 => written(random),
+        440..=499 => last::last(random),
         500..=779 => scenarios::scenario(random),
         780..=829 => bare::bare(random),
         830..=889 => from_vectors(random),

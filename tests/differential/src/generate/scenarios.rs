@@ -551,6 +551,8 @@ fn refused(random: &mut Random) -> Vec<u8> {
         "``a'",
         "len(`",
         "len(#",
+        "changecom(`#',`;')#",
+        "changecom(`%',`;;')len(%\n;",
     ]);
     [
         words::plain(random),
