@@ -46,6 +46,7 @@ PARTS = [
     ("vectors.tsv", "", "vectors"),
     ("each byte", "", "each byte"),
     ("each predefined name", "", "each name"),
+    ("open comments", "", "open comments"),
     ("third demand", "", "third demand"),
     ("lengths above", "", "huge lengths"),
     ("between inaccessible pages", "SIGSEGV", "trap"),
@@ -70,9 +71,9 @@ in tests/differential.sh. First the source as it stands was built in the same wa
 """
 FOOT = """
 Of `differential` (tests/differential.sh) the table names what showed the fault: `vectors`, the lines of tests/vectors.tsv through the archive; `each byte` wherever
-its class is asked for, `each name` that is predefined wherever it may stand, and `random cases`, on which archive and model differ; `third demand`, two settings
-that break the letter's third demand; `trap`, a read or write outside of what is lent, between inaccessible pages; `valgrind`, the same or the use of what was
-there before. `step_costs` takes more than a minute, and was tried only on what no other test caught.
+its class is asked for, `each name` that is predefined wherever it may stand, `open comments` wherever one may begin, and `random cases`, on which archive and
+model differ; `third demand`, two settings that break the letter's third demand; `trap`, a read or write outside of what is lent, between inaccessible pages;
+`valgrind`, the same or the use of what was there before. `step_costs` takes more than a minute, and was tried only on what no other test caught.
 
 Compiled code does not check an index: what a read or write outside comes to may differ from run to run, but for the trap and valgrind.
 """
