@@ -148,7 +148,7 @@ fn traps() {
 // Refusals that a text meets by itself; those by depth and by length are in the other tests.
 fn refusals() {
     show(b"`a");
-    show(b"#a");
+    show(b"changecom(%,;)%a");
     show(b"define(a");
     show(b"define(`1',`b')");
     show(b"substr(`abc',-1)");
@@ -166,6 +166,7 @@ fn others() {
     show(b"divert(-1)lost`'divert(3)kept`'divert(0)undivert`'!");
     show(b"errprint(`a',`b')x");
     show(b"a # b n define\nc");
+    show(b"#a");
     show(b"define(`f',``$0' $# $* $@ $10')f(`x',`y')");
     show(b"define(`r',`ifelse($1,0,,`$1 r(decr($1))')')r(3)");
     show(b"pushdef(`p',`1')pushdef(`p',`2')p`'popdef(`p')p`'popdef(`p')p");
