@@ -114,12 +114,6 @@ impl Remarks {
         self.taken[way as usize] += 1;
     }
 
-    /// Adds the counts of others.
-    pub fn add(&mut self, others: &Remarks) {
-        let counts = self.taken.iter_mut().zip(others.taken);
-        counts.for_each(|(count, more)| *count += more);
-    }
-
     /// Every count, with its name. None must stay 0.
     pub fn counts(&self) -> [(&'static str, u64); REMARKS.len()] {
         REMARKS.map(|(way, name)| (name, self.taken[way as usize]))
