@@ -13,7 +13,7 @@ use places::Place;
 pub use places::PLACES;
 use std::collections::BTreeSet;
 pub use text::{filled, CONTENTS, ENDINGS, MARKS};
-use text::{fits, large, Fate, Marks, PLAIN};
+use text::{fits, large, Marks, Outcome, PLAIN};
 
 /// More steps than any of the texts needs: a run that goes on without end is soon over.
 const STEPS: u32 = 20_000;
@@ -146,14 +146,14 @@ fn tight(report: &Report, trace: &Trace) -> Vec<Setting> {
 fn unseen(place: &Place, marks: &Marks) -> Vec<&'static str> {
     let text = filled(place.text, marks, PLAIN, "");
     let report = expand(&text, &Setting::ample());
-    let ways: &[&str] = match marks.fate {
-        Fate::Closed => place.closed,
-        Fate::Refused => place.refused,
+    let ways: &[&str] = match marks.outcome {
+        Outcome::Closed => place.closed,
+        Outcome::Refused => place.refused,
         // no comment begins there, whatever ends it
         _ if place.closed == place.refused => &[],
-        Fate::Off => &["comments are off"],
-        Fate::Quote if (report.number, report.detail) == (5, 1) => &[],
-        Fate::Quote => &["open quote"],
+        Outcome::Off => &["comments are off"],
+        Outcome::Quote if (report.number, report.detail) == (5, 1) => &[],
+        Outcome::Quote => &["open quote"],
     };
     let mut seen = Remarks::default();
     // what the walk finds wrong is found in the table too

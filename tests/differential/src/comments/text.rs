@@ -5,7 +5,7 @@ use model::LIMIT;
 
 /// What becomes of a comment at the end of the text ahead.
 #[derive(Clone, Copy, Debug, PartialEq, Eq)]
-pub enum Fate {
+pub enum Outcome {
     /// The end closes it.
     Closed,
     /// It is refused.
@@ -22,15 +22,20 @@ pub struct Marks {
     calls: &'static str,
     begin: &'static str,
     end: &'static str,
-    pub fate: Fate,
+    pub outcome: Outcome,
 }
 
-const fn marks(calls: &'static str, begin: &'static str, end: &'static str, fate: Fate) -> Marks {
+const fn marks(
+    calls: &'static str,
+    begin: &'static str,
+    end: &'static str,
+    outcome: Outcome,
+) -> Marks {
     Marks {
         calls,
         begin,
         end,
-        fate,
+        outcome,
     }
 }
 
@@ -38,52 +43,67 @@ const BOTH: &str = "changecom({@},{E})";
 /// In the calls `@` stands for the begin mark, `E` for the end mark, `{` and `}` for quote marks.
 pub const MARKS: [Marks; 23] = [
     // a newline ends comments: from the start, by one argument, given, or again
-    marks("", "#", "\n", Fate::Closed),
-    marks("changecom({@})", "%", "\n", Fate::Closed),
-    marks("changecom({@})", "%%%", "\n", Fate::Closed),
-    marks(BOTH, "%", "\n", Fate::Closed),
-    marks(BOTH, "<!-->", "\n", Fate::Closed),
-    marks("changecom({%},{;})changecom({@})", "#", "\n", Fate::Closed),
-    marks("changecom{}changecom({@},{E})", "\u{0}", "\n", Fate::Closed),
+    marks("", "#", "\n", Outcome::Closed),
+    marks("changecom({@})", "%", "\n", Outcome::Closed),
+    marks("changecom({@})", "%%%", "\n", Outcome::Closed),
+    marks(BOTH, "%", "\n", Outcome::Closed),
+    marks(BOTH, "<!-->", "\n", Outcome::Closed),
+    marks(
+        "changecom({%},{;})changecom({@})",
+        "#",
+        "\n",
+        Outcome::Closed,
+    ),
+    marks(
+        "changecom{}changecom({@},{E})",
+        "\u{0}",
+        "\n",
+        Outcome::Closed,
+    ),
     // another mark does
-    marks(BOTH, "#", ";", Fate::Refused),
-    marks(BOTH, "%", ";;", Fate::Refused),
-    marks(BOTH, "<!--", "--", Fate::Refused),
-    marks(BOTH, "%", "%", Fate::Refused),
-    marks(BOTH, "%%", "%", Fate::Refused),
-    marks(BOTH, "%", "\r", Fate::Refused),
-    marks("changecom({@})changecom({@},{E})", "#", "'", Fate::Refused),
+    marks(BOTH, "#", ";", Outcome::Refused),
+    marks(BOTH, "%", ";;", Outcome::Refused),
+    marks(BOTH, "<!--", "--", Outcome::Refused),
+    marks(BOTH, "%", "%", Outcome::Refused),
+    marks(BOTH, "%%", "%", Outcome::Refused),
+    marks(BOTH, "%", "\r", Outcome::Refused),
+    marks(
+        "changecom({@})changecom({@},{E})",
+        "#",
+        "'",
+        Outcome::Refused,
+    ),
     // quotes that begin like comments, which are tried first
     marks(
         "changecom({@})changequote({@},{]})",
         "[",
         "\n",
-        Fate::Closed,
+        Outcome::Closed,
     ),
     marks(
         "changecom({@})changequote({[},{]})",
         "[[",
         "\n",
-        Fate::Closed,
+        Outcome::Closed,
     ),
     marks(
         "changecom({@})changequote({[[},{]})",
         "[",
         "\n",
-        Fate::Closed,
+        Outcome::Closed,
     ),
-    marks("changequote({@},{;})", "#", "\n", Fate::Closed),
+    marks("changequote({@},{;})", "#", "\n", Outcome::Closed),
     marks(
         "changecom({@},{E})changequote({@},{\n})",
         "[",
         ";",
-        Fate::Refused,
+        Outcome::Refused,
     ),
     // no comments, and quotes that a newline ends
-    marks("changecom{}", "#", "\n", Fate::Off),
-    marks("changecom{}changequote({@},{E})", "#", "\n", Fate::Quote),
-    marks("changequote({@},{E})", "%", "\n", Fate::Quote),
-    marks("changequote({@})", "%%", "\n", Fate::Quote),
+    marks("changecom{}", "#", "\n", Outcome::Off),
+    marks("changecom{}changequote({@},{E})", "#", "\n", Outcome::Quote),
+    marks("changequote({@},{E})", "%", "\n", Outcome::Quote),
+    marks("changequote({@})", "%%", "\n", Outcome::Quote),
 ];
 
 /// A content that shows most.
