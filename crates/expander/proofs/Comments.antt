@@ -16,7 +16,7 @@ use Rattle.rules.specs.Bytes.{Bytes, sameBytes}
 use Rattle.rules.specs.Marks.{newlineMark}
 use Rattle.rules.specs.Tokens.{beginsWith, later, firstPlace, commentToEnd, commentRead}
 use Rattle.expander.specs.Ahead.{isOther, plainLength, NextEither}
-use Rattle.expander.specs.Tokens.{commentTo, commentFrom}
+use Rattle.expander.specs.Tokens.{commentEndingAt, commentFrom}
 use Rattle.expander.proofs.Runs.{skip-plain, other-first}
 use Rattle.expander.proofs.Marks.{begins-short, other-byte}
 
@@ -31,11 +31,11 @@ newline-byte (x ∷ []) h = go (eqb x 10)
     go false = refl
 newline-byte (x ∷ y ∷ ys) h = absurd (omega arith)
 
-pub newline-longer : (m : Bytes) → (length m ≡ 1 → ⊥) → false ≡ sameBytes m newlineMark
+pub newline-other-length : (m : Bytes) → (length m ≡ 1 → ⊥) → false ≡ sameBytes m newlineMark
 unfolding sameBytes
-newline-longer [] h = refl
-newline-longer (x ∷ []) h = absurd (h refl)
-newline-longer (x ∷ y ∷ ys) h = go (eqb x 10)
+newline-other-length [] h = refl
+newline-other-length (x ∷ []) h = absurd (h refl)
+newline-other-length (x ∷ y ∷ ys) h = go (eqb x 10)
   where
     go : (t : Bool) → false ≡ elim t [ true ↦ false | false ↦ false ]
     go true = refl
@@ -43,21 +43,21 @@ newline-longer (x ∷ y ∷ ys) h = go (eqb x 10)
 
 -- a comment that ends at the place i, or beyond the n bytes ahead
 module _ (n i : ℕ) where
-  pub ends-within : i ≤ n → Is (token.Comment i) ≡ commentTo n i
-  unfolding commentTo
-  ends-within h = rw (le-ltb n i h, commentTo)
+  pub ends-within : i ≤ n → Is (token.Comment i) ≡ commentEndingAt n i
+  unfolding commentEndingAt
+  ends-within h = rw (le-ltb n i h, commentEndingAt)
 
-  pub ends-beyond : n < i → OpenComment ≡ commentTo n i
-  unfolding commentTo
-  ends-beyond h = rw (lt-ltb n i h, commentTo)
+  pub ends-beyond : n < i → OpenComment ≡ commentEndingAt n i
+  unfolding commentEndingAt
+  ends-beyond h = rw (lt-ltb n i h, commentEndingAt)
 
 -- one that no end mark closes
 module _ (end : Bytes) (n : ℕ) where
-  pub end-closes : sameBytes end newlineMark ≡ true → commentTo n n ≡ commentToEnd end n
+  pub end-closes : sameBytes end newlineMark ≡ true → commentEndingAt n n ≡ commentToEnd end n
   unfolding commentToEnd
   end-closes e = sym (ends-within n n (omega arith)) ∙ rw (e, commentToEnd)
 
-  pub end-leaves-open : sameBytes end newlineMark ≡ false → commentTo n (n + 1) ≡ commentToEnd end n
+  pub end-leaves-open : sameBytes end newlineMark ≡ false → commentEndingAt n (n + 1) ≡ commentToEnd end n
   unfolding commentToEnd
   end-leaves-open e = sym (ends-beyond n (n + 1) (omega arith)) ∙ rw (e, commentToEnd)
 

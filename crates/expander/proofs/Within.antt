@@ -92,7 +92,7 @@ quote-in begin end d zero (x ∷ xs) = go d (beginsWith end (x ∷ xs)) refl (be
     go d false e true f h = rw (quote-more begin end x xs d e f) (h (suc d) _)
     go d false e false f h = rw (quote-same begin end x xs d e f) (h d 0)
 
--- the tokens behind a begin mark of b bytes, and those with none
+-- a comment that no end mark closes
 to-end-in : (end text : Bytes) → ReadingIn text (commentToEnd end (length text))
 unfolding commentToEnd
 to-end-in end text = go (sameBytes end newlineMark)
@@ -101,6 +101,7 @@ to-end-in end text = go (sameBytes end newlineMark)
     go true = omega arith
     go false = tt
 
+-- the tokens behind a begin mark of b bytes, and those with none
 comment-in : (end text : Bytes) (b : ℕ) → b ≤ length text → ReadingIn text (commentFrom end text b)
 unfolding commentFrom commentRead
 comment-in end text b h =

@@ -48,8 +48,8 @@ unfoldable pub metAt : Bytes → Bytes → Bytes → Met
 metAt first second text = metBy (atMark first text) (atMark second text)
 
 -- a comment that ends at the place i, left open if that is beyond the n bytes ahead
-unfoldable pub commentTo : ℕ → ℕ → Reading
-commentTo n i = elim (ltb n i) [ true ↦ OpenComment | false ↦ Is (token.Comment i) ]
+unfoldable pub commentEndingAt : ℕ → ℕ → Reading
+commentEndingAt n i = elim (ltb n i) [ true ↦ OpenComment | false ↦ Is (token.Comment i) ]
 
 -- what a comment comes to, from a place inside it on
 unfoldable pub commentFrom : Bytes → Bytes → ℕ → Reading

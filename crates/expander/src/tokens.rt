@@ -13,7 +13,7 @@ ghost use lib.ListN.{length, drop, getD};
 ghost use Rattle.rules.specs.Bytes.{sameBytes, nameLength};
 ghost use Rattle.rules.specs.Marks.{markText, markTexts, newlineMark};
 ghost use Rattle.rules.specs.Tokens.{beginsWith, atMark, commentToEnd, readToken};
-ghost use Rattle.expander.specs.Tokens.{FullMark, GoodMarks, MarkLength, FirstByte, metAt, commentTo, commentFrom, quotedFrom, Inside, Passed, plainRead, Within};
+ghost use Rattle.expander.specs.Tokens.{FullMark, GoodMarks, MarkLength, FirstByte, metAt, commentEndingAt, commentFrom, quotedFrom, Inside, Passed, plainRead, Within};
 
 // The first of two marks stands at a place, or else the second, or neither.
 enum Met {
@@ -159,9 +159,9 @@ fn read_quoted(begin: Mark, end: Mark, front: &[u8], rest: &[u8]) -> Reading
 }
 
 // Where a comment ends that no end mark closes: with the bytes ahead if the end mark is a newline, else beyond them.
-fn unclosed_end(end: Mark, ahead: usize) -> usize
+fn end_without_mark(end: Mark, ahead: usize) -> usize
     requires { ⌜ FullMark end × (ahead + 1 < 2 ^ 64) ⌝ }
-    ensures { λ r. ⌜ commentTo ahead r ≡ commentToEnd (markText end) ahead ⌝ }
+    ensures { λ r. ⌜ commentEndingAt ahead r ≡ commentToEnd (markText end) ahead ⌝ }
 {
     let beyond = ahead + 1;
     if is_newline(end) {
@@ -173,7 +173,7 @@ fn unclosed_end(end: Mark, ahead: usize) -> usize
 // Where a comment ends, whose end mark is sought from a place inside it on; beyond the text ahead if it does not end there.
 fn comment_end(end: Mark, front: &[u8], rest: &[u8], from: usize) -> usize
     requires { ⌜ FullMark end ⌝ }
-    ensures { λ r. ⌜ commentTo (length (now (front .entry) ++ now (rest .entry))) r ≡ commentFrom (markText end) (now (front .entry) ++ now (rest .entry)) from ⌝ }
+    ensures { λ r. ⌜ commentEndingAt (length (now (front .entry) ++ now (rest .entry))) r ≡ commentFrom (markText end) (now (front .entry) ++ now (rest .entry)) from ⌝ }
 {
     let n = ahead_length(front, rest);
     let a = first_byte(end);
@@ -185,7 +185,7 @@ fn comment_end(end: Mark, front: &[u8], rest: &[u8], from: usize) -> usize
         }
         i = at + 1;
     }
-    unclosed_end(end, n)
+    end_without_mark(end, n)
 }
 
 // A comment, whose begin mark stands ahead.

@@ -7,7 +7,7 @@ use lib.ListN.{length}
 use borrow.Author.Needs.{needs}
 use Rattle.rules.specs.Marks.{markText}
 use Rattle.rules.specs.Tokens.{commentToEnd}
-use Rattle.expander.specs.Tokens.{commentTo, commentFrom}
+use Rattle.expander.specs.Tokens.{commentEndingAt, commentFrom}
 use Rattle.expander.proofs.Marks.{mark-room}
 use Rattle.expander.proofs.Comments.{ends-within, comment-here, comment-over, comment-skips, comment-on}
 use Rattle.expander.proofs.tokens.comment_end.Statement.{statement}
@@ -63,7 +63,7 @@ returns c =
     let a = c .before .before .before .before .before .before .before .before .before .before .args in
     let text = a .front .now ++ a .rest .now in
     let at = c .before .before .before .next-either .result in
-    ap (λ (n : ℕ). commentTo (length text) (at + n)) (c .mark-length .ensures .whole)
+    ap (λ (n : ℕ). commentEndingAt (length text) (at + n)) (c .mark-length .ensures .whole)
     ∙ sym (ends-within (length text) (at + length (markText (a .end))) (room c))
     ∙ comment-here (markText (a .end)) text at (sym (c .before .before .mark-at .ensures) ∙ c .before .if1 .taken)
     ∙ kept (c .before .before .before)
@@ -79,8 +79,8 @@ loop-again c =
     let a = c .before .before .before .before .before .before .before .before .before .args in
     comment-on (markText (a .end)) (a .front .now ++ a .rest .now) (c .before .before .next-either .result) (sym (c .before .mark-at .ensures) ∙ c .if1 .left) ∙ kept (c .before .before)
 
-unclosed-end-requires : tie.Need-unclosed-end-requires Inv-loop μ-loop
-unclosed-end-requires c κs = search needs
+end-without-mark-requires : tie.Need-end-without-mark-requires Inv-loop μ-loop
+end-without-mark-requires c κs = search needs
 
 returns-2 : tie.Need-returns-2 Inv-loop μ-loop
 returns-2 c =
@@ -88,8 +88,8 @@ returns-2 c =
     let text = a .front .now ++ a .rest .now in
     let l = c .before .before .loop in
     let n = c .before .before .before .before .ahead-length in
-    ap (λ (k : ℕ). commentTo k (c .unclosed-end .result)) (sym (n .ensures .whole))
-    ∙ c .unclosed-end .ensures
+    ap (λ (k : ℕ). commentEndingAt k (c .end-without-mark .result)) (sym (n .ensures .whole))
+    ∙ c .end-without-mark .ensures
     ∙ ap (commentToEnd (markText (a .end))) (n .ensures .whole)
     ∙ comment-over (markText (a .end)) text (l .i) (c .before .before .before .first-byte .ensures .full) (omega arith)
     ∙ l .inv
@@ -111,5 +111,5 @@ comment-end-spec =
     add-i
     loop-less
     loop-again
-    unclosed-end-requires
+    end-without-mark-requires
     returns-2)

@@ -4,7 +4,7 @@ use mathlib.Core.Path.{sym, ap, _∙_}
 use lib.Dec.{eqb}
 use borrow.Author.Needs.{needs}
 use Rattle.rules.specs.Marks.{markText}
-use Rattle.expander.proofs.Comments.{newline-byte, newline-longer}
+use Rattle.expander.proofs.Comments.{newline-byte, newline-other-length}
 use Rattle.expander.proofs.tokens.is_newline.Statement.{statement}
 use Rattle.expander.proofs.tokens.is_newline.Tie as tie
 
@@ -12,7 +12,7 @@ mark-length-requires : tie.Need-mark-length-requires
 mark-length-requires c κs = search needs
 
 returns : tie.Need-returns
-returns c = newline-longer (markText (c .before .before .args .m)) (λ h. c .if1 .taken (c .before .mark-length .ensures .whole ∙ h))
+returns c = newline-other-length (markText (c .before .before .args .m)) (λ h. c .if1 .taken (c .before .mark-length .ensures .whole ∙ h))
 
 first-byte-requires : tie.Need-first-byte-requires
 first-byte-requires c κs = search needs

@@ -5,7 +5,7 @@ use mathlib.Core.List.{_++_}
 use lib.ListN.{length}
 use borrow.Author.Needs.{needs}
 use Rattle.rules.specs.Marks.{markText}
-use Rattle.expander.specs.Tokens.{commentTo, commentFrom}
+use Rattle.expander.specs.Tokens.{commentEndingAt, commentFrom}
 use Rattle.expander.proofs.Comments.{ends-within, ends-beyond}
 use Rattle.expander.proofs.tokens.read_comment.Statement.{statement}
 use Rattle.expander.proofs.tokens.read_comment.Tie as tie
@@ -21,7 +21,7 @@ ahead-length-requires c κs = search needs
 
 -- the place that was given back says what the comment comes to
 closed : (c : tie.After-ahead-length)
-    → (let a = c .before .before .before .before .before .args in let text = a .front .now ++ a .rest .now in commentTo (length text) (c .before .comment-end .result) ≡ commentFrom (markText (a .end)) text (length (markText (a .begin))))
+    → (let a = c .before .before .before .before .before .args in let text = a .front .now ++ a .rest .now in commentEndingAt (length text) (c .before .comment-end .result) ≡ commentFrom (markText (a .end)) text (length (markText (a .begin))))
 closed c =
     let a = c .before .before .before .before .before .args in
     c .before .comment-end .ensures ∙ ap (commentFrom (markText (a .end)) (a .front .now ++ a .rest .now)) (c .before .before .mark-length .ensures .whole)
