@@ -4,6 +4,7 @@
 Every expected text and number is written by hand from the rules. The judges are in tests/command. The last line is 'N passed, M failed'.
 """
 import os
+import signal
 import sys
 import tempfile
 
@@ -28,7 +29,15 @@ PARTS = [
 ]
 
 
+def as_from_the_start():
+    """What the command inherits: who runs these tests may have signals ignored, as nohup does, and a shell for what it runs in the background."""
+    for number in (signal.SIGHUP, signal.SIGINT, signal.SIGQUIT):
+        if signal.getsignal(number) == signal.SIG_IGN:
+            signal.signal(number, signal.SIG_DFL)
+
+
 def main():
+    as_from_the_start()
     for part in [crate.missing_archive, crate.build, crate.tests, crate.habits] + PARTS:
         with tempfile.TemporaryDirectory() as folder:
             part(folder)

@@ -37,15 +37,10 @@ class Held:
         return status, get(os.path.join(self.folder, "sheet")), get(os.path.join(self.folder, "numbers")), self.others()
 
 
-def unignored(number):
-    """A signal as it is from the start, without a core file: who runs these tests may have it ignored, as nohup does."""
-    resource.setrlimit(resource.RLIMIT_CORE, (0, 0))
-    signal.signal(number, signal.SIG_DFL)
-
-
 def signals(folder):
+    no_core = lambda: resource.setrlimit(resource.RLIMIT_CORE, (0, 0))
     for number in (signal.SIGHUP, signal.SIGINT, signal.SIGQUIT, signal.SIGUSR1, signal.SIGUSR2, signal.SIGALRM, signal.SIGTERM, signal.SIGXCPU):
-        held = Held(folder, preexec_fn=lambda: unignored(number))
+        held = Held(folder, preexec_fn=no_core)
         check("before %s there are two temporary files" % number.name, held.others(), [".quenhovach-0", ".quenhovach-1"])
         held.process.send_signal(number)
         check("%s ends the process, and leaves no temporary file" % number.name, held.ended(), (-number, b"old", b"", []))
