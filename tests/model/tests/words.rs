@@ -2,36 +2,11 @@
 //! plain text unless `(` directly follows. The other seven keep their bare call." Every answer below
 //! is worked out by hand from the papers, a step for each token; room is ample unless said.
 
+mod common;
+
+use common::{answers, report, with_room};
 use model::ways::NEED_PARENTHESIS;
 use model::{expand, Report, Setting};
-
-fn report([number, detail, steps, place]: [u32; 4], output: &str) -> Report {
-    Report {
-        number,
-        detail,
-        steps,
-        place,
-        output: output.as_bytes().to_vec(),
-        errors: Vec::new(),
-    }
-}
-
-/// A text, its number, detail, steps and place, and its output.
-type Case = (&'static str, [u32; 4], &'static str);
-
-fn answers(cases: &[Case]) {
-    for &(text, numbers, output) in cases {
-        let got = expand(text.as_bytes(), &Setting::ample());
-        assert_eq!(got, report(numbers, output), "{text}");
-    }
-}
-
-/// Expands with ample room but for one buffer, by its number in 01.
-fn with_room(text: &str, buffer: usize, length: usize) -> Report {
-    let mut setting = Setting::ample();
-    setting.lengths[buffer - 1] = length;
-    expand(text.as_bytes(), &setting)
-}
 
 #[test]
 fn each_word_alone_is_itself() {
