@@ -119,6 +119,51 @@ uint32_t quenhovach_expand(
     uint32_t budget,
     uint32_t report[QUENHOVACH_REPORT_LENGTH]);
 
+/* The index of lines: a refusal gives a byte place, people look for a line.
+ *
+ * The index of a text is QUENHOVACH_LINES_WORDS(text_len) words and as many totals, in room that the caller lends. Word k has a bit for each of the
+ * bytes 64 k to 64 k + 63 of the text, the least for the first, set at newlines (byte 10); total k is the count of newlines before them. Once it
+ * is built, the text is not needed any more: the two questions take its length.
+ *
+ * Each function returns 0, or one of four refusals. They are judged in the order 30, 33, 31, 32.
+ */
+enum {
+    QUENHOVACH_LINES_TOO_LONG = 30, /* the text is longer than QUENHOVACH_MAX_LENGTH */
+    QUENHOVACH_LINES_BEYOND = 31,   /* the place is beyond the end of the text; the end itself is allowed */
+    QUENHOVACH_LINES_NO_LINE = 32,  /* there is no such line */
+    QUENHOVACH_LINES_NO_ROOM = 33   /* fewer words or totals are lent than the text's index has */
+};
+
+/* How many words, and how many totals, the index of a text has. */
+#define QUENHOVACH_LINES_WORDS(text_len) ((text_len) / 64 + 1)
+
+/* Builds the index of a text: 0, or 30 or 33. Its words and totals are written; what is lent behind them stays as it was, and with a refusal
+ * all does. */
+uint32_t quenhovach_lines_build(
+    const uint8_t *text, size_t text_len,
+    uint64_t *words, size_t words_len,
+    uint32_t *totals, size_t totals_len);
+
+/* The line of a place: one more than the newlines before it. 0, or 30, 33 or 31; with a refusal the line is written as 0.
+ *
+ * Of a built index it is the line that counting through the text gives; of any other words and totals one more than the place's total and the
+ * set bits below the place in its word. One total and one word are read. */
+uint32_t quenhovach_lines_line_of(
+    size_t text_len,
+    const uint64_t *words, size_t words_len,
+    const uint32_t *totals, size_t totals_len,
+    size_t place, uint64_t *line);
+
+/* Where a line starts: line 1 at 0, another behind the newline before it. 0, or 30, 33 or 32; with a refusal the start is written as 0.
+ *
+ * A text that ends in a newline has one more line, which starts at its length. Of any words and totals that newline is sought in the last word
+ * whose total is below the line's number less one. */
+uint32_t quenhovach_lines_start_of(
+    size_t text_len,
+    const uint64_t *words, size_t words_len,
+    const uint32_t *totals, size_t totals_len,
+    uint64_t line, uint64_t *start);
+
 #ifdef __cplusplus
 }
 #endif

@@ -1,10 +1,10 @@
 #!/usr/bin/env python3
 """definitions.py [FILE..]: computes lines of vectors with the definitions of crates/rules and compares every answer.
 
-FILE is a table like tests/vectors.tsv (the default): item, text, seven lengths, budget, number, detail, steps, place, output and error
-text, separated by tabs; texts in hexadecimal, - for none. The definitions are computed by the prover: a crate with one statement for
-each line is made outside the tree and checked. Two kinds of line are left out, as they are out of reach of a computation over lists: a
-text of more than 65,536 bytes, and a result of 2147483647 bytes. Ends with 'N passed, M failed'; exit status 0 only if M is 0.
+FILE is a table like tests/vectors.tsv, of runs, or like tests/lines.tsv, of the index of lines; these two are the default. Their heads say what stands
+in their columns, which are separated by tabs. The definitions are computed by the prover: a crate with one statement for each line is made
+outside the tree and checked. Of the runs two kinds of line are left out, as they are out of reach of a computation over lists: a text of more than
+65,536 bytes, and a result of 2147483647 bytes. Ends with 'N passed, M failed'; exit status 0 only if M is 0.
 """
 import os
 import re
@@ -19,14 +19,18 @@ LEFT_OUT = (lambda text: len(text) > 65536, lambda text: b"2147483647)" in text 
 HEAD = """-- Made by tests/definitions.py.
 use Prim.Native.Nat.{ℕ}
 use mathlib.Core.Bool.{Bool, true, false, _&&_}
-use mathlib.Core.List.{List, [], _∷_}
+use mathlib.Core.List.{List, [], _∷_, _++_}
 use mathlib.Core.Path.{_≡_, refl}
+use lib.Count.{onesIn}
 use lib.Dec.{eqb}
+use lib.ListN.{length, replicate}
+use Rattle.rules.specs.declared.IndexAnswer.{IndexAnswer}
 use Rattle.rules.specs.Bytes.{Bytes, sameBytes}
 use Rattle.rules.specs.Answers.{answerNumber, answerDetail}
 use Rattle.rules.specs.State.{freshStart}
 use Rattle.rules.specs.Run.{Setting, Ended, run}
 use Rattle.rules.specs.Contract.{outputOf, errorsOf}
+use Rattle.rules.specs.Lines.{indexNumber, indexValue, wordsOf, totalsOf, building, keptBy, lineOf, startOf}
 use Rattle.rules.proofs.Book.{book}
 
 setting : ℕ → ℕ → ℕ → ℕ → ℕ → ℕ → ℕ → ℕ → Setting
@@ -37,7 +41,19 @@ unfolding book
 meets number detail steps place output errors e =
     eqb (answerNumber (e .answer)) number && eqb (answerDetail (e .answer)) detail && eqb (e .steps) steps && eqb (e .state .source .taken) place
     && sameBytes (outputOf e) output && sameBytes (errorsOf e) errors
+
+answers : ℕ → ℕ → IndexAnswer → Bool
+unfolding book
+answers number value a = eqb (indexNumber a) number && eqb (indexValue a) value
+
+builds : ℕ → ℕ → Bytes → List ℕ → List ℕ → List ℕ → List ℕ → Bool
+unfolding book
+builds number value text words totals w t =
+    answers number value (building text words totals)
+    && sameBytes (keptBy (building text words totals) (wordsOf text) words) w && sameBytes (keptBy (building text words totals) (totalsOf text) totals) t
 """
+# how many columns a line has that says what a run, or the index of lines, answers
+RUN, INDEX = 10, 11
 
 
 def listed(data):
@@ -49,16 +65,38 @@ def unhex(word):
 
 
 def left_out(fields):
-    return any(left(unhex(fields[1])) for left in LEFT_OUT)
+    return len(fields) == RUN and any(left(unhex(fields[1])) for left in LEFT_OUT)
+
+
+def of_run(fields):
+    """That a run gives what the line says, as a test that comes out true."""
+    _, text, lengths, budget, answer, detail, steps, place, output, errors = fields
+    started = "(run (freshStart %s) (setting %s %s))" % (listed(unhex(text)), lengths.replace(",", " "), budget)
+    return "meets %s %s %s %s %s %s %s" % (answer, detail, steps, place, listed(unhex(output)), listed(unhex(errors)), started)
+
+
+def repeated(word, base):
+    """The numbers of a column: those between commas, V*N for V repeated N times."""
+    parts = [] if word == "-" else [part.partition("*") for part in word.split(",")]
+    lists = ["replicate %s %d" % (count or 1, int(value, base)) for value, _, count in parts]
+    return "(" + " ++ ".join(lists or ["[]"]) + ")"
+
+
+def of_index(fields):
+    """That the index of lines answers what the line says, and leaves what it says."""
+    _, function, text, asked, words, totals, number, value, words_after, totals_after, _ = fields
+    lent = "%s %s" % (repeated(words, 16), repeated(totals, 10))
+    if function == "build":
+        data = repeated(text, 16) if "*" in text else listed(unhex(text))
+        return "builds %s %s %s %s %s %s" % (number, value, data, lent, repeated(words_after, 16), repeated(totals_after, 10))
+    if (words, totals) != (words_after, totals_after):
+        sys.exit("a question writes nothing: %s" % fields)
+    return "answers %s %s (%s %s %s %s)" % (number, value, {"line": "lineOf", "start": "startOf"}[function], text, lent, asked)
 
 
 def statement(number, fields):
-    _, text, lengths, budget, answer, detail, steps, place, output, errors = fields
-    return """
-line%d : meets %s %s %s %s %s %s (run (freshStart %s) (setting %s %s)) ≡ true
-unfolding book meets setting
-line%d = refl
-""" % (number, answer, detail, steps, place, listed(unhex(output)), listed(unhex(errors)), listed(unhex(text)), lengths.replace(",", " "), budget, number)
+    test = {RUN: of_run, INDEX: of_index}[len(fields)](fields)
+    return "\nline%d : %s ≡ true\nunfolding book onesIn meets setting answers builds\nline%d = refl\n" % (number, test, number)
 
 
 def read(path):
@@ -75,34 +113,35 @@ def check(rows):
     """The numbers of the rows whose statement is refused, with the prover's word on each."""
     with tempfile.TemporaryDirectory() as folder:
         shutil.copytree(os.path.join(ROOT, "crates", "rules"), os.path.join(folder, "crates", "rules"), ignore=shutil.ignore_patterns("must-fail"))
-        lines = os.path.join(folder, "crates", "lines")
-        os.makedirs(os.path.join(lines, "src"))
-        os.makedirs(os.path.join(lines, "proofs"))
+        computed = os.path.join(folder, "crates", "computed")
+        os.makedirs(os.path.join(computed, "src"))
+        os.makedirs(os.path.join(computed, "proofs"))
         with open(os.path.join(folder, "crates.txt"), "w") as f:
-            f.write("rules:\nlines: rules\n")
-        with open(os.path.join(lines, "src", "lib.rt"), "w") as f:
+            f.write("rules:\ncomputed: rules\n")
+        with open(os.path.join(computed, "src", "lib.rt"), "w") as f:
             f.write("// Made by tests/definitions.py.\npub struct Line {\n    pub number: u32,\n}\n")
-        with open(os.path.join(lines, "proofs", "Lib.antt"), "w") as f:
+        with open(os.path.join(computed, "proofs", "Lib.antt"), "w") as f:
             f.write("pub mod Lines\n")
-        with open(os.path.join(lines, "proofs", "Lines.antt"), "w") as f:
+        with open(os.path.join(computed, "proofs", "Lines.antt"), "w") as f:
             f.write(HEAD + "".join(statement(i, fields) for i, fields in rows))
-        run = subprocess.run(["rt", "check", "lines"], cwd=folder, capture_output=True, text=True, env=dict(os.environ, RT_CUT="0"))
+        run = subprocess.run(["rt", "check", "computed"], cwd=folder, capture_output=True, text=True, env=dict(os.environ, RT_CUT="0"))
     wrong = {}
     for line in (run.stdout + run.stderr).split("\n"):
         found = re.search(r"error: (?:in )?`line(\d+)`(.*)", line)
         if found:
             wrong.setdefault(int(found.group(1)), found.group(2).strip(": ")[:300])
     if run.returncode != 0 and not wrong:
-        sys.exit("the crate of lines could not be checked:\n" + run.stdout + run.stderr)
+        sys.exit("the crate of statements could not be checked:\n" + run.stdout + run.stderr)
     return wrong
 
 
 def main():
-    rows = [fields for path in sys.argv[1:] or [os.path.join(ROOT, "tests", "vectors.tsv")] for fields in read(path)]
+    tables = sys.argv[1:] or [os.path.join(ROOT, "tests", name) for name in ("vectors.tsv", "lines.tsv")]
+    rows = [fields for path in tables for fields in read(path)]
     kept = [(i, fields) for i, fields in enumerate(rows) if not left_out(fields)]
     wrong = check(kept)
     for i in sorted(wrong):
-        print("wrong: %s, text %s, expected %s: %s" % (rows[i][0], unhex(rows[i][1])[:200], rows[i][2:], wrong[i]))
+        print("wrong: %s: %s" % ("  ".join(rows[i])[:400], wrong[i]))
     print("%d lines left out (out of reach of a computation)" % (len(rows) - len(kept)))
     print("%d passed, %d failed" % (len(kept) - len(wrong), len(wrong)))
     sys.exit(1 if wrong else 0)

@@ -2,7 +2,7 @@
 """incremental_edits.py [CRATE..]: the must-fail edits of the crates with code below the programs, over an incremental check.
 
 `rt ci` pays a check of the whole crate for each edit of crates/NAME/must-fail. So the edits of these crates stand in tests/edits/CRATE, in the same
-form (tests/refused.py), and are tried here in a copy of the tree, as many at once as don't touch the same function:
+form (tests/refused.py), and are tried here in a copy of what they need, as many at once as don't touch the same function:
 each changes bodies only, and a function is proved from its own body and its callees' contracts, so no edit can hide another. A check has to refuse the
 functions of each edit, each in its own proof and at its promise, and none that no edit touches; what rests on one of these is not counted. An edit that was
 refused because the proof file does not fit the edited code fails. So does a public function with fewer than two edits, or with none that is refused at `returns`.
@@ -23,9 +23,20 @@ sys.dont_write_bytecode = True
 import refused  # noqa: E402
 
 ROOT = os.path.dirname(os.path.dirname(os.path.abspath(__file__)))
-BELOW = ["rules", "ascii", "numerals", "expression", "matching", "answers"]
-CRATES = ["answers", "ascii", "numerals", "matching", "expression", "expander"]
+CRATES = ["answers", "ascii", "numerals", "matching", "expression", "lines", "expander", "capi"]
 SMALLEST = "answers"
+
+
+def needs_of(crates):
+    """All that some crates need, and these themselves, as crates.txt has them: {NAME: its line}."""
+    lines = [line for line in open(os.path.join(ROOT, "crates.txt")).read().splitlines() if line and not line.startswith("#")]
+    listed, found, ahead = {line.split(":")[0]: line for line in lines}, {}, list(crates)
+    while ahead:
+        name = ahead.pop()
+        if name not in found:
+            found[name] = listed[name]
+            ahead += listed[name].split(":")[1].split()
+    return found
 
 
 def proved_by_rt_ci(crate):
@@ -38,14 +49,16 @@ def proved_by_rt_ci(crate):
     return bool(ended)
 
 
-def copy_tree(to):
-    lines = open(os.path.join(ROOT, "crates.txt")).read().splitlines()
+def copy_tree(to, crates):
+    """What some crates need, in another folder: the sources, and of what `rt ci` proves beside this all that stands below them."""
+    needed = needs_of(crates + [SMALLEST])
+    below = {name for line in needed.values() for name in line.split(":")[1].split()}
     with open(os.path.join(to, "crates.txt"), "w") as f:
-        f.write("\n".join(line for line in lines if line.split(":")[0] in BELOW + ["expander"]) + "\n")
+        f.write("\n".join(needed.values()) + "\n")
     os.makedirs(os.path.join(to, "target", "stamp"))
-    for name in BELOW + ["expander"]:
+    for name in needed:
         shutil.copytree(os.path.join(ROOT, "crates", name), os.path.join(to, "crates", name))
-    for name in filter(proved_by_rt_ci, BELOW):
+    for name in filter(proved_by_rt_ci, sorted(below)):
         shutil.copytree(os.path.join(ROOT, "target", "rlib", name + ".rlib"), os.path.join(to, "target", "rlib", name + ".rlib"))
         shutil.copy(os.path.join(ROOT, "target", "stamp", name), os.path.join(to, "target", "stamp", name))
 
@@ -140,9 +153,10 @@ def try_crate(crate, tree):
 
 
 def main():
+    crates = sys.argv[1:] or CRATES
     with tempfile.TemporaryDirectory() as tree:
-        copy_tree(tree)
-        counts = [try_crate(crate, tree) for crate in sys.argv[1:] or CRATES]
+        copy_tree(tree, crates)
+        counts = [try_crate(crate, tree) for crate in crates]
     passed, failed = sum(p for p, _ in counts), sum(f for _, f in counts)
     print("%d passed, %d failed" % (passed, failed))
     sys.exit(1 if failed or not passed else 0)

@@ -6,8 +6,11 @@ struct slice {
     size_t length;
 };
 
-uint32_t capi_inner(struct slice *, struct slice *, struct slice *, struct slice *, struct slice *, struct slice *, struct slice *,
-                    struct slice *, uint32_t, uint32_t *);
+uint32_t inner_quenhovach_expand(struct slice *, struct slice *, struct slice *, struct slice *, struct slice *, struct slice *, struct slice *,
+                                 struct slice *, uint32_t, uint32_t *);
+uint32_t inner_quenhovach_lines_build(struct slice *, struct slice *, struct slice *);
+uint32_t inner_quenhovach_lines_line_of(size_t, struct slice *, struct slice *, size_t, uint64_t *);
+uint32_t inner_quenhovach_lines_start_of(size_t, struct slice *, struct slice *, uint64_t, uint64_t *);
 
 uint32_t quenhovach_expand(const uint8_t *text, size_t text_len, uint8_t *pending, size_t pending_len, uint8_t *calls, size_t calls_len,
                            uint8_t *definitions, size_t definitions_len, uint8_t *streams, size_t streams_len, uint8_t *wrap,
@@ -16,5 +19,25 @@ uint32_t quenhovach_expand(const uint8_t *text, size_t text_len, uint8_t *pendin
 {
     struct slice s[8] = {{text, text_len},       {pending, pending_len}, {calls, calls_len},   {definitions, definitions_len},
                          {streams, streams_len}, {wrap, wrap_len},       {errors, errors_len}, {output, output_len}};
-    return capi_inner(&s[0], &s[1], &s[2], &s[3], &s[4], &s[5], &s[6], &s[7], budget, report);
+    return inner_quenhovach_expand(&s[0], &s[1], &s[2], &s[3], &s[4], &s[5], &s[6], &s[7], budget, report);
+}
+
+uint32_t quenhovach_lines_build(const uint8_t *text, size_t text_len, uint64_t *words, size_t words_len, uint32_t *totals, size_t totals_len)
+{
+    struct slice s[3] = {{text, text_len}, {words, words_len}, {totals, totals_len}};
+    return inner_quenhovach_lines_build(&s[0], &s[1], &s[2]);
+}
+
+uint32_t quenhovach_lines_line_of(size_t text_len, const uint64_t *words, size_t words_len, const uint32_t *totals, size_t totals_len,
+                                  size_t place, uint64_t *line)
+{
+    struct slice s[2] = {{words, words_len}, {totals, totals_len}};
+    return inner_quenhovach_lines_line_of(text_len, &s[0], &s[1], place, line);
+}
+
+uint32_t quenhovach_lines_start_of(size_t text_len, const uint64_t *words, size_t words_len, const uint32_t *totals, size_t totals_len,
+                                   uint64_t line, uint64_t *start)
+{
+    struct slice s[2] = {{words, words_len}, {totals, totals_len}};
+    return inner_quenhovach_lines_start_of(text_len, &s[0], &s[1], line, start);
 }

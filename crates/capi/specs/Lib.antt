@@ -1,2 +1,3 @@
 pub mod Agreed
 pub mod Reported
+pub mod Looked

@@ -1,5 +1,7 @@
-// The expander for C and Rust: `expander::expand` with its answer as six numbers. include/quenhovach.h declares it.
+// The library for C and Rust: `expander::expand` with its answer as six numbers, and the index of lines. include/quenhovach.h declares both.
 ghost use Rattle.capi.specs.Reported.{Reported};
+
+pub mod index;
 
 // Expands a text in lent buffers, under a budget of steps. The report is number, detail, completed steps, place, count of output bytes
 // and count of error bytes; the number is also what is returned.

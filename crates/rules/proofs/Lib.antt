@@ -11,3 +11,5 @@ pub mod Changes
 pub mod Room
 pub mod Contract
 pub mod Empty
+pub mod Newlines
+pub mod Lines

@@ -24,5 +24,7 @@ pub mod Changes
 pub mod Run
 pub mod Room
 pub mod Contract
+-- Which line is that? (02, request 6)
+pub mod Lines
 -- Worked texts
 pub mod Cases

@@ -146,3 +146,15 @@ pub struct Report {
     pub output: u32,
     pub errors: u32,
 }
+
+// 02, request 6: what the index of lines answers.
+pub enum IndexAnswer {
+    // The words and totals of the text stand.
+    Built,
+    Line(u64),
+    Start(usize),
+    TooLong,
+    Beyond,
+    NoLine,
+    NoRoom,
+}

@@ -1,0 +1,151 @@
+-- `lines::start_of` meets its contract: what it refuses, in its order, and else the loop keeps in which words the line's newline is still to be
+-- sought. Assumes nothing.
+use Prim.Native.Nat.{_-_}
+use native.Mathlib.Omega.{arith}
+use Rattle.lines.proofs.Judged.{has, lacks}
+use Rattle.lines.proofs.Questions.{start-too-long, start-no-room, start-zero, start-one, Seeking, seek-start, seek-none, seek-on, seek-place, seek-short, seek-found}
+use borrow.Author.Needs.{needs}
+use Rattle.lines.proofs.start_of.Statement.{statement}
+use Rattle.lines.proofs.start_of.Tie as tie
+
+abbrev Inv-loop : tie.InvT-loop
+Inv-loop length words totals line newline k₀ k = Seeking length words totals line k
+
+abbrev μ-loop : tie.MeasureT-loop
+μ-loop length words totals line newline k₀ k = k
+
+returns : tie.Need-returns Inv-loop μ-loop
+returns c = start-too-long (c .before .before .before .args .length) (c .before .before .before .args .words .now) (c .before .before .before .args .totals .now) (c .before .before .before .args .line) (c .if1 .taken)
+
+has-room-requires : tie.Need-has-room-requires Inv-loop μ-loop
+has-room-requires c κs = search needs
+
+returns-2 : tie.Need-returns-2 Inv-loop μ-loop
+returns-2 c = start-no-room (c .before .before .before .before .before .args .length) (c .before .before .before .before .before .args .words .now) (c .before .before .before .before .before .args .totals .now) (c .before .before .before .before .before .args .line) (c .before .before .if1 .left) (lacks (c .before .has-room .ensures) (c .if2 .taken))
+
+returns-3 : tie.Need-returns-3 Inv-loop μ-loop
+returns-3 c =
+    start-zero
+    (c .before .before .before .before .before .before .args .length) (c .before .before .before .before .before .before .args .words .now) (c .before .before .before .before .before .before .args .totals .now) (c .before .before .before .before .before .before .args .line)
+    (c .before .before .before .if1 .left)
+    (has (c .before .before .has-room .ensures) (c .before .if2 .left))
+    (c .if3 .taken)
+
+sub-newline : tie.Need-sub-newline Inv-loop μ-loop
+sub-newline c = search needs
+
+returns-4 : tie.Need-returns-4 Inv-loop μ-loop
+returns-4 c =
+    start-one
+    (c .before .before .before .before .before .before .before .args .length) (c .before .before .before .before .before .before .before .args .words .now) (c .before .before .before .before .before .before .before .args .totals .now) (c .before .before .before .before .before .before .before .args .line)
+    (c .before .before .before .before .if1 .left)
+    (has (c .before .before .before .has-room .ensures) (c .before .before .if2 .left))
+    (omega (arith, c .if4 .taken, c .before .if3 .left))
+
+add-k : tie.Need-add-k Inv-loop μ-loop
+add-k c = search needs
+
+loop-holds : tie.Need-loop-holds Inv-loop μ-loop
+loop-holds c =
+    seek-start
+    (c .before .before .before .before .before .before .before .args .length) (c .before .before .before .before .before .before .before .args .words .now) (c .before .before .before .before .before .before .before .args .totals .now) (c .before .before .before .before .before .before .before .args .line)
+    (c .before .before .before .before .if1 .left)
+    (has (c .before .before .before .has-room .ensures) (c .before .before .if2 .left))
+    (omega (arith, c .if4 .left, c .before .if3 .left))
+
+sub-k : tie.Need-sub-k Inv-loop μ-loop
+sub-k c = search needs
+
+mul-total : tie.Need-mul-total Inv-loop μ-loop
+mul-total c = omega (arith, c .before .loop .inv .below, c .before .loop .inv .short)
+
+shared-slice-read-total : tie.Need-shared-slice-read-total Inv-loop μ-loop
+shared-slice-read-total c = omega (arith, c .before .before .loop .inv .below, c .before .before .loop .inv .room .1)
+
+cast-total : tie.Need-cast-total Inv-loop μ-loop
+cast-total c = omega (arith, c .shared-slice-known3 .given (c .before .before .loop .k - 1))
+
+mul-set-bit : tie.Need-mul-set-bit Inv-loop μ-loop
+mul-set-bit c = omega (arith, c .before .before .before .loop .inv .below, c .before .before .before .loop .inv .short)
+
+shared-slice-read-set-bit : tie.Need-shared-slice-read-set-bit Inv-loop μ-loop
+shared-slice-read-set-bit c = omega (arith, c .before .before .before .before .loop .inv .below, c .before .before .before .before .loop .inv .room .0)
+
+sub-set-bit : tie.Need-sub-set-bit Inv-loop μ-loop
+sub-set-bit c = omega (arith, c .before .if5 .taken)
+
+sub-set-bit-2 : tie.Need-sub-set-bit-2 Inv-loop μ-loop
+sub-set-bit-2 c = omega (arith, c .before .if5 .taken)
+
+set-bit-requires : tie.Need-set-bit-requires Inv-loop μ-loop
+set-bit-requires c κs = search needs
+
+returns-5 : tie.Need-returns-5 Inv-loop μ-loop
+returns-5 c =
+    seek-short
+    (c .before .before .before .before .before .before .before .before .before .before .before .before .before .before .args .length) (c .before .before .before .before .before .before .before .before .before .before .before .before .before .before .args .words .now) (c .before .before .before .before .before .before .before .before .before .before .before .before .before .before .args .totals .now) (c .before .before .before .before .before .before .before .before .before .before .before .before .before .before .args .line)
+    (c .before .before .before .before .before .before .loop .inv)
+    (omega (arith, c .before .before .before .before .before .loop-test .taken))
+    (c .before .before .before .if5 .taken)
+    (c .before .set-bit .ensures)
+    (c .if6 .taken)
+
+mul-t17 : tie.Need-mul-t17 Inv-loop μ-loop
+mul-t17 c = omega (arith, c .before .before .before .before .before .before .loop .inv .below, c .before .before .before .before .before .before .loop .inv .short)
+
+add-t23 : tie.Need-add-t23 Inv-loop μ-loop
+add-t23 c = omega (arith, c .before .before .before .before .before .before .loop .inv .below, c .before .before .before .before .before .before .loop .inv .short, seek-place (c .before .before .before .before .before .before .before .before .before .before .before .before .before .before .args .length) (c .before .before .before .before .before .before .before .before .before .before .before .before .before .before .args .words .now) (c .before .before .before .before .before .before .before .before .before .before .before .before .before .before .args .totals .now) (c .before .before .before .before .before .before .before .before .before .before .before .before .before .before .args .line) (c .before .before .before .before .before .before .loop .inv) (omega (arith, c .before .before .before .before .before .loop-test .taken)) (c .before .before .before .if5 .taken) (c .before .set-bit .ensures))
+
+add-t24 : tie.Need-add-t24 Inv-loop μ-loop
+add-t24 c = omega (arith, c .before .before .before .before .before .before .loop .inv .below, c .before .before .before .before .before .before .loop .inv .short, seek-place (c .before .before .before .before .before .before .before .before .before .before .before .before .before .before .args .length) (c .before .before .before .before .before .before .before .before .before .before .before .before .before .before .args .words .now) (c .before .before .before .before .before .before .before .before .before .before .before .before .before .before .args .totals .now) (c .before .before .before .before .before .before .before .before .before .before .before .before .before .before .args .line) (c .before .before .before .before .before .before .loop .inv) (omega (arith, c .before .before .before .before .before .loop-test .taken)) (c .before .before .before .if5 .taken) (c .before .set-bit .ensures))
+
+returns-6 : tie.Need-returns-6 Inv-loop μ-loop
+returns-6 c =
+    seek-found
+    (c .before .before .before .before .before .before .before .before .before .before .before .before .before .before .args .length) (c .before .before .before .before .before .before .before .before .before .before .before .before .before .before .args .words .now) (c .before .before .before .before .before .before .before .before .before .before .before .before .before .before .args .totals .now) (c .before .before .before .before .before .before .before .before .before .before .before .before .before .before .args .line)
+    (c .before .before .before .before .before .before .loop .inv)
+    (omega (arith, c .before .before .before .before .before .loop-test .taken))
+    (c .before .before .before .if5 .taken)
+    (c .before .set-bit .ensures)
+    (c .if6 .left)
+
+loop-less : tie.Need-loop-less Inv-loop μ-loop
+loop-less c = search needs
+
+loop-again : tie.Need-loop-again Inv-loop μ-loop
+loop-again c = seek-on (c .before .before .before .before .before .before .before .before .before .before .before .args .length) (c .before .before .before .before .before .before .before .before .before .before .before .args .words .now) (c .before .before .before .before .before .before .before .before .before .before .before .args .totals .now) (c .before .before .before .before .before .before .before .before .before .before .before .args .line) (c .before .before .before .loop .inv) (omega (arith, c .before .before .loop-test .taken)) (c .if5 .left)
+
+returns-7 : tie.Need-returns-7 Inv-loop μ-loop
+returns-7 c = seek-none (c .before .before .before .before .before .before .before .before .before .args .length) (c .before .before .before .before .before .before .before .before .before .args .words .now) (c .before .before .before .before .before .before .before .before .before .args .totals .now) (c .before .before .before .before .before .before .before .before .before .args .line) (c .before .loop .inv) (c .loop-test .left)
+
+pub start-of-spec : {M : Type 1} → statement M
+start-of-spec =
+    tie.close
+    (tie.spec
+    Inv-loop
+    μ-loop
+    returns
+    has-room-requires
+    returns-2
+    returns-3
+    sub-newline
+    returns-4
+    add-k
+    loop-holds
+    sub-k
+    mul-total
+    shared-slice-read-total
+    cast-total
+    mul-set-bit
+    shared-slice-read-set-bit
+    sub-set-bit
+    sub-set-bit-2
+    set-bit-requires
+    returns-5
+    mul-t17
+    add-t23
+    add-t24
+    returns-6
+    loop-less
+    loop-again
+    returns-7)
