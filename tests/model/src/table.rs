@@ -1,6 +1,8 @@
 //! Lines of a table of cases: item, text, seven lengths, budget, number, detail, steps, place,
 //! output, error text, parted by tabs. Texts are hexadecimal; `-` stands for an empty one.
 
+pub mod judge;
+
 use crate::answer::{Report, Setting};
 
 /// The line above the cases.
