@@ -1,6 +1,7 @@
 #!/usr/bin/env bash
-# model.sh [SEED COUNT]: the independent model in tests/model: its own tests, all vectors, the class of every byte, demand 3 on
-# random pairs of settings, and COUNT random texts (default 250, seed 1) on which the definitions of crates/rules must agree with it.
+# model.sh [SEED COUNT]: the independent model in tests/model: its own tests, all vectors, those of the index of lines too, the class
+# of every byte, demand 3 on random pairs of settings, and COUNT random texts (default 250, seed 1) on which the definitions of
+# crates/rules must agree with it.
 # Ends with 'N passed, M failed'; exit status 0 only if M is 0.
 set -u
 cd "$(dirname "$0")/model" || exit 2
@@ -44,10 +45,13 @@ for file in tests/*.rs; do
     fi
 done
 
-target/release/vectors ../vectors.tsv >"$work/vectors" 2>&1
-status=$?
-echo "vectors: $(tail -n 1 "$work/vectors")"
-tally "$status" "$work/vectors"
+# program and table have one name
+for table in vectors lines; do
+    "target/release/$table" "../$table.tsv" >"$work/$table" 2>&1
+    status=$?
+    echo "$table: $(tail -n 1 "$work/$table")"
+    tally "$status" "$work/$table"
+done
 
 # what the program `vectors` has to print of each byte: its number, its class, and more
 head -n 256 ../../crates/vectors/stdout | cut -d ' ' -f 1,2 >"$work/stored"

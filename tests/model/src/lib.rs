@@ -1,5 +1,5 @@
 //! A plain executable model of the expander that document 01 defines, with the requests 2, 3 and 5
-//! of document 02.
+//! of document 02, and of the index of lines that its request 6 asks for.
 //!
 //! Its rules are written from the papers alone and care for clarity first. Memory comes from the
 //! heap; the seven lent lengths only judge what the state holds after each step, as 01 says: "Room
@@ -7,9 +7,10 @@
 //!
 //! The modules follow the paper: [`bytes`], [`marks`] and [`tokens`] read; [`calls`],
 //! [`definitions`], [`streams`] and [`ahead`] hold; [`numbers`], [`eval`], [`expansion`] and
-//! [`macros`] work; [`step`] and [`run`] join them. [`table`], [`random`], [`generate`] and
-//! [`demand3`] serve the programs `vectors` and `random`. [`ways`] serves tests: it watches runs, and
-//! no rule asks it.
+//! [`macros`] work; [`step`] and [`run`] join them. [`lines`] stands by itself: it indexes a text
+//! and answers questions of the index. [`table`], [`random`], [`generate`] and [`demand3`] serve the
+//! programs `vectors`, `lines` and `random`. [`ways`] serves tests: it watches runs and looks at
+//! cases of the index, and no rule asks it.
 
 pub mod ahead;
 pub mod answer;
@@ -20,6 +21,7 @@ pub mod demand3;
 pub mod eval;
 pub mod expansion;
 pub mod generate;
+pub mod lines;
 pub mod macros;
 pub mod marks;
 pub mod numbers;

@@ -1,7 +1,9 @@
 //! Lines of a table of cases: item, text, seven lengths, budget, number, detail, steps, place,
-//! output, error text, parted by tabs. Texts are hexadecimal; `-` stands for an empty one.
+//! output, error text, parted by tabs. Texts are hexadecimal; `-` stands for an empty one. The
+//! cases of the index of lines have other columns, see [`lines`].
 
 pub mod judge;
+pub mod lines;
 
 use crate::answer::{Report, Setting};
 
