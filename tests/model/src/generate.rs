@@ -1,7 +1,9 @@
 //! Random texts with settings, from a seed. They are made to reach every macro and every answer of
-//! 01, and every way of a plain word and of a last comment of 02.
+//! 01, and every way of a plain word and of a last comment of 02. Cases of the index of lines are made
+//! in [`lines`].
 
 mod expressions;
+pub mod lines;
 mod remarks;
 mod templates;
 mod words;

@@ -1,7 +1,8 @@
 //! The ways of request 2 of 02: names of predefined meanings that stand as plain text, open a call
 //! or are called bare, and how often each of them was taken. Tests look here at runs from outside.
-//! Those of request 3 are in [`remarks`].
+//! Those of request 3 are in [`remarks`], those of request 6 in [`lines`].
 
+pub mod lines;
 mod name;
 pub mod remarks;
 mod walk;

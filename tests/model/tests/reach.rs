@@ -1,10 +1,11 @@
-//! The generator reaches every answer, every detail of 4 and 5, every macro and every way of requests
-//! 2 and 3, and the third demand holds on random pairs.
+//! The generators reach every answer, every detail of 4 and 5, every macro and every way of requests
+//! 2, 3 and 6, and the third demand holds on random pairs.
 
 use model::demand3::{pair, try_pair};
-use model::generate::case;
+use model::generate::{case, lines};
 use model::macros::Predefined;
 use model::random::Random;
+use model::ways::lines::Lines;
 use model::ways::remarks::Remarks;
 use model::ways::{Use, Way, Ways, NEED_PARENTHESIS};
 use model::{expand, expand_traced, Setting};
@@ -77,6 +78,19 @@ fn every_way_of_a_last_comment_is_reached() {
     for (way, count) in remarks.counts() {
         assert!(count > 0, "{way} is never reached");
     }
+}
+
+/// 02, request 6: indexes, places and lines of every kind, and each pair of refusals at once.
+#[test]
+fn every_way_of_the_index_of_lines_is_reached() {
+    let mut random = Random::new(1);
+    let mut ways = Lines::default();
+    for _ in 0..10_000 {
+        ways.note(&lines::case(&mut random));
+    }
+    let counts = ways.counts();
+    let never: Vec<_> = counts.iter().filter(|(_, count)| *count == 0).collect();
+    assert!(never.is_empty(), "never reached: {never:?} of {counts:?}");
 }
 
 #[test]
