@@ -1,10 +1,10 @@
 /* quenhovach.h: the m4 expander for C and C++.
  *
- * One function expands one m4 text in buffers that the caller lends. It is built by `rt staticlib capi` as target/staticlib/libcapi.a, for
- * x86-64 Linux, once its proof is checked; ./install puts it in place as libquenhovach, an archive and a shared object. Of C's library it
- * needs memcpy and memset.
+ * One function expands one m4 text in buffers that the caller lends. Three more, at the end, find the line of a place in a text. They are
+ * built by `rt staticlib capi` as target/staticlib/libcapi.a, for x86-64 Linux, once their proofs are checked; ./install puts them in place
+ * as libquenhovach, an archive and a shared object. Of C's library they need memcpy and memset.
  *
- * It ends on every text, every lent length and every budget, and it has one of fourteen answers. Two of them finish a run: "done" and
+ * A run ends on every text, every lent length and every budget, in one of fourteen answers. Two of them finish it: "done" and
  * "exit". The twelve others are refusals, and a refusal gives no text at all: there is no shortened output.
  */
 #ifndef QUENHOVACH_H
@@ -119,13 +119,24 @@ uint32_t quenhovach_expand(
     uint32_t budget,
     uint32_t report[QUENHOVACH_REPORT_LENGTH]);
 
-/* The index of lines: a refusal gives a byte place, people look for a line.
+/* The index of lines. A refusal gives a byte place, and people look for a line: build the index of the text, ask for the line of the place,
+ * then for the start of that line. Lines count from 1. The column, counted in bytes from 1, is place - start + 1.
  *
- * The index of a text is QUENHOVACH_LINES_WORDS(text_len) words and as many totals, in room that the caller lends. Word k has a bit for each of the
- * bytes 64 k to 64 k + 63 of the text, the least for the first, set at newlines (byte 10); total k is the count of newlines before them. Once it
- * is built, the text is not needed any more: the two questions take its length.
+ * The index of a text is QUENHOVACH_LINES_WORDS(text_len) words and as many totals, in arrays that the caller lends. Word k has one bit for
+ * each of the bytes 64 k to 64 k + 63 of the text, the least bit for the first, set where the byte is a newline (10); bits behind the text
+ * are 0. Total k is the count of newlines before byte 64 k. Once the index is built, the text is not needed any more: the two questions
+ * take its length.
  *
- * Each function returns 0, or one of four refusals. They are judged in the order 30, 33, 31, 32.
+ * Each function returns 0 or the number of a refusal. Refusals are judged in the order 30, 33, 31, 32. Words and totals that were not built
+ * are answered too, by the rules below.
+ *
+ * What the caller owes:
+ *
+ *   - `text` leads to text_len bytes. `words` and `totals` lead to as many elements as words_len and totals_len say: these are not counts
+ *     of bytes. With length 0 a pointer may be null. `line` and `start` are not null.
+ *   - What a function writes does not overlap anything else that it is given, and nothing else writes to any of it during the call.
+ *
+ * The functions keep no state between calls and use no heap, and they may run in several threads at once.
  */
 enum {
     QUENHOVACH_LINES_TOO_LONG = 30, /* the text is longer than QUENHOVACH_MAX_LENGTH */
@@ -134,30 +145,32 @@ enum {
     QUENHOVACH_LINES_NO_ROOM = 33   /* fewer words or totals are lent than the text's index has */
 };
 
-/* How many words, and how many totals, the index of a text has. */
+/* How many words, and how many totals, the index of a text of this length has. */
 #define QUENHOVACH_LINES_WORDS(text_len) ((text_len) / 64 + 1)
 
-/* Builds the index of a text: 0, or 30 or 33. Its words and totals are written; what is lent behind them stays as it was, and with a refusal
- * all does. */
+/* Builds the index of a text. Returns 0, or 30 or 33.
+ *
+ * Only the text's own words and totals are written. What is lent behind them stays as it was; with a refusal everything does. */
 uint32_t quenhovach_lines_build(
     const uint8_t *text, size_t text_len,
     uint64_t *words, size_t words_len,
     uint32_t *totals, size_t totals_len);
 
-/* The line of a place: one more than the newlines before it. 0, or 30, 33 or 31; with a refusal the line is written as 0.
+/* Writes the line of a place: one more than the newlines before it, so a newline is on the line that it ends. Returns 0, or 30, 33 or 31;
+ * with a refusal the line is written as 0. The place of a report is never beyond its text.
  *
- * Of a built index it is the line that counting through the text gives; of any other words and totals one more than the place's total and the
- * set bits below the place in its word. One total and one word are read. */
+ * One total and one word are read. The line is that total, and one for each set bit below the place in that word, and one more. */
 uint32_t quenhovach_lines_line_of(
     size_t text_len,
     const uint64_t *words, size_t words_len,
     const uint32_t *totals, size_t totals_len,
     size_t place, uint64_t *line);
 
-/* Where a line starts: line 1 at 0, another behind the newline before it. 0, or 30, 33 or 32; with a refusal the start is written as 0.
+/* Writes the place where a line starts: 0 for line 1, else the place behind the newline that ends the line before it. Returns 0, or 30, 33
+ * or 32; with a refusal the start is written as 0. Where a text ends in a newline, its last line is empty and starts at text_len.
  *
- * A text that ends in a newline has one more line, which starts at its length. Of any words and totals that newline is sought in the last word
- * whose total is below the line's number less one. */
+ * That newline is sought in the last word whose total is below line - 1. Where there is no such word, or its set bits are too few, there is
+ * no such line; so it is with line 0. */
 uint32_t quenhovach_lines_start_of(
     size_t text_len,
     const uint64_t *words, size_t words_len,
