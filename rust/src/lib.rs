@@ -15,6 +15,8 @@
 //! | [`expand`] | `core` alone | seven slices | a [`Report`] with one of 14 [`Answer`]s |
 //! | [`Expander`] | feature `alloc` | its own, kept from call to call | text in its buffers, or a [`Failure`] |
 //! | [`expand_to_vec`] | feature `alloc` | as much as may be lent, made anew | a [`Sheet`] of vectors, or a [`Failure`] |
+//! | [`Refusal::position`] | `core` alone | 12 KB of stack | line and column of a refusal |
+//! | [`LineIndex`], [`lines`] | `core` alone | 12 KB of its own; two slices | the same for any place of a text, and where a line starts |
 //!
 //! A text may have 65,536 bytes, each of the seven buffers too, and a budget of steps is given. A run ends on every input,
 //! without a heap and with nothing undefined. Done and exit give the whole text; every other answer is a refusal, says where
@@ -37,6 +39,8 @@ mod answer;
 mod call;
 #[cfg(feature = "alloc")]
 mod expander;
+mod line_index;
+pub mod lines;
 mod refusal;
 #[cfg(feature = "alloc")]
 mod sheet;
@@ -45,6 +49,7 @@ pub use answer::{Answer, Buffer, Opened};
 pub use call::{expand, Buffers, Report, BUDGET, LONGEST};
 #[cfg(feature = "alloc")]
 pub use expander::{Expander, Written};
+pub use line_index::{LineIndex, Position};
 pub use refusal::Refusal;
 #[cfg(feature = "alloc")]
 pub use sheet::{expand_to_vec, Failure, Sheet};

@@ -1,6 +1,6 @@
 //! A refused run as an error.
 
-use crate::Report;
+use crate::{LineIndex, Position, Report};
 use core::{error::Error, fmt};
 
 /// A run that gave no text.
@@ -32,6 +32,27 @@ impl Report {
     }
 }
 
+impl Refusal {
+    /// Line and column of the place in the text of the run. None where the text is longer than 65,536 bytes, so that nothing of
+    /// it was read, or the place is beyond its end, so that it isn't the run's.
+    ///
+    /// ```
+    /// use quenhovach::{expand, Buffers};
+    ///
+    /// let text = b"\n\n`on";
+    /// let buffers = Buffers { output: &mut [0; 2], ..Buffers::default() };
+    /// let refusal = expand(text, buffers, 100).finished().unwrap_err();
+    /// assert_eq!(refusal.position(text).unwrap().to_string(), "3:1");
+    /// assert_eq!(refusal.position(b""), None);
+    /// ```
+    ///
+    /// Each call builds an index of the lines. A [`LineIndex`] is for many places of one text.
+    pub fn position(&self, text: &[u8]) -> Option<Position> {
+        let index = LineIndex::new(text).ok()?;
+        index.position(self.report.place).ok()
+    }
+}
+
 impl fmt::Display for Refusal {
     fn fmt(&self, f: &mut fmt::Formatter<'_>) -> fmt::Result {
         let Report {
@@ -56,6 +77,16 @@ mod tests {
         let refusal = expand(b"", Buffers::default(), 0).finished();
         let error: &dyn Error = &refusal.expect_err("no step may be made");
         assert!(error.source().is_none());
+    }
+
+    #[test]
+    fn a_text_that_is_too_long_has_no_position() {
+        let text = [b'\n'; crate::LONGEST + 1];
+        let refusal = expand(&text, Buffers::default(), 9).finished();
+        let refusal = refusal.expect_err("it is too long");
+        assert_eq!(refusal.position(&text), None);
+        let (line, column) = (1, 1);
+        assert_eq!(refusal.position(b""), Some(Position { line, column }));
     }
 
     #[test]

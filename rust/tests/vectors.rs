@@ -1,32 +1,16 @@
 //! Every line of tests/vectors.tsv of the repository: each number, each written byte, and every byte that must be left alone.
 
 mod common;
+#[path = "common/fields.rs"]
+mod fields;
 
 use common::run;
+use fields::{bytes, decimal as number};
 
 const TABLE: &str = concat!(env!("CARGO_MANIFEST_DIR"), "/../tests/vectors.tsv");
 
-/// Bytes written in hexadecimal; a minus is none.
-fn bytes(field: &str) -> Vec<u8> {
-    if field == "-" {
-        return Vec::new();
-    }
-    let digits: Vec<u32> = field
-        .chars()
-        .map(|c| c.to_digit(16).expect("hexadecimal"))
-        .collect();
-    digits
-        .chunks_exact(2)
-        .map(|pair| (pair[0] * 16 + pair[1]) as u8)
-        .collect()
-}
-
-fn number(field: &str) -> u32 {
-    field.parse().expect("a number")
-}
-
 fn lengths(field: &str) -> [usize; 7] {
-    let lengths: Vec<usize> = field.split(',').map(|n| number(n) as usize).collect();
+    let lengths: Vec<usize> = field.split(',').map(number).collect();
     lengths.try_into().expect("seven lengths")
 }
 

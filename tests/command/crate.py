@@ -39,7 +39,7 @@ def tests(_):
         bad = max(bad, 1)
     print("the crate's own tests: %d passed, %d failed" % (good, bad))
     count(good, bad)
-    check("tests in the library, the command, three files and the documentation", [int(r[0]) > 0 for r in results], [True] * 6)
+    check("tests in the library, the command, four files and the documentation", [int(r[0]) > 0 for r in results], [True] * 7)
 
 
 def habits(_):
