@@ -1,6 +1,7 @@
 //! Which of the likely mistakes in the text fit a refusal, and how they are told.
 
 use crate::hints::{self, Gap, Kind, Seen};
+use crate::place::Places;
 use crate::suspects::changes_marks;
 use crate::templates::Templates;
 use quenhovach::{Answer, Opened, Report};
@@ -11,12 +12,9 @@ const MOST: usize = 3;
 const LONGEST_WORD: usize = 40;
 
 /// What may have caused a refusal, the likeliest first.
-pub fn of_refusal(report: &Report, templates: &Templates) -> Vec<String> {
-    if report.answer == Answer::Lend {
-        return Vec::new();
-    }
-    let ends = ends(templates);
-    let seen = hints::scan(&templates.text, &ends);
+pub fn of_refusal(report: &Report, places: &Places) -> Vec<String> {
+    let ends = ends(places.templates);
+    let seen = hints::scan(&places.templates.text, &ends);
     let mut fitting: Vec<_> = seen
         .iter()
         .filter(|seen| is_near(seen, report))
@@ -32,7 +30,6 @@ pub fn of_refusal(report: &Report, templates: &Templates) -> Vec<String> {
         returns += usize::from(seen.kind == Kind::Return);
         seen.kind != Kind::Return || returns == 1
     });
-    let places = Places::new(templates);
     let told = fitting.iter().take(MOST).map(|(_, _, seen)| {
         let words = words(&seen.kind);
         format!("{}: {words}", places.told(seen.place))
@@ -40,11 +37,13 @@ pub fn of_refusal(report: &Report, templates: &Templates) -> Vec<String> {
     told.collect()
 }
 
-/// A line for all that is seen, in the order of the text.
+/// A line for all that is seen, in the order of the text; none where the text is too long to be expanded.
 pub fn warnings(templates: &Templates) -> String {
+    let Some(places) = Places::new(templates) else {
+        return String::new();
+    };
     let ends = ends(templates);
     let seen = hints::scan(&templates.text, &ends);
-    let places = Places::new(templates);
     let line = |seen: &Seen, words: &str| {
         let place = places.told(seen.place);
         format!("quenhovach: warning: {place}: {words}\n")
@@ -232,33 +231,5 @@ fn shortened(word: &str) -> String {
     match word.get(..LONGEST_WORD) {
         Some(begin) if word.len() > LONGEST_WORD => format!("{begin}..."),
         _ => word.to_string(),
-    }
-}
-
-/// File, line and column of places, without counting lines for each.
-struct Places<'t> {
-    templates: &'t Templates,
-    newlines: Vec<usize>,
-}
-
-impl<'t> Places<'t> {
-    fn new(templates: &'t Templates) -> Places<'t> {
-        let bytes = templates.text.iter().enumerate();
-        let newlines = bytes.filter(|(_, &b)| b == b'\n').map(|(n, _)| n).collect();
-        Places {
-            templates,
-            newlines,
-        }
-    }
-
-    fn told(&self, place: usize) -> String {
-        let part = &self.templates.parts[self.templates.number_at(place)];
-        let before = |place| self.newlines.partition_point(|&n| n < place);
-        let line = 1 + before(place) - before(part.range.start);
-        let begin = match before(place) {
-            0 => part.range.start,
-            n => part.range.start.max(self.newlines[n - 1] + 1),
-        };
-        format!("{}:{line}:{}", part.name, 1 + place - begin)
     }
 }

@@ -92,7 +92,7 @@ fn run(options: &Options, files: Files) -> Result<u8, String> {
     let templates = templates::read(files.templates)?;
     let mut expander = expander(options);
     let report = progress::shown(|| expander.run(&templates.text));
-    if options.warn && report.answer != Answer::Lend {
+    if options.warn {
         tell(&hint_words::warnings(&templates));
     }
     if report.answer.is_refusal() {

@@ -1,6 +1,8 @@
-//! Line and column of a place in a text, and the line to show with a caret under the place.
+//! Line and column of places in the templates, and the line to show with a caret under the place.
 
+use crate::templates::{Part, Templates};
 use crate::width;
+use quenhovach::{lines::Refused, LineIndex, Position};
 
 /// Columns shown before the place at most, and behind it.
 const BEFORE: usize = 50;
@@ -8,29 +10,49 @@ const BEHIND: usize = 20;
 /// What stands for the rest of a line.
 const DOTS: &str = "...";
 
-/// A place as people look for it. Lines and columns count from 1, columns in bytes.
-#[derive(Debug, PartialEq)]
-pub struct Spot {
-    pub line: usize,
-    pub column: usize,
-    /// The line up to the place, and from the place on, fit to be shown.
-    pub before: String,
-    pub behind: String,
+/// Finds places of the templates' text, by one index of the lines of all of them.
+pub struct Places<'t> {
+    pub templates: &'t Templates,
+    index: LineIndex,
 }
 
-/// The spot behind the first `place` bytes of a text.
-pub fn spot(text: &[u8], place: usize) -> Spot {
-    let (taken, ahead) = text.split_at(place.min(text.len()));
-    let begin = taken.iter().rposition(|&b| b == b'\n').map_or(0, |n| n + 1);
-    let end = ahead
-        .iter()
-        .position(|&b| b == b'\n')
-        .unwrap_or(ahead.len());
-    Spot {
-        line: 1 + taken.iter().filter(|&&b| b == b'\n').count(),
-        column: 1 + taken.len() - begin,
-        before: last(&shown(&taken[begin..])),
-        behind: first(&shown(&ahead[..end])),
+impl<'t> Places<'t> {
+    /// None where the text is too long to be expanded.
+    pub fn new(templates: &'t Templates) -> Option<Places<'t>> {
+        let index = LineIndex::new(&templates.text).ok()?;
+        Some(Places { templates, index })
+    }
+
+    /// The template in which a place is told, and line and column there.
+    pub fn find(&self, place: usize) -> (&'t Part, Position) {
+        let part = &self.templates.parts[self.templates.number_at(place)];
+        let position = self.within(part, place);
+        (part, position.expect("the place is in the text"))
+    }
+
+    /// File, line and column of a place.
+    pub fn told(&self, place: usize) -> String {
+        let (part, position) = self.find(place);
+        format!("{}:{position}", part.name)
+    }
+
+    /// The line up to a place, and from the place on, fit to be shown.
+    pub fn line(&self, place: usize) -> (String, String) {
+        let (part, Position { column, .. }) = self.find(place);
+        let (taken, ahead) = self.templates.text[..part.range.end].split_at(place);
+        let behind = ahead.split(|&b| b == b'\n').next().unwrap_or(ahead);
+        let before = &taken[place + 1 - column..];
+        (last(&shown(before)), first(&shown(behind)))
+    }
+
+    /// Line and column in a template. Its first line may go on from the template before.
+    fn within(&self, part: &Part, place: usize) -> Result<Position, Refused> {
+        let begin = part.range.start;
+        let Position { line, column } = self.index.position(place)?;
+        Ok(Position {
+            line: 1 + line - self.index.line(begin)?,
+            column: column.min(1 + place - begin),
+        })
     }
 }
 
@@ -88,23 +110,23 @@ fn fitting<'a>(characters: impl Iterator<Item = &'a char>, columns: usize) -> us
 #[cfg(test)]
 mod tests {
     use super::*;
+    use crate::templates::joined;
+    use quenhovach::LONGEST;
 
-    fn at(text: &[u8], place: usize) -> (usize, usize, String, String) {
-        let Spot {
-            line,
-            column,
-            before,
-            behind,
-        } = spot(text, place);
+    fn at(text: &[u8], place: usize) -> (u64, usize, String, String) {
+        let templates = joined(&[text]);
+        let places = Places::new(&templates).expect("it is not too long");
+        let Position { line, column } = places.find(place).1;
+        let (before, behind) = places.line(place);
         (line, column, before, behind)
     }
 
     fn expected(
-        line: usize,
+        line: u64,
         column: usize,
         before: &str,
         behind: &str,
-    ) -> (usize, usize, String, String) {
+    ) -> (u64, usize, String, String) {
         (line, column, before.to_string(), behind.to_string())
     }
 
@@ -118,6 +140,25 @@ mod tests {
         assert_eq!(at(text, 6), expected(3, 3, "cd", ""));
         assert_eq!(at(b"", 0), expected(1, 1, "", ""));
         assert_eq!(at(b"a\n", 2), expected(2, 1, "", ""));
+    }
+
+    #[test]
+    fn lines_count_within_each_template() {
+        let templates = joined(&["a\nb", "c\n", "", "d"]);
+        let places = Places::new(&templates).expect("it is not too long");
+        let told: Vec<String> = (0..=6).map(|place| places.told(place)).collect();
+        let expected = [
+            "0:1:1", "0:1:2", "0:2:1", "1:1:1", "1:1:2", "3:1:1", "3:1:2",
+        ];
+        assert_eq!(told, expected);
+        assert_eq!(places.line(2), ("".to_string(), "b".to_string()));
+        assert_eq!(places.line(4), ("c".to_string(), "".to_string()));
+    }
+
+    #[test]
+    fn a_text_that_is_too_long_has_no_places() {
+        assert!(Places::new(&joined(&[[b'x'; LONGEST]])).is_some());
+        assert!(Places::new(&joined(&[[b'x'; LONGEST + 1]])).is_none());
     }
 
     #[test]

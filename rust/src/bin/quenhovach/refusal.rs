@@ -2,7 +2,7 @@
 
 use crate::arguments::{option_of, Options};
 use crate::hint_words;
-use crate::place::spot;
+use crate::place::Places;
 use crate::templates::{Part, Templates};
 use crate::width;
 use quenhovach::{Answer, Buffer, Opened, Report, LONGEST};
@@ -13,9 +13,10 @@ const WIDTH: usize = 79;
 /// The whole message, without the command's name in front and the last newline.
 pub fn explain(options: &Options, report: &Report, templates: &Templates) -> String {
     let answer = report.answer;
-    let place = match answer {
-        Answer::Lend => format!("{}: refused: {answer}", last_read(templates).name),
-        _ => where_it_is(report, templates),
+    let places = Places::new(templates);
+    let place = match &places {
+        Some(places) => where_it_is(report, places),
+        None => format!("{}: refused: {answer}", last_read(templates).name),
     };
     let (happened, advice) = match answer {
         Answer::Lend if options.inputs.len() > 1 => too_long_together(last_read(templates)),
@@ -26,8 +27,9 @@ pub fn explain(options: &Options, report: &Report, templates: &Templates) -> Str
         wrapped("What happened:", &happened),
         wrapped("What to do:", &advice),
     ];
-    let hints = hint_words::of_refusal(report, templates);
-    parts.extend(hints.iter().map(|hint| wrapped("Hint:", hint)));
+    let hints = places.map(|places| hint_words::of_refusal(report, &places));
+    let hints = hints.into_iter().flatten();
+    parts.extend(hints.map(|hint| wrapped("Hint:", &hint)));
     parts.extend([
         wrapped("In numbers:", &in_numbers(report, templates)),
         wrapped("The sheet:", &sheet_left(options)),
@@ -41,20 +43,16 @@ fn last_read(templates: &Templates) -> &Part {
 }
 
 /// File, line and column, the answer, and the line with a caret under the place.
-fn where_it_is(report: &Report, templates: &Templates) -> String {
-    let Part { name, range } = &templates.parts[templates.number_at(report.place)];
-    let spot = spot(&templates.text[range.clone()], report.place - range.start);
-    let number = spot.line.to_string();
+fn where_it_is(report: &Report, places: &Places) -> String {
+    let (Part { name, .. }, position) = places.find(report.place);
+    let (before, behind) = places.line(report.place);
+    let number = position.line.to_string();
     let margin = " ".repeat(number.len());
     format!(
-        "{name}:{}:{}: refused: {}\n {number} | {}{}\n {margin} | {}^\n{}",
-        spot.line,
-        spot.column,
+        "{name}:{position}: refused: {}\n {number} | {before}{behind}\n {margin} | {}^\n{}",
         report.answer,
-        spot.before,
-        spot.behind,
-        " ".repeat(width::of_text(&spot.before)),
-        wrapped("Where:", &begins(report, templates)),
+        " ".repeat(width::of_text(&before)),
+        wrapped("Where:", &begins(report, places.templates)),
     )
 }
 

@@ -69,22 +69,24 @@ impl Templates {
     }
 }
 
+/// Templates with these texts, called by their numbers from 0.
+#[cfg(test)]
+pub fn joined<T: AsRef<[u8]>>(texts: &[T]) -> Templates {
+    let mut text = Vec::new();
+    let mut part = |(number, more): (usize, &T)| {
+        let begin = text.len();
+        text.extend_from_slice(more.as_ref());
+        let range = begin..text.len();
+        let name = number.to_string();
+        Part { name, range }
+    };
+    let parts = texts.iter().enumerate().map(&mut part).collect();
+    Templates { text, parts }
+}
+
 #[cfg(test)]
 mod tests {
     use super::*;
-
-    fn joined(texts: &[&str]) -> Templates {
-        let mut text = Vec::new();
-        let mut part = |(number, more): (usize, &&str)| {
-            let begin = text.len();
-            text.extend_from_slice(more.as_bytes());
-            let range = begin..text.len();
-            let name = number.to_string();
-            Part { name, range }
-        };
-        let parts = texts.iter().enumerate().map(&mut part).collect();
-        Templates { text, parts }
-    }
 
     fn told(texts: &[&str]) -> Vec<(usize, Option<String>)> {
         let templates = joined(texts);
