@@ -1,13 +1,17 @@
 #!/usr/bin/env python3
 """The expander from C and C++: include/quenhovach.h, the archive target/staticlib/libcapi.a, and the program of examples/c.
 
-Every expected answer and byte is written by hand from document 01. Ends with 'N passed, M failed'; exit status 0 only if M is 0.
+Every expected answer and byte is written by hand from documents 01 and 02; tests/lines.tsv has those of the index of lines. Ends with
+'N passed, M failed'; exit status 0 only if M is 0.
 """
 import os
 import re
 import subprocess
 import sys
 import tempfile
+
+sys.dont_write_bytecode = True
+import c_lines  # noqa: E402
 
 ROOT = os.path.dirname(os.path.dirname(os.path.abspath(__file__)))
 ARCHIVE = os.path.join(ROOT, "target", "staticlib", "libcapi.a")
@@ -17,13 +21,15 @@ C99 = ["gcc", "-std=c99"] + STRICT
 CPP = ["g++", "-std=c++11", "-x", "c++"] + STRICT
 OLD = 0xA5
 
-# 01's table of answers, its list of buffers, the three ways to be unclosed, and the order of the numbers
+# 01's table of answers, its list of buffers, the three ways to be unclosed, and the order of the numbers; 02's refusals of the index of lines
 CONSTANTS = {
-    "": "DONE EXIT LEND SPENT ROOM UNCLOSED NAME NUMBER EXPRESSION DIVISOR MARK NO_TEXT GONE DEEP",
-    "BUFFER_": "- PENDING CALLS DEFINITIONS STREAMS WRAP ERRORS OUTPUT",
-    "UNCLOSED_": "- QUOTE COMMENT CALL",
-    "REPORT_": "NUMBER DETAIL STEPS PLACE OUTPUT ERRORS LENGTH",
+    "": (0, "DONE EXIT LEND SPENT ROOM UNCLOSED NAME NUMBER EXPRESSION DIVISOR MARK NO_TEXT GONE DEEP"),
+    "BUFFER_": (1, "PENDING CALLS DEFINITIONS STREAMS WRAP ERRORS OUTPUT"),
+    "UNCLOSED_": (1, "QUOTE COMMENT CALL"),
+    "REPORT_": (0, "NUMBER DETAIL STEPS PLACE OUTPUT ERRORS LENGTH"),
+    "LINES_": (30, "TOO_LONG BEYOND NO_LINE NO_ROOM"),
 }
+EXPORTED = ["quenhovach_expand", "quenhovach_lines_build", "quenhovach_lines_line_of", "quenhovach_lines_start_of"]
 
 # A call as the command line says: seven lengths ("-": length 0, and null for a pointer), a budget, the text's length ("-" again); the
 # text is on standard input. Writes what came back, the report, and then all that the buffers hold.
@@ -112,11 +118,15 @@ PROGRAM_RUNS = [
     ("error text", b"errprint(`w')x", b"x", b"w", 0),
     ("m4exit", b"a m4exit(3)b", b"a ", b"", 3),
     ("a template that is too long", b"1" * 65537, b"",
-     b"FILE:1: no sheet: the template is longer than 65,536 bytes (answer 2 0, after 0 steps and 0 bytes)", 1),
+     b"FILE: no sheet: the template is longer than 65,536 bytes (answer 2 0, after 0 steps and 0 bytes)", 1),
     ("an unclosed quote in the third line", b"a\n1\n2`b", b"",
-     b"FILE:3: no sheet: the template ends inside a quote (answer 5 1, after 5 steps and 5 bytes)", 1),
+     b"FILE:3:2: no sheet: the template ends inside a quote (answer 5 1, after 5 steps and 5 bytes)", 1),
     ("more than the pending text holds", b"kept\ndefine(`f',`$1$1')f(" + b"x" * 40000 + b")", b"",
-     b"FILE:2: no sheet: no room for the pending text (answer 4 1, after 9 steps and 40025 bytes)", 1),
+     b"FILE:2:40021: no sheet: no room for the pending text (answer 4 1, after 9 steps and 40025 bytes)", 1),
+    ("an unclosed call, at the end of the longest template", b"\n" * 65532 + b"len(", b"",
+     b"FILE:65533:5: no sheet: the template ends inside a call (answer 5 3, after 65533 steps and 65536 bytes)", 1),
+    ("an unclosed call behind the last newline", b"a\nlen(b\n", b"",
+     b"FILE:3:1: no sheet: the template ends inside a call (answer 5 3, after 5 steps and 8 bytes)", 1),
 ]
 
 passed = 0
@@ -143,12 +153,13 @@ def build(name, command):
 def test_header(folder):
     """The header alone, and each of its constants, in both languages."""
     lines = ["#include <quenhovach.h>"]
-    for prefix, names in CONSTANTS.items():
-        for number, name in enumerate(names.split()):
-            if name != "-":
-                name = "QUENHOVACH_" + prefix + name
-                lines.append("typedef char check_%s[%s == %d ? 1 : -1];" % (name, name, number))
+    for prefix, (first, names) in CONSTANTS.items():
+        for number, name in enumerate(names.split(), first):
+            name = "QUENHOVACH_" + prefix + name
+            lines.append("typedef char check_%s[%s == %d ? 1 : -1];" % (name, name, number))
     lines.append("typedef char check_longest[QUENHOVACH_MAX_LENGTH == 65536 ? 1 : -1];")
+    for length, count in (("0", 1), ("63", 1), ("63 + 1", 2), ("QUENHOVACH_MAX_LENGTH", 1025)):
+        lines.append("typedef char check_words_%d_%d[QUENHOVACH_LINES_WORDS(%s) == %d ? 1 : -1];" % (len(lines), count, length, count))
     source = os.path.join(folder, "header.c")
     with open(source, "w") as f:
         f.write("\n".join(lines) + "\n")
@@ -157,10 +168,10 @@ def test_header(folder):
 
 
 def test_archive():
-    """It exports one function, asks the host for none but C's memory functions, and has no state: no writable data."""
+    """It exports the functions of the header, asks the host for none but C's memory functions, and has no state: no writable data."""
     symbols = subprocess.run(["nm", ARCHIVE], capture_output=True, text=True, check=True).stdout
     kinds = re.findall(r"^[0-9a-f ]{16} (\S) (.+)$", symbols, re.M)
-    check("what the archive exports", [name for kind, name in kinds if kind in "TDBRVWCu"], ["quenhovach_expand"])
+    check("what the archive exports", [name for kind, name in kinds if kind in "TDBRVWCu"], EXPORTED)
     asked = {name for kind, name in kinds if kind == "U"}
     check("what the archive asks for", asked - {"memcpy", "memset", "memmove", "memcmp"}, set())
     sizes = subprocess.run(["size", ARCHIVE], capture_output=True, text=True, check=True).stdout.split("\n")[1].split()
@@ -179,17 +190,21 @@ def left(number, lengths, output, errors):
     return b"".join(after)
 
 
+def callers(folder, name, text):
+    """A program of this text as C and as C++, linked with the archive: the language and the program, of each that could be built."""
+    source = os.path.join(folder, name + ".c")
+    with open(source, "w") as f:
+        f.write(text)
+    for language in (C99, CPP):
+        caller = os.path.join(folder, name + "-" + language[0])
+        compiled = build("%s, %s" % (name, language[1]), language + ["-O1", "-c", source, "-o", caller + ".o"])
+        if compiled and build("%s with the archive, %s" % (name, language[1]), [language[0], caller + ".o", ARCHIVE, "-o", caller]):
+            yield language, caller
+
+
 def test_calls(folder):
     """Each call through the header, as C and as C++: what is returned, the report, and every byte of the buffers."""
-    source = os.path.join(folder, "caller.c")
-    with open(source, "w") as f:
-        f.write(CALLER)
-    for language in (C99, CPP):
-        caller = os.path.join(folder, "caller-" + language[0])
-        if not build("the caller, " + language[1], language + ["-O1", "-c", source, "-o", caller + ".o"]):
-            continue
-        if not build("the caller with the archive, " + language[1], [language[0], caller + ".o", ARCHIVE, "-o", caller]):
-            continue
+    for language, caller in callers(folder, "caller", CALLER):
         for name, text, numbers, output, errors, setting in CALLS:
             lengths = setting.get("lengths", [AMPLE] * 7)
             words = [str(w) for w in lengths + [setting.get("budget", 16777216), "-" if text is None else len(text)]]
@@ -199,6 +214,16 @@ def test_calls(folder):
             name = "%s, %s" % (name, language[1])
             check(name, (done.returncode, line), (0, told))
             check(name + ": buffers", memory == left(numbers[0], [0 if x == "-" else x for x in lengths], output, errors), True)
+
+
+def test_lines(folder):
+    """Each line of tests/lines.tsv through the header, as C and as C++."""
+    cases = list(c_lines.cases())
+    check("tests/lines.tsv has lines", len(cases) > 30, True)
+    for language, caller in callers(folder, "caller-of-lines", c_lines.CALLER):
+        for name, words, text, told in cases:
+            done = subprocess.run([caller] + words, input=text, capture_output=True)
+            check("%s, %s" % (name, language[1]), (done.returncode, done.stdout), (0, told))
 
 
 def test_program(folder):
@@ -219,8 +244,12 @@ def test_program(folder):
     done = subprocess.run([program, os.path.join(EXAMPLE, "mast.m4")], capture_output=True)
     sheet = b"mast tall\nfilter_gain 12\nfrozen_after_ms 100\n"
     check("the program: mast.m4", (done.stdout, done.stderr, done.returncode), (sheet, b"", 0))
-    shown = "".join(line[4:] + "\n" for line in readme.split("It writes\n")[1].split("\n") if line.startswith("    "))
-    check("the sheet in the README", shown.encode(), sheet)
+    shown = [re.sub(r"(?m)^    ", "", block) for block in re.findall(r"(?:^    .*\n)+", readme, re.M)]
+    check("the sheet in the README", shown[1].encode(), sheet)
+    done = subprocess.run(["sh", "-c", shown[2].replace("target/", "./")], cwd=folder, capture_output=True, text=True)
+    told = "expand_file: target/open.m4:2:6: no sheet: the template ends inside a quote (answer 5 1, after 6 steps and 15 bytes)\n"
+    check("the refusal in the README", (done.stdout, done.stderr, done.returncode), ("", told.replace("target/", "./"), 1))
+    check("the message in the README", shown[3:], [told])
     for name, words, redirection, message in [
         ("no file named", "", "", b"usage: expand_file FILE\n"),
         ("a file that is not there", "nothing-here", "", b"expand_file: nothing-here: the file could not be read\n"),
@@ -241,6 +270,7 @@ with tempfile.TemporaryDirectory() as scratch:
     test_header(scratch)
     test_archive()
     test_calls(scratch)
+    test_lines(scratch)
     test_program(scratch)
 print("%d passed, %d failed" % (passed, failed))
 sys.exit(1 if failed else 0)

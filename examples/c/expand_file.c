@@ -1,8 +1,8 @@
 /* expand_file FILE: expands an m4 template to a settings sheet on standard output.
  *
- * A refused template gives no sheet: a message on standard error says what was refused and where, and the exit status is 1. So it is
- * with a file that cannot be read, and with a sheet that cannot be written whole. Where the template ends itself by m4exit, what it put
- * out so far is the sheet, and its number is the exit status.
+ * A refused template gives no sheet: a message on standard error says what was refused and where, with line and column, and the exit
+ * status is 1. So it is with a file that cannot be read, and with a sheet that cannot be written whole. Where the template ends itself
+ * by m4exit, what it put out so far is the sheet, and its number is the exit status.
  */
 #include <stdio.h>
 #include <stdlib.h>
@@ -10,6 +10,7 @@
 #include "quenhovach.h"
 
 #define BUDGET 16777216
+#define WORDS QUENHOVACH_LINES_WORDS(QUENHOVACH_MAX_LENGTH)
 
 /* One byte more than a text may have: a longer file is then refused by the expander, and never cut. */
 static uint8_t text[QUENHOVACH_MAX_LENGTH + 1];
@@ -21,6 +22,10 @@ static uint8_t streams[QUENHOVACH_MAX_LENGTH];
 static uint8_t wrap[QUENHOVACH_MAX_LENGTH];
 static uint8_t errors[QUENHOVACH_MAX_LENGTH];
 static uint8_t output[QUENHOVACH_MAX_LENGTH];
+
+/* The index of the template's lines. */
+static uint64_t words[WORDS];
+static uint32_t totals[WORDS];
 
 static const char *const REFUSALS[] = {
     [QUENHOVACH_LEND] = "the template is longer than 65,536 bytes",
@@ -73,15 +78,15 @@ static int read_text(const char *name, size_t *length)
     return good;
 }
 
-/* The line in which the refused step would have begun, counted from 1. */
-static unsigned long line_at(uint32_t place)
+/* Tells line and column of a place, both counted from 1, the column in bytes. A template that is too long has neither. */
+static void tell_place(size_t length, uint32_t place)
 {
-    unsigned long line = 1;
-    uint32_t i;
+    uint64_t line, start;
 
-    for (i = 0; i < place; i++)
-        line += text[i] == '\n';
-    return line;
+    if (quenhovach_lines_build(text, length, words, WORDS, totals, WORDS) == 0 &&
+        quenhovach_lines_line_of(length, words, WORDS, totals, WORDS, place, &line) == 0 &&
+        quenhovach_lines_start_of(length, words, WORDS, totals, WORDS, line, &start) == 0)
+        fprintf(stderr, "%lu:%lu:", (unsigned long)line, (unsigned long)(place - start + 1));
 }
 
 static const char *detail_name(const uint32_t report[QUENHOVACH_REPORT_LENGTH])
@@ -98,15 +103,17 @@ static const char *detail_name(const uint32_t report[QUENHOVACH_REPORT_LENGTH])
     }
 }
 
-static int tell_refusal(const char *name, const uint32_t report[QUENHOVACH_REPORT_LENGTH])
+static int tell_refusal(const char *name, size_t length, const uint32_t report[QUENHOVACH_REPORT_LENGTH])
 {
     uint32_t number = report[QUENHOVACH_REPORT_NUMBER];
     uint32_t place = report[QUENHOVACH_REPORT_PLACE];
     const char *detail = detail_name(report);
 
-    fprintf(stderr, "expand_file: %s:%lu: no sheet: %s%s%s (answer %lu %lu, after %lu steps and %lu bytes)\n", name, line_at(place),
-            REFUSALS[number], *detail ? " " : "", detail, (unsigned long)number, (unsigned long)report[QUENHOVACH_REPORT_DETAIL],
-            (unsigned long)report[QUENHOVACH_REPORT_STEPS], (unsigned long)place);
+    fprintf(stderr, "expand_file: %s:", name);
+    tell_place(length, place);
+    fprintf(stderr, " no sheet: %s%s%s (answer %lu %lu, after %lu steps and %lu bytes)\n", REFUSALS[number], *detail ? " " : "", detail,
+            (unsigned long)number, (unsigned long)report[QUENHOVACH_REPORT_DETAIL], (unsigned long)report[QUENHOVACH_REPORT_STEPS],
+            (unsigned long)place);
     return EXIT_FAILURE;
 }
 
@@ -125,7 +132,7 @@ int main(int argc, char **argv)
     number = quenhovach_expand(text, length, pending, sizeof pending, calls, sizeof calls, definitions, sizeof definitions, streams,
                                sizeof streams, wrap, sizeof wrap, errors, sizeof errors, output, sizeof output, BUDGET, report);
     if (number != QUENHOVACH_DONE && number != QUENHOVACH_EXIT)
-        return tell_refusal(argv[1], report);
+        return tell_refusal(argv[1], length, report);
     fwrite(errors, 1, report[QUENHOVACH_REPORT_ERRORS], stderr);
     if (fwrite(output, 1, report[QUENHOVACH_REPORT_OUTPUT], stdout) != report[QUENHOVACH_REPORT_OUTPUT] || fflush(stdout) != 0)
         return complain(argv[1], "the sheet could not be written");
