@@ -1,7 +1,7 @@
 #!/usr/bin/env python3
 """The expander from Python: examples/python/quenhovach.py over a shared object that is made of target/staticlib/libcapi.a as its README says.
 
-Every expected answer and byte is written by hand from document 01; those of the README's example are in tests/c_example.py and tests/examples.py too.
+Every expected answer and byte is written by hand from document 01, and line and column counted through the text; those of the README's example are in tests/c_example.py and tests/examples.py too.
 Ends with 'N passed, M failed'; exit status 0 only if M is 0.
 """
 import ast
@@ -63,6 +63,9 @@ CALLS = [
     ("one byte of error text", b"errprint(`ww')", (4, 6, 2, 13, 0, 0), b"", b"", {"errors": 1}),
     ("one byte of output", b"ab", (4, 7, 0, 0, 0, 0), b"", b"", {"output": 1}),
     ("an unclosed quote", b"a`b", (5, 1, 1, 1, 0, 0), b"", b"", {}),
+    ("an unclosed quote in the third line", b"a\n\n12`b\n", (5, 1, 5, 5, 0, 0), b"", b"", {}),
+    ("an unclosed call behind the last newline", b"a\nlen(b\n", (5, 3, 5, 8, 0, 0), b"", b"", {}),
+    ("an unclosed call, at the end of the longest text", b"\n" * 65532 + b"len(", (5, 3, 65533, 65536, 0, 0), b"", b"", {}),
     ("a comment that the end of the text closes", b"a#b", (0, 0, 3, 3, 3, 0), b"a#b", b"", {}),
     ("an unclosed comment", b"changecom(%,;)%a", (5, 2, 5, 14, 0, 0), b"", b"", {}),
     ("an unclosed call", b"len(", (5, 3, 1, 4, 0, 0), b"", b"", {}),
@@ -135,6 +138,14 @@ def names():
     check("every buffer is tried", sorted({call[2][1] for call in CALLS if call[2][0] == 4}), list(range(1, 8)))
 
 
+def counted(text, place):
+    """Line and column of a place, by counting; None for a text that is too long."""
+    if len(text) > 65536:
+        return None, None
+    lines = text[:place].split(b"\n")
+    return len(lines), len(lines[-1]) + 1
+
+
 def calls(library):
     """Each answer: what is returned or raised, and every byte of the buffers afterwards."""
     for name, text, numbers, output, errors, setting in CALLS:
@@ -150,6 +161,7 @@ def calls(library):
             check(name, (type(got), getattr(got, "sheet", got), getattr(got, "code", got)), (Exited, Sheet(output, errors, report), numbers[1]))
         else:
             check(name, (type(got), getattr(got, "report", got)), (Refused, report))
+            check(name + ": line and column", (getattr(got, "line", got), getattr(got, "column", got)), counted(text, numbers[3]))
         working = OLD if numbers[0] == 2 else b"\0"
         left = [working * length for length in lengths[:5]]
         left += [written + OLD * (length - len(written)) for length, written in zip(lengths[5:], (errors, output))]
@@ -168,10 +180,11 @@ def sheets(library):
         (b"x m4exit(0)", Exited, "m4exit(0) after 2 bytes of output: answer 1 (exit), detail 0, after 5 steps, place 11"),
         (b"errprint(`e')m4exit(255)", Exited,
          "m4exit(255) after 0 bytes of output, error text b'e': answer 1 (exit), detail 255, after 8 steps, place 24"),
-        (b"defn(`len')", Refused, "no sheet: answer 11 (no text), detail 0, after 2 steps, place 10"),
+        (b"gain\n\n defn(`len')", Refused, "no sheet: answer 11 (no text), detail 0, after 6 steps, place 17 (line 3, column 12)"),
+        (b"1" * 65537, Refused, "no sheet: answer 2 (lend), detail 0, after 0 steps, place 0"),
     ]:
         raised = ended(quenhovach.expand, text, expander)
-        check("expand of %s" % text, (type(raised), isinstance(raised, NotDone), str(raised)), (kind, True, said))
+        check("expand of %.30s" % text, (type(raised), isinstance(raised, NotDone), str(raised)), (kind, True, said))
         check("and the exception in another process", ended(lambda: str(pickle.loads(pickle.dumps(raised)))), said)
         status, _, err = python(ALONE + "expand(sys.argv[3].encode(), Expander(library=sys.argv[2]))", EXAMPLE, library, text.decode())
         check("and uncaught", (status, err.splitlines()[-1:]), (1, ["quenhovach.%s: %s" % (kind.__name__, said)]))
@@ -262,6 +275,8 @@ def stacks(library):
 def example(library):
     _, program, shown = readme_blocks()
     check("the README's example", python(program.replace("target/libquenhovach.so", library)), (0, shown + "\n", ""))
+    spring = open(os.path.join(ROOT, "examples", "frozen", "spring.m4"), "rb").read()
+    check("line and column in the README", shown.endswith(", place 1207 (line %d, column %d)" % counted(spring, 1207)), True)
     os.symlink(library, os.path.join(os.path.dirname(library), "libquenhovach.so.0"))
     got = python(ALONE + "print(expand(b'eval(2+3)').decode())", EXAMPLE, LD_LIBRARY_PATH=os.path.dirname(library))
     check("a library that the loader finds", got, (0, "5\n", ""))

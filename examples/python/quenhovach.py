@@ -21,6 +21,7 @@ from enum import IntEnum
 from typing import Any, Optional, Tuple, Union
 
 MAX_LENGTH = 65536  # of the text and of each buffer, in bytes
+LINES_WORDS = MAX_LENGTH // 64 + 1  # and as many totals: the index of the longest text's lines
 BUDGET = 16777216  # steps, where the caller names no other number
 STACK = 1024 * 1024 + 16 * 1024  # 1 MiB for the expander, the rest for the way there
 LIBRARY = "libquenhovach.so.0"  # as the loader finds it; a path has a slash
@@ -99,14 +100,20 @@ class NotDone(Exception):
 
 
 class Refused(NotDone):
-    """A refusal. There is no text, and the output and error buffers are as they were."""
+    """A refusal. There is no text, and the output and error buffers are as they were.
 
-    def __init__(self, report: Report) -> None:
-        super().__init__(report)
+    `line` and `column` are those of the report's place, counted from 1, the column in bytes. Both are None where the text is too long.
+    """
+
+    def __init__(self, report: Report, line: Optional[int] = None, column: Optional[int] = None) -> None:
+        super().__init__(report, line, column)
         self.report = report
+        self.line = line
+        self.column = column
 
     def __str__(self) -> str:
-        return "no sheet: %s" % self.report
+        told = "" if self.line is None else " (line %d, column %d)" % (self.line, self.column)
+        return "no sheet: %s%s" % (self.report, told)
 
 
 class Exited(NotDone):
@@ -138,7 +145,7 @@ class Expander:
         lengths = (pending, calls, definitions, streams, wrap, errors, output)
         self.buffers: Tuple[ctypes.Array[ctypes.c_char], ...] = tuple(ctypes.create_string_buffer(length) for length in lengths)
         self._budget = budget
-        self._function = _load(library)
+        self._library = _load(library)
         self._lock = threading.Lock()
 
     def run(self, text: Text) -> Sheet:
@@ -148,7 +155,7 @@ class Expander:
             report = self._call(own)
             output, errors = self._front(Buffer.OUTPUT, report.output), self._front(Buffer.ERRORS, report.errors)
         if report.number not in (Answer.DONE, Answer.EXIT):
-            raise Refused(report)
+            raise Refused(report, *_position(self._library, own, report.place))
         sheet = Sheet(output, errors, report)
         if report.number == Answer.EXIT:
             raise Exited(sheet)
@@ -161,7 +168,7 @@ class Expander:
             raise RuntimeError(told % (STACK, left))
         lent = [part for buffer in self.buffers for part in (buffer, len(buffer))]
         numbers = (ctypes.c_uint32 * 6)()
-        self._function(text, len(text), *lent, self._budget, numbers)
+        self._library.quenhovach_expand(text, len(text), *lent, self._budget, numbers)
         return Report(Answer(numbers[0]), *numbers[1:])
 
     def _front(self, buffer: Buffer, count: int) -> bytes:
@@ -179,13 +186,34 @@ def expand(text: Text, expander: Optional[Expander] = None) -> bytes:
     return sheet.output
 
 
+def _position(library: Any, text: bytes, place: int) -> Tuple[Optional[int], Optional[int]]:
+    """Line and column of a place, by the index of the text's lines; a text that is too long has none."""
+    words, totals = (ctypes.c_uint64 * LINES_WORDS)(), (ctypes.c_uint32 * LINES_WORDS)()
+    index = (words, LINES_WORDS, totals, LINES_WORDS)
+    line, start = ctypes.c_uint64(), ctypes.c_uint64()
+    refused = (
+        library.quenhovach_lines_build(text, len(text), *index)
+        or library.quenhovach_lines_line_of(len(text), *index, place, ctypes.byref(line))
+        or library.quenhovach_lines_start_of(len(text), *index, line.value, ctypes.byref(start))
+    )
+    return (None, None) if refused else (line.value, place - start.value + 1)
+
+
 @functools.lru_cache(maxsize=None)
 def _load(library: str) -> Any:
-    """The function of the shared object. The header says what it takes."""
-    function = ctypes.CDLL(library).quenhovach_expand
-    function.argtypes = [ctypes.c_char_p, ctypes.c_size_t] + [ctypes.c_void_p, ctypes.c_size_t] * 7 + [ctypes.c_uint32, ctypes.c_void_p]
-    function.restype = ctypes.c_uint32
-    return function
+    """The shared object, with what its functions take; the header says it."""
+    loaded = ctypes.CDLL(library)
+    size, pointer = ctypes.c_size_t, ctypes.c_void_p
+    for name, takes in {
+        "expand": [ctypes.c_char_p, size] + [pointer, size] * 7 + [ctypes.c_uint32, pointer],
+        "lines_build": [ctypes.c_char_p, size] + [pointer, size] * 2,
+        "lines_line_of": [size] + [pointer, size] * 2 + [size, pointer],
+        "lines_start_of": [size] + [pointer, size] * 2 + [ctypes.c_uint64, pointer],
+    }.items():
+        function = getattr(loaded, "quenhovach_" + name)
+        function.argtypes = takes
+        function.restype = ctypes.c_uint32
+    return loaded
 
 
 _host = ctypes.CDLL(None)
