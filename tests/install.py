@@ -19,11 +19,12 @@ BUILT = os.path.join(ROOT, "target", "rust")
 COMMAND = os.path.join(BUILT, "release", "quenhovach")
 FIVE = b"define(`n',`5')n"
 HEADER = os.path.join(ROOT, "include", "quenhovach.h")
+EXPORTED = ["quenhovach_expand", "quenhovach_lines_build", "quenhovach_lines_line_of", "quenhovach_lines_start_of"]
 NO_BUILD = tempfile.TemporaryDirectory()  # tools that must not be called
 passed = 0
 failed = 0
 
-# a call in just the room that document 01 names for this text, and the numbers that it names
+# a call in just the room that document 01 names for this text, and the numbers that it names; then the line of a place, which is the second
 PROGRAM = r"""
 #include <quenhovach.h>
 #include <stdio.h>
@@ -33,7 +34,11 @@ int main(void)
     uint8_t pending[1], calls[8], definitions[2], output[1];
     uint32_t r[QUENHOVACH_REPORT_LENGTH];
     uint32_t n = quenhovach_expand(text, 16, pending, 1, calls, 8, definitions, 2, NULL, 0, NULL, 0, NULL, 0, output, 1, 8, r);
-    printf("%s %c %d %d %d %d\n", QUENHOVACH_VERSION, output[0], (int)n, (int)r[1], (int)r[2], (int)r[3]);
+    uint64_t words[1], line;
+    uint32_t totals[1];
+    uint32_t m = quenhovach_lines_build((const uint8_t *)"a\nb", 3, words, 1, totals, 1);
+    m += quenhovach_lines_line_of(3, words, 1, totals, 1, 2, &line);
+    printf("%s %c %d %d %d %d, %d %d\n", QUENHOVACH_VERSION, output[0], (int)n, (int)r[1], (int)r[2], (int)r[3], (int)m, (int)line);
     return 0;
 }
 """
@@ -158,7 +163,7 @@ def linked(folder, prefix):
     environment.pop("PKG_CONFIG_SYSROOT_DIR", None)
     readme = get(os.path.join(ROOT, "README.md")).decode()
     line = re.search(r"^    (gcc -o mast mast.c .*pkg-config.*)$", readme, re.M)[1]
-    told = (0, "%s 5 0 0 8 16\n" % VERSION)
+    told = (0, "%s 5 0 0 8 16, 0 2\n" % VERSION)
     check("the header's version", re.findall(r'^#define QUENHOVACH_VERSION "(.*)"$', get(HEADER).decode(), re.M), [VERSION])
     check("pkg-config has the version", output("pkg-config", "--modversion", "quenhovach", env=environment), (0, VERSION + "\n"))
     check("a program with the shared object", output("sh", "-c", line, cwd=folder, env=environment), (0, ""))
@@ -172,7 +177,7 @@ def linked(folder, prefix):
     tags = output("readelf", "-dlW", shared)[1]
     check("its soname", re.findall(r"Library soname: \[(.*)\]", tags), [SONAME])
     check("no code that has to be patched, no stack that can be run", ("TEXTREL" in tags, re.findall(r"GNU_STACK .* (R\S*) ", tags)), (False, ["RW"]))
-    check("what it exports", re.findall(r" T (\S+)", output("nm", "-D", shared)[1]), ["quenhovach_expand"])
+    check("what it exports", re.findall(r" T (\S+)", output("nm", "-D", shared)[1]), EXPORTED)
     example = get(os.path.join(ROOT, "examples", "python", "quenhovach.py")).decode()
     check("the name that Python asks for", re.findall(r'^LIBRARY = "(.*?)"', example, re.M), [SONAME])
 
