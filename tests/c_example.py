@@ -250,6 +250,7 @@ def test_program(folder):
     told = "expand_file: target/open.m4:2:6: no sheet: the template ends inside a quote (answer 5 1, after 6 steps and 15 bytes)\n"
     check("the refusal in the README", (done.stdout, done.stderr, done.returncode), ("", told.replace("target/", "./"), 1))
     check("the message in the README", shown[3:], [told])
+    check("and in the one at the root", "\n    " + told in open(os.path.join(ROOT, "README.md"), encoding="utf-8").read(), True)
     for name, words, redirection, message in [
         ("no file named", "", "", b"usage: expand_file FILE\n"),
         ("a file that is not there", "nothing-here", "", b"expand_file: nothing-here: the file could not be read\n"),
