@@ -1,8 +1,7 @@
-//! The call of the archive, and the memory that is lent to it.
+//! The call of the archive's expander.
 
-use crate::noise::Noise;
+use crate::windows::Lent;
 use model::Setting;
-use std::ops::Range;
 
 extern "C" {
     fn quenhovach_expand(
@@ -29,13 +28,11 @@ extern "C" {
 
 /// The text, the seven buffers and the report lie in nine areas.
 pub const AREAS: usize = 9;
-/// The number of the report's area; the text's is 0, those of the buffers are 1 to 7.
+/// The numbers of the text's and of the report's area; those of the buffers are 1 to 7.
+pub const TEXT: usize = 0;
 pub const REPORT: usize = 8;
 /// A report is six numbers of four bytes.
 pub const REPORT_LENGTH: usize = 24;
-
-/// Where the lent bytes of an area begin, and how many there are.
-pub type Lent = (*mut u8, usize);
 
 /// Calls the archive and gives what it returns.
 ///
@@ -72,87 +69,4 @@ pub fn lengths(text: &[u8], setting: &Setting) -> [usize; AREAS] {
         REPORT => REPORT_LENGTH,
         buffer => setting.lengths[buffer - 1],
     })
-}
-
-/// Memory around an area: what is lent, and surroundings that must stay as they are.
-pub struct Window {
-    pub start: *mut u8,
-    pub length: usize,
-    /// The lent part, counted from the start.
-    pub lent: Range<usize>,
-}
-
-impl Window {
-    pub fn lent(&self) -> Lent {
-        // SAFETY: the lent part lies in the window.
-        (unsafe { self.start.add(self.lent.start) }, self.lent.len())
-    }
-
-    fn bytes(&self) -> &[u8] {
-        // SAFETY: a window is readable and nobody else writes to it.
-        unsafe { std::slice::from_raw_parts(self.start, self.length) }
-    }
-
-    fn fill(&self, bytes: &[u8]) {
-        assert_eq!(bytes.len(), self.length);
-        // SAFETY: a window is writable, and `bytes` is no part of it.
-        unsafe { std::ptr::copy_nonoverlapping(bytes.as_ptr(), self.start, self.length) }
-    }
-}
-
-/// An area before and after a call.
-#[derive(Clone)]
-pub struct Seen<'a> {
-    pub before: &'a [u8],
-    pub after: &'a [u8],
-    pub lent: Range<usize>,
-}
-
-/// What the windows hold before a call.
-pub struct Before<'n> {
-    /// The text between its surroundings.
-    text: Vec<u8>,
-    others: Vec<&'n [u8]>,
-}
-
-impl<'n> Before<'n> {
-    /// Fills the windows with noise, and the first one's lent part with the text.
-    pub fn fill(windows: &[Window; AREAS], text: &[u8], noise: &'n Noise, salt: u64) -> Before<'n> {
-        let mut others = Vec::new();
-        for (area, window) in windows.iter().enumerate() {
-            others.push(noise.before(salt, area, window.length));
-        }
-        let mut around_text = others[0].to_vec();
-        around_text[windows[0].lent.clone()].copy_from_slice(text);
-        let before = Before {
-            text: around_text,
-            others,
-        };
-        for (area, window) in windows.iter().enumerate() {
-            window.fill(before.of(area));
-        }
-        before
-    }
-
-    fn of(&self, area: usize) -> &[u8] {
-        if area == 0 {
-            &self.text
-        } else {
-            self.others[area]
-        }
-    }
-
-    /// All areas as they were and as they are now.
-    pub fn seen<'a>(&'a self, windows: &'a [Window; AREAS]) -> [Seen<'a>; AREAS] {
-        std::array::from_fn(|area| Seen {
-            before: self.of(area),
-            after: windows[area].bytes(),
-            lent: windows[area].lent.clone(),
-        })
-    }
-}
-
-/// The lent parts of all windows.
-pub fn lent_parts(windows: &[Window; AREAS]) -> [Lent; AREAS] {
-    std::array::from_fn(|area| windows[area].lent())
 }

@@ -1,14 +1,25 @@
 //! Lent memory on the heap with 16 guard bytes on each side, at any alignment.
 
-use crate::archive::{call, lengths, lent_parts, Before, Window, AREAS, REPORT};
+use crate::archive::{call, lengths, AREAS, REPORT};
 use crate::case::Case;
 use crate::judge::judge;
 use crate::noise::{Noise, LONGEST};
 use crate::random::Random;
+use crate::windows::{lent_parts, Before, Window};
 use model::Report;
 
 /// The bytes before and behind what is lent that must not change.
 const GUARD: usize = 16;
+
+/// The window for so many bytes between their guards, so far into the memory.
+pub fn guarded(memory: &mut [u8], shift: usize, length: usize) -> Window {
+    let whole = &mut memory[shift..shift + length + 2 * GUARD];
+    Window {
+        start: whole.as_mut_ptr(),
+        length: whole.len(),
+        lent: GUARD..GUARD + length,
+    }
+}
 
 /// Memory for the nine areas, used by one case after the other.
 pub struct Arenas {
@@ -34,18 +45,14 @@ impl Arenas {
                 REPORT => memory.as_ptr().align_offset(4) + 4 * random.below(4),
                 _ => random.below(16),
             };
-            Window {
-                start: memory[shift..shift + lengths[area] + 2 * GUARD].as_mut_ptr(),
-                length: lengths[area] + 2 * GUARD,
-                lent: GUARD..GUARD + lengths[area],
-            }
+            guarded(memory, shift, lengths[area])
         })
     }
 
     /// Runs a case and compares all of it with what is expected.
     pub fn try_case(&mut self, case: &Case, expected: &Report) -> Result<(), String> {
         let windows = self.windows(case);
-        let before = Before::fill(&windows, &case.text, &self.noise, case.salt);
+        let before = Before::fill(&windows, &[&case.text], &self.noise, case.salt);
         // SAFETY: the windows lie in the arenas, and the report is aligned.
         let returned = unsafe { call(&lent_parts(&windows), case.setting.budget) };
         judge(returned, &before.seen(&windows), expected)

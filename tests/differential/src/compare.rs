@@ -4,13 +4,11 @@ use crate::arenas::Arenas;
 use crate::case::{case, line, Case};
 use crate::shrink::shrink;
 use crate::supervise::libc::SIGALRM;
-use crate::supervise::{supervise, End, Progress};
-use crate::tally::{Tally, ENOUGH};
+use crate::supervise::{all_pass, supervise, End, Progress};
+use crate::tally::{all_reached, Tally};
 use model::table::{hex, read};
 use model::{expand, expand_traced};
 
-/// After so many disagreements a run stops.
-const PATIENCE: usize = 3;
 /// The budget of a case that is made smaller.
 const FEW_STEPS: u32 = 30_000;
 
@@ -30,28 +28,15 @@ pub fn random_cases(seed: u64, count: u64, first: u64) -> bool {
 fn compare_all(progress: &Progress, seed: u64, count: u64, first: u64) -> bool {
     let mut arenas = Arenas::new();
     let mut tally = Tally::default();
-    let mut failed = 0;
-    for index in first..first + count {
-        progress.at(index);
+    let agrees = |index| {
         let case = case(seed, index);
         let (expected, trace) = expand_traced(&case.text, &case.setting);
         tally.add(&expected, &trace);
         let ways = tally.add_ways(&case.text, &expected);
-        if let Err(what) = arenas.try_case(&case, &expected).and(ways) {
-            tell(seed, index, &what);
-            failed += 1;
-            if failed == PATIENCE {
-                return false;
-            }
-        }
-    }
-    tally.print();
-    let missing = tally.missing();
-    if count >= ENOUGH && !missing.is_empty() {
-        println!("never reached: {}", missing.join(", "));
-        return false;
-    }
-    failed == 0
+        arenas.try_case(&case, &expected).and(ways)
+    };
+    let tell = |index, what: &str| tell(seed, index, what);
+    all_pass(progress, first..first + count, agrees, tell) && all_reached(&tally.counts(), 4, count)
 }
 
 /// Prints a case that fails, how to repeat it, and a smaller one.

@@ -1,7 +1,7 @@
 //! The letter's third demand on random pairs of settings: its three sentences, checked as
 //! statements about two calls.
 
-use crate::archive::{call, lent_parts, Before};
+use crate::archive::call;
 use crate::arenas::Arenas;
 use crate::case::Case;
 use crate::generate::text;
@@ -10,6 +10,7 @@ use crate::random::Random;
 use crate::setting::{close, probe};
 use crate::supervise::{supervise, End, Progress};
 use crate::tally::ENOUGH;
+use crate::windows::{lent_parts, Before};
 use model::table::hex;
 use model::{Setting, LIMIT};
 
@@ -108,7 +109,7 @@ fn run(arenas: &mut Arenas, text: &[u8], setting: &Setting, salt: u64) -> Ran {
         salt,
     };
     let windows = arenas.windows(&case);
-    let before = Before::fill(&windows, text, &arenas.noise, salt);
+    let before = Before::fill(&windows, &[text], &arenas.noise, salt);
     // SAFETY: the windows lie in the arenas, and the report is aligned.
     unsafe { call(&lent_parts(&windows), setting.budget) };
     let seen = before.seen(&windows);

@@ -4,18 +4,17 @@
 //! an inaccessible page, once with their beginning behind one. The text lies in read-only memory
 //! meanwhile.
 
-use crate::archive::{call, lengths, lent_parts, Before, Lent, Window, AREAS, REPORT};
+use crate::archive::{call, lengths, AREAS, REPORT, TEXT};
 use crate::case::{case, line, Case};
 use crate::judge::{judge, reported};
 use crate::noise::{Noise, LONGEST};
 use crate::supervise::libc::{self, MAP_NORESERVE, MAP_PRIVATE, PROT_NONE, PROT_READ, PROT_WRITE};
-use crate::supervise::{supervise, End, Progress};
+use crate::supervise::{supervise, try_each, End};
+use crate::windows::{lent_parts, Before, Lent, Window};
 use model::expand;
 
 /// A multiple of every usual page size.
 const FENCE: usize = 65_536;
-/// After so many failures a run stops.
-const PATIENCE: usize = 3;
 
 /// The side on which the lent memory touches an inaccessible page.
 #[derive(Clone, Copy, Debug, PartialEq, Eq)]
@@ -24,22 +23,22 @@ pub enum Side {
     Beginning,
 }
 
-/// Nine areas with a fence on each side.
-pub struct Fences {
-    starts: [*mut u8; AREAS],
-    noise: Noise,
+/// Areas with a fence on each side of each.
+pub struct Fences<const N: usize> {
+    starts: [*mut u8; N],
+    pub noise: Noise,
 }
 
-impl Fences {
-    pub fn new() -> Fences {
+impl<const N: usize> Fences<N> {
+    pub fn new() -> Fences<N> {
         Fences {
             starts: std::array::from_fn(|_| fenced_area()),
             noise: Noise::new(),
         }
     }
 
-    pub fn windows(&self, case: &Case, side: Side) -> [Window; AREAS] {
-        let lengths = lengths(&case.text, &case.setting);
+    /// The windows for areas of these lengths.
+    pub fn windows(&self, lengths: &[usize; N], side: Side) -> [Window; N] {
         std::array::from_fn(|area| Window {
             start: self.starts[area],
             length: LONGEST,
@@ -50,27 +49,46 @@ impl Fences {
         })
     }
 
-    pub fn protect_text(&self, protection: i32) {
-        // SAFETY: the whole area of the text, which nobody reads or writes meanwhile.
-        let done = unsafe { libc::mprotect(self.starts[0].cast(), LONGEST, protection) };
-        assert_eq!(done, 0, "mprotect failed");
+    /// Does something while these areas are read-only.
+    pub fn read_only<T>(&self, areas: &[usize], work: impl FnOnce() -> T) -> T {
+        self.protect(areas, PROT_READ);
+        let done = work();
+        self.protect(areas, PROT_READ | PROT_WRITE);
+        done
     }
 
+    fn protect(&self, areas: &[usize], protection: i32) {
+        for &area in areas {
+            // SAFETY: the whole of an area, which nobody reads or writes meanwhile.
+            let done = unsafe { libc::mprotect(self.starts[area].cast(), LONGEST, protection) };
+            assert_eq!(done, 0, "mprotect failed");
+        }
+    }
+}
+
+impl Fences<AREAS> {
     /// Runs a case; all that lies between the fences is compared.
     fn try_case(&self, case: &Case, side: Side) -> Result<(), String> {
-        let windows = self.windows(case, side);
-        let before = Before::fill(&windows, &case.text, &self.noise, case.salt);
-        self.protect_text(PROT_READ);
+        let windows = self.windows(&lengths(&case.text, &case.setting), side);
+        let before = Before::fill(&windows, &[&case.text], &self.noise, case.salt);
         // SAFETY: what is lent lies between the fences; the report is aligned, as its length and
         // the areas are.
-        let returned = unsafe { call(&lent_parts(&windows), case.setting.budget) };
-        self.protect_text(PROT_READ | PROT_WRITE);
+        let returned = self.read_only(&[TEXT], || unsafe {
+            call(&lent_parts(&windows), case.setting.budget)
+        });
         judge(
             returned,
             &before.seen(&windows),
             &expand(&case.text, &case.setting),
         )
     }
+}
+
+/// Tries something on both sides, on the second even if the first fails.
+pub fn on_both_sides(try_side: impl Fn(Side) -> Result<(), String>) -> Result<(), String> {
+    let [end, beginning] = [Side::End, Side::Beginning]
+        .map(|side| try_side(side).map_err(|what| format!("{side:?}: {what}")));
+    end.and(beginning)
 }
 
 /// Memory of `LONGEST` bytes with a fence before and behind.
@@ -91,39 +109,15 @@ fn fenced_area() -> *mut u8 {
 /// Runs `count` random cases from number `first` on, twice each. A case that traps is reported, and
 /// the run goes on behind it.
 pub fn random_cases(seed: u64, count: u64, first: u64) -> bool {
-    let mut from = first;
-    let mut trapped = 0;
-    loop {
-        let end = supervise(|progress| try_all(progress, seed, from..first + count));
-        let End::Killed { index, .. } = end else {
-            return end == End::Verdict(true) && trapped == 0;
-        };
-        tell(seed, index, &end.shown());
-        trapped += 1;
-        if trapped == PATIENCE {
-            return false;
-        }
-        from = index + 1;
-    }
-}
-
-fn try_all(progress: &Progress, seed: u64, indexes: std::ops::Range<u64>) -> bool {
     let fences = Fences::new();
-    let mut failed = 0;
-    for index in indexes {
-        progress.at(index);
-        let case = case(seed, index);
-        for side in [Side::End, Side::Beginning] {
-            if let Err(what) = fences.try_case(&case, side) {
-                tell(seed, index, &format!("{side:?}: {what}"));
-                failed += 1;
-            }
-        }
-        if failed >= PATIENCE {
-            return false;
-        }
-    }
-    failed == 0
+    try_each(
+        first..first + count,
+        |index| {
+            let case = case(seed, index);
+            on_both_sides(|side| fences.try_case(&case, side))
+        },
+        |index, what| tell(seed, index, what),
+    )
 }
 
 fn tell(seed: u64, index: u64, what: &str) {
@@ -164,7 +158,7 @@ pub fn huge_lengths() -> bool {
     end == End::Verdict(true)
 }
 
-fn answers_lend(fences: &Fences, area: usize, huge: Lent) -> bool {
+fn answers_lend(fences: &Fences<AREAS>, area: usize, huge: Lent) -> bool {
     let case = Case {
         text: b"len(a)".to_vec(),
         setting: model::Setting {
@@ -173,8 +167,8 @@ fn answers_lend(fences: &Fences, area: usize, huge: Lent) -> bool {
         },
         salt: area as u64,
     };
-    let windows = fences.windows(&case, Side::End);
-    let before = Before::fill(&windows, &case.text, &fences.noise, case.salt);
+    let windows = fences.windows(&lengths(&case.text, &case.setting), Side::End);
+    let before = Before::fill(&windows, &[&case.text], &fences.noise, case.salt);
     let mut lent = lent_parts(&windows);
     lent[area] = huge;
     // SAFETY: the huge area exists, if nobody touches it.

@@ -1,6 +1,7 @@
 //! Whether a call left all that it was lent as the model's answer asks.
 
-use crate::archive::{Seen, AREAS, REPORT};
+use crate::archive::{AREAS, REPORT};
+use crate::windows::Seen;
 use model::Report;
 
 /// What the six numbers of a report are.
@@ -54,7 +55,7 @@ pub fn judge(returned: u32, seen: &[Seen; AREAS], expected: &Report) -> Result<(
     }
     seen.iter()
         .enumerate()
-        .try_for_each(|(area, seen)| judge_surroundings(area, seen))?;
+        .try_for_each(|(area, seen)| judge_surroundings(&name(area), seen))?;
     seen[..REPORT]
         .iter()
         .enumerate()
@@ -70,12 +71,11 @@ fn name(area: usize) -> String {
 }
 
 /// The bytes around the lent ones are as they were.
-fn judge_surroundings(area: usize, seen: &Seen) -> Result<(), String> {
+pub fn judge_surroundings(name: &str, seen: &Seen) -> Result<(), String> {
     let (from, to) = (seen.lent.start, seen.lent.end);
     same(&seen.after[..from], &seen.before[..from])
-        .map_err(|what| format!("before {}: {what}", name(area)))?;
-    same(&seen.after[to..], &seen.before[to..])
-        .map_err(|what| format!("behind {}: {what}", name(area)))
+        .map_err(|what| format!("before {name}: {what}"))?;
+    same(&seen.after[to..], &seen.before[to..]).map_err(|what| format!("behind {name}: {what}"))
 }
 
 /// 01: "Buffers 1 to 5 are all zero afterwards, except with 2, which writes nothing"; buffers 6 and
@@ -110,7 +110,8 @@ fn all_zero(bytes: &[u8]) -> Result<(), String> {
     Err(format!("byte {at} is {:02x} instead of 00", bytes[at]))
 }
 
-fn same(after: &[u8], expected: &[u8]) -> Result<(), String> {
+/// Says which byte differs first.
+pub fn same(after: &[u8], expected: &[u8]) -> Result<(), String> {
     if after == expected {
         return Ok(());
     }

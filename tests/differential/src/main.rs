@@ -46,6 +46,7 @@ mod setting;
 mod shrink;
 mod supervise;
 mod tally;
+mod windows;
 
 use memcheck::Mistake;
 use std::process::ExitCode;

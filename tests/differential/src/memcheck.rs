@@ -2,21 +2,22 @@
 //! is defined before the call. So valgrind sees a byte read or written outside, and an answer that
 //! hangs on what the lent memory held before.
 
-use crate::archive::{call, lengths, Lent, AREAS, REPORT};
-use crate::case::{case, line, Case};
+use crate::archive::{call, lengths, AREAS, REPORT};
+use crate::case::{case, line};
 use crate::judge::numbers;
 use crate::supervise::libc;
+use crate::windows::Lent;
 use model::{expand, Report};
 
 /// After so many disagreements a run stops.
 const PATIENCE: usize = 3;
 
 /// Blocks of the heap, freed in the end.
-struct Blocks([Lent; AREAS]);
+pub struct Blocks<const N: usize>(pub [Lent; N]);
 
-impl Blocks {
-    fn new(case: &Case) -> Blocks {
-        let lengths = lengths(&case.text, &case.setting);
+impl<const N: usize> Blocks<N> {
+    /// Blocks of these lengths. What they hold is not defined.
+    pub fn new(lengths: [usize; N]) -> Blocks<N> {
         // SAFETY: every result of malloc is either good or caught here.
         let blocks = lengths.map(|length| (unsafe { libc::malloc(length) }.cast::<u8>(), length));
         assert!(
@@ -25,20 +26,35 @@ impl Blocks {
                 .all(|(start, length)| !start.is_null() || *length == 0),
             "malloc failed"
         );
-        // SAFETY: the first block has the length of the text.
-        unsafe { std::ptr::copy_nonoverlapping(case.text.as_ptr(), blocks[0].0, case.text.len()) };
         Blocks(blocks)
     }
 
+    /// Defines some bytes of an area.
+    pub fn fill(&self, area: usize, at: usize, bytes: &[u8]) {
+        assert!(at + bytes.len() <= self.0[area].1);
+        // SAFETY: the area has these bytes.
+        unsafe {
+            std::ptr::copy_nonoverlapping(bytes.as_ptr(), self.0[area].0.add(at), bytes.len())
+        }
+    }
+
     /// The first bytes of an area, which must be defined by now.
-    fn front(&self, area: usize, count: usize) -> &[u8] {
+    pub fn front(&self, area: usize, count: usize) -> &[u8] {
         assert!(count <= self.0[area].1);
         // SAFETY: as many bytes are there; valgrind says if one is not defined.
         unsafe { std::slice::from_raw_parts(self.0[area].0, count) }
     }
+
+    /// Reads one byte of an area, or outside of it, and lets something hang on it.
+    pub fn look_at(&self, area: usize, at: usize) {
+        // SAFETY: none; valgrind is to find it.
+        if unsafe { self.0[area].0.add(at).read_volatile() } == b'q' {
+            println!("a byte that nobody may look at");
+        }
+    }
 }
 
-impl Drop for Blocks {
+impl<const N: usize> Drop for Blocks<N> {
     fn drop(&mut self) {
         // SAFETY: each block came from malloc.
         self.0
@@ -58,15 +74,11 @@ pub enum Mistake {
 }
 
 /// Makes the mistake before the call.
-fn mistaken(blocks: &Blocks, mistake: Mistake) {
-    let (area, at) = match mistake {
-        Mistake::None => return,
-        Mistake::Outside => (0, blocks.0[0].1),
-        Mistake::Undefined => (7, 0),
-    };
-    // SAFETY: none; valgrind is to find it.
-    if unsafe { blocks.0[area].0.add(at).read_volatile() } == b'q' {
-        println!("a byte that nobody may look at");
+fn mistaken(blocks: &Blocks<AREAS>, mistake: Mistake) {
+    match mistake {
+        Mistake::None => {}
+        Mistake::Outside => blocks.look_at(0, blocks.0[0].1),
+        Mistake::Undefined => blocks.look_at(7, 0),
     }
 }
 
@@ -75,7 +87,8 @@ pub fn random_cases(seed: u64, count: u64, mistake: Mistake) -> bool {
     let mut failed = 0;
     for index in 0..count {
         let case = case(seed, index);
-        let blocks = Blocks::new(&case);
+        let blocks = Blocks::new(lengths(&case.text, &case.setting));
+        blocks.fill(0, 0, &case.text);
         mistaken(&blocks, mistake);
         // SAFETY: the blocks are as long as is said and aligned as malloc does.
         let returned = unsafe { call(&blocks.0, case.setting.budget) };
@@ -92,7 +105,7 @@ pub fn random_cases(seed: u64, count: u64, mistake: Mistake) -> bool {
     failed == 0
 }
 
-fn agrees(blocks: &Blocks, returned: u32, expected: &Report) -> bool {
+fn agrees(blocks: &Blocks<AREAS>, returned: u32, expected: &Report) -> bool {
     let report: Vec<u8> = numbers(expected)
         .iter()
         .flat_map(|number| number.to_ne_bytes())

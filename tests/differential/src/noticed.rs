@@ -1,7 +1,7 @@
 //! Whether the comparisons notice what they are there for: calls that went well are tampered with,
 //! each time in one place.
 
-use crate::archive::{call, lent_parts, Before, AREAS, REPORT};
+use crate::archive::{call, lengths, AREAS, TEXT};
 use crate::arenas::Arenas;
 use crate::case::case;
 use crate::demand3::{check, Ran, Sentence};
@@ -10,11 +10,12 @@ use crate::judge::judge;
 use crate::noted::ways_noted;
 use crate::random::Random;
 use crate::supervise::{libc, supervise, End};
+use crate::windows::{lent_parts, Before, Seen};
 use model::{expand, Setting};
 
 /// How many calls are tampered with, and the seed of their cases.
 const CALLS: u64 = 500;
-const SEED: u64 = 7;
+pub const SEED: u64 = 7;
 
 /// Every way of tampering is noticed, and each was tried.
 pub fn all_noticed() -> bool {
@@ -22,16 +23,36 @@ pub fn all_noticed() -> bool {
     let bytes = bytes_noticed();
     let sentences = sentences_noticed();
     let ways = ways_noted();
-    let fences = fences_trap();
+    let case = case(SEED, 0);
+    let fences = fences_trap(&lengths(&case.text, &case.setting), &[TEXT]);
     bytes && sentences && ways && fences
 }
 
 /// One bit of one lent byte, of one surrounding byte or of the returned number.
 fn bytes_noticed() -> bool {
     let mut arenas = Arenas::new();
-    let mut tried = [[0u64; 2]; AREAS];
+    calls_noticed(|index, tried| {
+        let case = case(SEED, index);
+        let expected = expand(&case.text, &case.setting);
+        let windows = arenas.windows(&case);
+        let before = Before::fill(&windows, &[&case.text], &arenas.noise, case.salt);
+        // SAFETY: the windows lie in the arenas, and the report is aligned.
+        let returned = unsafe { call(&lent_parts(&windows), case.setting.budget) };
+        let judge = |returned, seen: &[Seen; AREAS]| judge(returned, seen, &expected);
+        tamper(index, returned, &before.seen(&windows), judge, tried)
+    })
+}
+
+/// How often what is around each area was tampered with, and what is lent there.
+pub type Tried<const N: usize> = [[u64; 2]; N];
+
+/// Tampers with calls, each in one way after the other, and with all areas often enough.
+pub fn calls_noticed<const N: usize>(
+    mut tampered: impl FnMut(u64, &mut Tried<N>) -> Result<(), String>,
+) -> bool {
+    let mut tried = [[0; 2]; N];
     let good = (0..CALLS).all(|index| {
-        let verdict = tamper(&mut arenas, index, &mut tried);
+        let verdict = tampered(index, &mut tried);
         if let Err(what) = &verdict {
             println!("case {index} of seed {SEED}: {what}");
         }
@@ -40,21 +61,20 @@ fn bytes_noticed() -> bool {
     good && tried.iter().flatten().all(|&count| count > CALLS / 10)
 }
 
-/// Tampers with one case in every area, in what is lent and around it.
-fn tamper(arenas: &mut Arenas, index: u64, tried: &mut [[u64; 2]; AREAS]) -> Result<(), String> {
-    let case = case(SEED, index);
-    let expected = expand(&case.text, &case.setting);
-    let windows = arenas.windows(&case);
-    let before = Before::fill(&windows, &case.text, &arenas.noise, case.salt);
-    // SAFETY: the windows lie in the arenas, and the report is aligned.
-    let returned = unsafe { call(&lent_parts(&windows), case.setting.budget) };
-    let seen = before.seen(&windows);
-    judge(returned, &seen, &expected)?;
-    if judge(returned + 1, &seen, &expected).is_ok() {
+/// Tampers with a call that went well, in what it returned, and in and around every area.
+pub fn tamper<const N: usize>(
+    index: u64,
+    returned: u32,
+    seen: &[Seen; N],
+    judge: impl Fn(u32, &[Seen; N]) -> Result<(), String>,
+    tried: &mut Tried<N>,
+) -> Result<(), String> {
+    judge(returned, seen)?;
+    if judge(returned + 1, seen).is_ok() {
         return Err("another number returned is not noticed".to_string());
     }
     let mut random = Random::new(SEED, index);
-    for area in 0..AREAS {
+    for area in 0..N {
         let (from, to) = (seen[area].lent.start, seen[area].lent.end);
         let around = random.pick(&[0, from - 1, to, seen[area].after.len() - 1]);
         let inside = (from < to).then(|| random.between(from, to - 1));
@@ -64,7 +84,7 @@ fn tamper(arenas: &mut Arenas, index: u64, tried: &mut [[u64; 2]; AREAS]) -> Res
             bytes[at] ^= 1 << random.below(8);
             let mut tampered = seen.clone();
             tampered[area].after = &bytes;
-            if judge(returned, &tampered, &expected).is_ok() {
+            if judge(returned, &tampered).is_ok() {
                 return Err(format!(
                     "a changed byte {at} of the window of area {area} is not noticed"
                 ));
@@ -135,10 +155,10 @@ fn sentences_noticed() -> bool {
     })
 }
 
-/// One byte read outside of each area traps on both sides, and one byte written to the text.
-fn fences_trap() -> bool {
-    let case = case(SEED, 0);
-    let trapped = |name: &str, touch: &dyn Fn(&Fences)| {
+/// One byte read outside of each area traps on both sides, and one byte written to each of those
+/// that are read-only.
+pub fn fences_trap<const N: usize>(lengths: &[usize; N], read_only: &[usize]) -> bool {
+    let trapped = |name: &str, touch: &dyn Fn(&Fences<N>)| {
         let end = supervise(|_| {
             touch(&Fences::new());
             true
@@ -155,20 +175,19 @@ fn fences_trap() -> bool {
         }
         trapped
     };
-    (0..=REPORT).all(|area| {
-        // SAFETY: none of these; they must trap.
+    // SAFETY: none of these; they must trap.
+    (0..N).all(|area| {
         trapped("a byte behind the end", &|fences| unsafe {
-            let (start, length) = fences.windows(&case, Side::End)[area].lent();
+            let (start, length) = fences.windows(lengths, Side::End)[area].lent();
             start.add(length).read_volatile();
         }) && trapped("a byte before the beginning", &|fences| unsafe {
-            let (start, _) = fences.windows(&case, Side::Beginning)[area].lent();
+            let (start, _) = fences.windows(lengths, Side::Beginning)[area].lent();
             start.sub(1).read_volatile();
         })
-    }) && trapped("a write to the text", &|fences| unsafe {
-        fences.protect_text(libc::PROT_READ);
-        fences.windows(&case, Side::Beginning)[0]
-            .lent()
-            .0
-            .write_volatile(0);
+    }) && read_only.iter().all(|&area| {
+        trapped("a write to what is only read", &|fences| {
+            let (start, _) = fences.windows(lengths, Side::Beginning)[area].lent();
+            fences.read_only(&[area], || unsafe { start.write_volatile(0) });
+        })
     })
 }

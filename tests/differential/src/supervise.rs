@@ -2,6 +2,7 @@
 //! the test.
 
 use std::io::Write;
+use std::ops::Range;
 use std::panic::{catch_unwind, AssertUnwindSafe};
 
 /// Functions of the C library and their constants on Linux.
@@ -56,6 +57,8 @@ pub mod libc {
 
 /// The longest that one case may take, in seconds.
 const PATIENCE: u32 = 60;
+/// After so many failures a run stops.
+const FAILURES: usize = 3;
 
 /// How far a child came; both processes see it.
 pub struct Progress(*mut u64);
@@ -115,7 +118,8 @@ impl End {
             End::Killed {
                 signal: libc::SIGSEGV,
                 ..
-            } => "reached outside of what was lent, or wrote to the text (SIGSEGV)".to_string(),
+            } => "reached outside of what was lent, or wrote to what is only read (SIGSEGV)"
+                .to_string(),
             End::Killed { signal, .. } => format!("was ended by signal {signal}"),
             other => format!("{other:?}"),
         }
@@ -151,4 +155,49 @@ pub fn supervise(work: impl FnOnce(&Progress) -> bool) -> End {
             index: progress.last(),
         },
     }
+}
+
+/// Tries numbered cases in a child process and tells of each that fails. One that traps is told of
+/// too, and the run goes on behind it.
+pub fn try_each(
+    indexes: Range<u64>,
+    mut try_case: impl FnMut(u64) -> Result<(), String>,
+    tell: impl Fn(u64, &str),
+) -> bool {
+    let mut from = indexes.start;
+    let mut killed = 0;
+    loop {
+        let left = from..indexes.end;
+        let end = supervise(|progress| all_pass(progress, left, &mut try_case, &tell));
+        let End::Killed { index, .. } = end else {
+            return end == End::Verdict(true) && killed == 0;
+        };
+        tell(index, &end.shown());
+        killed += 1;
+        if killed == FAILURES {
+            return false;
+        }
+        from = index + 1;
+    }
+}
+
+/// Tries numbered cases in this process and tells of each that fails.
+pub fn all_pass(
+    progress: &Progress,
+    indexes: Range<u64>,
+    mut try_case: impl FnMut(u64) -> Result<(), String>,
+    tell: impl Fn(u64, &str),
+) -> bool {
+    let mut failed = 0;
+    for index in indexes {
+        progress.at(index);
+        if let Err(what) = try_case(index) {
+            tell(index, &what);
+            failed += 1;
+        }
+        if failed == FAILURES {
+            break;
+        }
+    }
+    failed == 0
 }

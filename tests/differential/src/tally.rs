@@ -4,11 +4,14 @@ use model::macros::Predefined;
 use model::ways::remarks::Remarks;
 use model::ways::Ways;
 use model::{Report, Trace};
+use std::fmt::Display;
 
 /// From so many cases on everything must be reached.
 pub const ENOUGH: u64 = 20_000;
 /// The ways of longer runs are not looked at: they take long and show no more.
 const MOST_STEPS: u32 = 100;
+/// The most characters of a line of counts.
+const WIDTH: usize = 128;
 
 #[derive(Default)]
 pub struct Tally {
@@ -48,7 +51,7 @@ impl Tally {
     }
 
     /// Every count with its name.
-    fn counts(&self) -> Vec<(String, u64)> {
+    pub fn counts(&self) -> Vec<(String, u64)> {
         let mut counts = Vec::new();
         counts.extend(
             self.answers
@@ -82,23 +85,35 @@ impl Tally {
         counts
     }
 
-    /// Prints all counts, four in a line.
-    pub fn print(&self) {
-        for line in self.counts().chunks(4) {
-            let cells: Vec<String> = line
-                .iter()
-                .map(|(name, count)| format!("{name:>20} {count:>10}"))
-                .collect();
-            println!("{}", cells.join(" "));
-        }
-    }
-
     /// What was never reached.
     pub fn missing(&self) -> Vec<String> {
-        let counts = self.counts().into_iter();
-        counts
-            .filter(|(_, count)| *count == 0)
-            .map(|(name, _)| name)
-            .collect()
+        missing(&self.counts())
     }
+}
+
+/// Prints all counts, so many in a line. False if something was never reached, in enough cases.
+pub fn all_reached<S: Display>(counts: &[(S, u64)], columns: usize, cases: u64) -> bool {
+    print(counts, columns);
+    let missing = missing(counts);
+    if cases < ENOUGH || missing.is_empty() {
+        return true;
+    }
+    println!("never reached: {}", missing.join(", "));
+    false
+}
+
+fn print<S: Display>(counts: &[(S, u64)], columns: usize) {
+    let width = WIDTH / columns - 12;
+    for line in counts.chunks(columns) {
+        let cells: Vec<String> = line
+            .iter()
+            .map(|(name, count)| format!("{name:>width$} {count:>10}"))
+            .collect();
+        println!("{}", cells.join(" "));
+    }
+}
+
+fn missing<S: Display>(counts: &[(S, u64)]) -> Vec<String> {
+    let missing = counts.iter().filter(|(_, count)| *count == 0);
+    missing.map(|(name, _)| name.to_string()).collect()
 }
