@@ -6,7 +6,7 @@ use crate::shrink::shrink;
 use crate::supervise::libc::SIGALRM;
 use crate::supervise::{all_pass, supervise, End, Progress};
 use crate::tally::{all_reached, Tally};
-use model::table::{hex, read};
+use model::table::{hex, judge, read};
 use model::{expand, expand_traced};
 
 /// The budget of a case that is made smaller.
@@ -89,24 +89,7 @@ fn alone(progress: &Progress, case: &Case) -> Result<(), String> {
 /// that passed and failed.
 pub fn table(text: &str) -> (usize, usize) {
     let mut arenas = Arenas::new();
-    let (mut passed, mut failed) = (0, 0);
-    for (i, line) in text.lines().enumerate() {
-        if line.is_empty() || line.starts_with('#') {
-            continue;
-        }
-        match try_line(&mut arenas, line) {
-            Ok(()) => passed += 1,
-            Err(what) => {
-                println!("line {}: {what}", i + 1);
-                failed += 1;
-            }
-        }
-    }
-    if passed + failed == 0 {
-        println!("the table has no line");
-        failed = 1;
-    }
-    (passed, failed)
+    judge::lines(text, |line| try_line(&mut arenas, line))
 }
 
 fn try_line(arenas: &mut Arenas, line: &str) -> Result<(), String> {
