@@ -6,9 +6,10 @@
 # buffers and around them. A quarter as many pairs of settings are held to the letter's third demand, and a hundredth of the cases
 # are run between inaccessible pages; some hundred go through valgrind. It also runs tests/vectors.tsv, each byte wherever its
 # class is asked for, each predefined name wherever it may stand, before all that may follow it, and comments that nothing closes,
-# wherever one may begin and under marks of every kind, and shows that each of these checks can fail. A longer run is
-# `tests/differential.sh SEED COUNT`, 10,000 cases take one to two seconds; how to repeat a failing case is printed with it (the
-# program is target/differential/release/differential).
+# wherever one may begin and under marks of every kind, and shows that each of these checks can fail. The index of lines gets
+# tests/lines.tsv, a quarter as many random cases, every place and line of some texts against counting through them, and the same
+# pages and valgrind. A longer run is `tests/differential.sh SEED COUNT`, 10,000 cases take one to two seconds; how to repeat a
+# failing case is printed with it (the program is target/differential/release/differential).
 # Ends with 'N passed, M failed', counting parts; exit status 0 only if M is 0.
 set -u
 if [ -n "${QUENHOVACH_LIB_DIR:-}" ]; then
@@ -68,11 +69,17 @@ part 'open comments, wherever one may begin and whatever ends comments, archive 
 shown "$count random cases, archive and model" "$program" compare "$seed" "$count"
 shown "the third demand on $((count / 4 + 1)) pairs of settings" "$program" demand3 "$seed" "$((count / 4 + 1))"
 part "$((count / 100 + 1)) cases between inaccessible pages, twice each" 0 "$program" fences "$seed" "$((count / 100 + 1))"
+part 'tests/lines.tsv through the archive' 0 "$program" lines-vectors tests/lines.tsv
+shown "the index of lines in $((count / 4 + 1)) random cases, archive and model" "$program" lines "$seed" "$((count / 4 + 1))"
+shown 'the index of lines against counting through texts' "$program" lines-counted
+part "the index of lines in $((count / 200 + 1)) cases between inaccessible pages, twice each" 0 "$program" lines-fences "$seed" "$((count / 200 + 1))"
 part 'lengths above 4,294,967,295' 0 "$program" huge
 part '500 cases under valgrind' 0 memcheck "$program" memcheck "$seed" 500
+part 'the index of lines in 500 cases under valgrind' 0 memcheck "$program" lines-memcheck "$seed" 500
 part 'a changed byte or number is noticed, ways are told apart, inaccessible pages trap' 0 "$program" noticed
 part 'valgrind finds a byte read outside' 9 memcheck "$program" memcheck-outside "$seed" 1
 part 'valgrind finds the use of what was there before' 9 memcheck "$program" memcheck-undefined "$seed" 1
+part 'valgrind finds the use of a word that is not asked for' 9 memcheck "$program" lines-memcheck-undefined "$seed" 200
 
 echo "$passed passed, $failed failed"
 [ "$failed" -eq 0 ]

@@ -135,7 +135,7 @@ fn tell(seed: u64, index: u64, what: &str) {
 }
 
 /// Lengths whose low 32 bits are a good length: the answer is 2, and nothing is read or written.
-const HUGE: [usize; 3] = [1 << 32, (1 << 32) + 5, (1 << 33) + 65_536];
+pub const HUGE: [usize; 3] = [1 << 32, (1 << 32) + 5, (1 << 33) + 65_536];
 
 /// Lends one area after the other with a huge length, as memory that is not accessible at all.
 pub fn huge_lengths() -> bool {

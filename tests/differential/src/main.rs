@@ -1,5 +1,5 @@
 //! The archive libcapi.a against the independent model of document 01 (tests/model), on random
-//! texts and settings.
+//! texts and settings, and of the index of lines of document 02.
 //!
 //! Each command ends with a line 'N passed, M failed' and has exit status 0 only if M is 0.
 //!
@@ -15,10 +15,18 @@
 //! - `differential words`: each of the 24 names in every place, before all that may follow it.
 //! - `differential comments`: comments that nothing closes, in every place, under marks of every
 //!   kind.
+//! - `differential lines SEED COUNT [FIRST]`: random cases of the index of lines; the answer, the
+//!   line or start, every word and total and 16 guard bytes around each of them. From 20,000 cases
+//!   on every way of request 6 must be taken.
+//! - `differential lines-counted`: every place and every line of dense and thin texts, against
+//!   counting through the text, without the model.
+//! - `differential lines-fences SEED COUNT [FIRST]`: random cases of the index against inaccessible
+//!   pages.
+//! - `differential lines-vectors FILE`: the lines of a table like tests/lines.tsv.
 //! - `differential huge`: lengths above 4,294,967,295.
 //! - `differential memcheck SEED COUNT`: random cases in blocks of the heap, to be run under
-//!   valgrind. `memcheck-outside` and `memcheck-undefined` do the same with a mistake that valgrind
-//!   must find.
+//!   valgrind; `lines-memcheck SEED COUNT` for the index. `memcheck-outside`, `memcheck-undefined`
+//!   and `lines-memcheck-undefined` do the same with a mistake that valgrind must find.
 //! - `differential vectors FILE`: the lines of a table like tests/vectors.tsv.
 //! - `differential noticed`: the comparisons notice one changed byte or number, the ways are told
 //!   apart, and the inaccessible pages trap.
@@ -35,6 +43,7 @@ mod demand3;
 mod fences;
 mod generate;
 mod judge;
+mod lines;
 mod memcheck;
 mod names;
 mod noise;
@@ -51,8 +60,10 @@ mod windows;
 use memcheck::Mistake;
 use std::process::ExitCode;
 
-const USE: &str = "use: differential compare|demand3|fences SEED COUNT [FIRST], \
-    memcheck SEED COUNT, vectors FILE, bytes, words, comments, huge or noticed";
+const USE: &str =
+    "use: differential compare|demand3|fences|lines|lines-fences SEED COUNT [FIRST], \
+    memcheck|lines-memcheck SEED COUNT, vectors|lines-vectors FILE, \
+    bytes, words, comments, lines-counted, huge or noticed";
 
 fn main() -> ExitCode {
     let arguments: Vec<String> = std::env::args().skip(1).collect();
@@ -74,7 +85,9 @@ fn run(words: &[&str]) -> Option<(usize, usize)> {
         ["bytes"] => Some(readers::every_byte()),
         ["words"] => Some(names::every_name()),
         ["comments"] => Some(comments::every_comment()),
-        ["huge"] => one(fences::huge_lengths()),
+        ["huge"] => one(fences::huge_lengths() && lines::huge_lengths()),
+        ["lines-vectors", path] => Some(lines::table(&std::fs::read_to_string(path).ok()?)),
+        ["lines-counted"] => one(lines::every_place()),
         [command, seed, count] => random(command, seed, count, "0").and_then(one),
         [command, seed, count, first] => random(command, seed, count, first).and_then(one),
         _ => None,
@@ -93,6 +106,10 @@ fn random(command: &str, seed: &str, count: &str, first: &str) -> Option<bool> {
         "memcheck" => Some(memcheck::random_cases(seed, count, Mistake::None)),
         "memcheck-outside" => Some(memcheck::random_cases(seed, count, Mistake::Outside)),
         "memcheck-undefined" => Some(memcheck::random_cases(seed, count, Mistake::Undefined)),
+        "lines" => Some(lines::random_cases(seed, count, first)),
+        "lines-fences" => Some(lines::between_fences(seed, count, first)),
+        "lines-memcheck" => Some(lines::under_valgrind(seed, count, false)),
+        "lines-memcheck-undefined" => Some(lines::under_valgrind(seed, count, true)),
         _ => None,
     }
 }

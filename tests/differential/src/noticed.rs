@@ -7,6 +7,7 @@ use crate::case::case;
 use crate::demand3::{check, Ran, Sentence};
 use crate::fences::{Fences, Side};
 use crate::judge::judge;
+use crate::lines;
 use crate::noted::ways_noted;
 use crate::random::Random;
 use crate::supervise::{libc, supervise, End};
@@ -25,7 +26,8 @@ pub fn all_noticed() -> bool {
     let ways = ways_noted();
     let case = case(SEED, 0);
     let fences = fences_trap(&lengths(&case.text, &case.setting), &[TEXT]);
-    bytes && sentences && ways && fences
+    let lines = lines::all_noticed();
+    bytes && sentences && ways && fences && lines
 }
 
 /// One bit of one lent byte, of one surrounding byte or of the returned number.

@@ -54,7 +54,7 @@ impl<'n, const N: usize> Before<'n, N> {
     /// them.
     pub fn fill(
         windows: &[Window; N],
-        given: &[&[u8]],
+        given: &[impl AsRef<[u8]>],
         noise: &'n Noise,
         salt: u64,
     ) -> Before<'n, N> {
@@ -62,7 +62,7 @@ impl<'n, const N: usize> Before<'n, N> {
             let window = &windows[area];
             let mut bytes = Cow::Borrowed(noise.before(salt, area, window.length));
             if let Some(given) = given.get(area) {
-                bytes.to_mut()[window.lent.clone()].copy_from_slice(given);
+                bytes.to_mut()[window.lent.clone()].copy_from_slice(given.as_ref());
             }
             window.fill(&bytes);
             bytes
