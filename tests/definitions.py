@@ -30,7 +30,7 @@ use Rattle.rules.specs.Answers.{answerNumber, answerDetail}
 use Rattle.rules.specs.State.{freshStart}
 use Rattle.rules.specs.Run.{Setting, Ended, run}
 use Rattle.rules.specs.Contract.{outputOf, errorsOf}
-use Rattle.rules.specs.Lines.{indexNumber, indexValue, wordsOf, totalsOf, building, keptBy, lineOf, startOf}
+use Rattle.rules.specs.Lines.{indexNumber, indexValue, wordsOf, totalsOf, building, heldBy, lineOf, startOf}
 use Rattle.rules.proofs.Book.{book}
 
 setting : ℕ → ℕ → ℕ → ℕ → ℕ → ℕ → ℕ → ℕ → Setting
@@ -50,7 +50,7 @@ builds : ℕ → ℕ → Bytes → List ℕ → List ℕ → List ℕ → List �
 unfolding book
 builds number value text words totals w t =
     answers number value (building text words totals)
-    && sameBytes (keptBy (building text words totals) (wordsOf text) words) w && sameBytes (keptBy (building text words totals) (totalsOf text) totals) t
+    && sameBytes (heldBy (building text words totals) (wordsOf text) words) w && sameBytes (heldBy (building text words totals) (totalsOf text) totals) t
 """
 # how many columns a line has that says what a run, or the index of lines, answers
 RUN, INDEX = 10, 11

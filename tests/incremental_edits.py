@@ -7,8 +7,8 @@ each changes bodies only, and a function is proved from its own body and its cal
 functions of each edit, each in its own proof and at its promise, and none that no edit touches; what rests on one of these is not counted. An edit that was
 refused because the proof file does not fit the edited code fails. So does a public function with fewer than two edits, or with none that is refused at `returns`.
 
-Where RT_CI_ENDED names a file, `rt ci` runs beside this, and the file will be there when that has ended. Each crate is then taken as soon as `rt ci` has
-proved it, with the modules that were checked for that, so that only what the edits reach is checked here; should the toolchain not know these modules again,
+Where RT_CI_ENDED names a file, `rt ci` runs beside this, and the file will be there when that has ended. The crates are then taken as soon as `rt ci` has
+proved all that they need, each with the modules that were checked for that, so that only what the edits reach is checked here; should the toolchain not know these modules again,
 it checks all, and the edits take longer. Else all is proved here. Ends with 'N passed, M failed'; exit status 0 only if M is 0.
 """
 import glob

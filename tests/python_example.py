@@ -138,9 +138,9 @@ def names():
     check("every buffer is tried", sorted({call[2][1] for call in CALLS if call[2][0] == 4}), list(range(1, 8)))
 
 
-def counted(text, place):
-    """Line and column of a place, by counting; None for a text that is too long."""
-    if len(text) > 65536:
+def counted(text, number, place):
+    """Line and column of a refusal's place, by counting; none where nothing was read."""
+    if number == 2:
         return None, None
     lines = text[:place].split(b"\n")
     return len(lines), len(lines[-1]) + 1
@@ -161,7 +161,7 @@ def calls(library):
             check(name, (type(got), getattr(got, "sheet", got), getattr(got, "code", got)), (Exited, Sheet(output, errors, report), numbers[1]))
         else:
             check(name, (type(got), getattr(got, "report", got)), (Refused, report))
-            check(name + ": line and column", (getattr(got, "line", got), getattr(got, "column", got)), counted(text, numbers[3]))
+            check(name + ": line and column", (getattr(got, "line", got), getattr(got, "column", got)), counted(text, numbers[0], numbers[3]))
         working = OLD if numbers[0] == 2 else b"\0"
         left = [working * length for length in lengths[:5]]
         left += [written + OLD * (length - len(written)) for length, written in zip(lengths[5:], (errors, output))]

@@ -102,7 +102,7 @@ class NotDone(Exception):
 class Refused(NotDone):
     """A refusal. There is no text, and the output and error buffers are as they were.
 
-    `line` and `column` are those of the report's place, counted from 1, the column in bytes. Both are None where the text is too long.
+    `line` and `column` are those of the report's place, counted from 1, the column in bytes. Both are None with LEND: nothing of the text was read.
     """
 
     def __init__(self, report: Report, line: Optional[int] = None, column: Optional[int] = None) -> None:
@@ -155,7 +155,7 @@ class Expander:
             report = self._call(own)
             output, errors = self._front(Buffer.OUTPUT, report.output), self._front(Buffer.ERRORS, report.errors)
         if report.number not in (Answer.DONE, Answer.EXIT):
-            raise Refused(report, *_position(self._library, own, report.place))
+            raise Refused(report, *_position(self._library, own, report))
         sheet = Sheet(output, errors, report)
         if report.number == Answer.EXIT:
             raise Exited(sheet)
@@ -186,17 +186,17 @@ def expand(text: Text, expander: Optional[Expander] = None) -> bytes:
     return sheet.output
 
 
-def _position(library: Any, text: bytes, place: int) -> Tuple[Optional[int], Optional[int]]:
-    """Line and column of a place, by the index of the text's lines; a text that is too long has none."""
+def _position(library: Any, text: bytes, report: Report) -> Tuple[Optional[int], Optional[int]]:
+    """Line and column of a report's place, by the index of the text's lines; none where nothing of the text was read."""
+    if report.number == Answer.LEND:
+        return None, None
     words, totals = (ctypes.c_uint64 * LINES_WORDS)(), (ctypes.c_uint32 * LINES_WORDS)()
     index = (words, LINES_WORDS, totals, LINES_WORDS)
     line, start = ctypes.c_uint64(), ctypes.c_uint64()
-    refused = (
-        library.quenhovach_lines_build(text, len(text), *index)
-        or library.quenhovach_lines_line_of(len(text), *index, place, ctypes.byref(line))
-        or library.quenhovach_lines_start_of(len(text), *index, line.value, ctypes.byref(start))
-    )
-    return (None, None) if refused else (line.value, place - start.value + 1)
+    library.quenhovach_lines_build(text, len(text), *index)
+    library.quenhovach_lines_line_of(len(text), *index, report.place, ctypes.byref(line))
+    library.quenhovach_lines_start_of(len(text), *index, line.value, ctypes.byref(start))
+    return line.value, report.place - start.value + 1  # no answer is a refusal: the place is in the text
 
 
 @functools.lru_cache(maxsize=None)

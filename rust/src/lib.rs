@@ -15,7 +15,7 @@
 //! | [`expand`] | `core` alone | seven slices | a [`Report`] with one of 14 [`Answer`]s |
 //! | [`Expander`] | feature `alloc` | its own, kept from call to call | text in its buffers, or a [`Failure`] |
 //! | [`expand_to_vec`] | feature `alloc` | as much as may be lent, made anew | a [`Sheet`] of vectors, or a [`Failure`] |
-//! | [`Refusal::position`] | `core` alone | 12 KB of stack | line and column of a refusal |
+//! | [`Refusal::position`] | `core` alone | 25 KB of stack | line and column of a refusal |
 //! | [`LineIndex`], [`lines`] | `core` alone | 12 KB of its own; two slices | the same for any place of a text, and where a line starts |
 //!
 //! A text may have 65,536 bytes, each of the seven buffers too, and a budget of steps is given. A run ends on every input,

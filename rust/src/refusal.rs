@@ -1,6 +1,6 @@
 //! A refused run as an error.
 
-use crate::{LineIndex, Position, Report};
+use crate::{Answer, LineIndex, Position, Report};
 use core::{error::Error, fmt};
 
 /// A run that gave no text.
@@ -33,8 +33,8 @@ impl Report {
 }
 
 impl Refusal {
-    /// Line and column of the place in the text of the run. None where the text is longer than 65,536 bytes, so that nothing of
-    /// it was read, or the place is beyond its end, so that it isn't the run's.
+    /// Line and column of the place in the text of the run. None with [`Answer::Lend`], where nothing of the text was read, and
+    /// where the place is beyond its end, so that it isn't the run's.
     ///
     /// ```
     /// use quenhovach::{expand, Buffers};
@@ -48,6 +48,9 @@ impl Refusal {
     ///
     /// Each call builds an index of the lines. A [`LineIndex`] is for many places of one text.
     pub fn position(&self, text: &[u8]) -> Option<Position> {
+        if self.report.answer == Answer::Lend {
+            return None;
+        }
         let index = LineIndex::new(text).ok()?;
         index.position(self.report.place).ok()
     }
@@ -80,13 +83,17 @@ mod tests {
     }
 
     #[test]
-    fn a_text_that_is_too_long_has_no_position() {
+    fn where_nothing_was_read_there_is_no_position() {
         let text = [b'\n'; crate::LONGEST + 1];
         let refusal = expand(&text, Buffers::default(), 9).finished();
         let refusal = refusal.expect_err("it is too long");
         assert_eq!(refusal.position(&text), None);
+        assert_eq!(refusal.position(b""), None);
+        let refusal = expand(b"", Buffers::default(), 0).finished();
+        let refusal = refusal.expect_err("no step may be made");
         let (line, column) = (1, 1);
         assert_eq!(refusal.position(b""), Some(Position { line, column }));
+        assert_eq!(refusal.position(&text), None);
     }
 
     #[test]

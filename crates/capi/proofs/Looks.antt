@@ -5,7 +5,7 @@ use mathlib.Core.List.{List}
 use lib.ListN.{length}
 use Rattle.rules.specs.Bytes.{Bytes}
 use Rattle.rules.specs.declared.IndexAnswer.{IndexAnswer}
-use Rattle.rules.specs.Lines.{indexNumber, indexValue, judged, building, keptBy, wordsOf, totalsOf, Indexed, lineOf, startOf, countedLine, countedStart}
+use Rattle.rules.specs.Lines.{indexNumber, indexValue, judgedIndex, building, heldBy, wordsOf, totalsOf, Indexed, lineOf, startOf, countedLine, countedStart}
 use Rattle.rules.proofs.Lines.{line-counted, start-counted}
 use Rattle.capi.specs.Looked.{IndexedInNumbers, InNumbers}
 
@@ -14,8 +14,8 @@ module _ {text : Bytes} {words totals w t : List ℕ} where
   indexed h e =
       record {
         number-is = e ∙ ap indexNumber (h .answer);
-        words-are = h .words-are ∙ ap (λ (r : IndexAnswer). keptBy r (wordsOf text) words) (h .answer);
-        totals-are = h .totals-are ∙ ap (λ (r : IndexAnswer). keptBy r (totalsOf text) totals) (h .answer);
+        words-are = h .words-are ∙ ap (λ (r : IndexAnswer). heldBy r (wordsOf text) words) (h .answer);
+        totals-are = h .totals-are ∙ ap (λ (r : IndexAnswer). heldBy r (totalsOf text) totals) (h .answer);
       }
 
 pub looked : {a b : IndexAnswer} {n v : ℕ} → a ≡ b → n ≡ indexNumber a → v ≡ indexValue a → InNumbers b n v
@@ -27,8 +27,8 @@ module _ {text : Bytes} {words totals w t : List ℕ} {r : ℕ} (h : IndexedInNu
   built : Indexed text words totals (building text words totals) w t
   built = record { answer = refl; words-are = h .words-are; totals-are = h .totals-are }
 
-  pub line-in-numbers : (place : ℕ) {n v : ℕ} → InNumbers (lineOf (length text) w t place) n v → InNumbers (judged (length text) words totals (countedLine text place)) n v
+  pub line-in-numbers : (place : ℕ) {n v : ℕ} → InNumbers (lineOf (length text) w t place) n v → InNumbers (judgedIndex (length text) words totals (countedLine text place)) n v
   line-in-numbers place {n} {v} x = subst (λ (a : IndexAnswer). InNumbers a n v) (line-counted text words totals built place) x
 
-  pub start-in-numbers : (line : ℕ) {n v : ℕ} → InNumbers (startOf (length text) w t line) n v → InNumbers (judged (length text) words totals (countedStart text line)) n v
+  pub start-in-numbers : (line : ℕ) {n v : ℕ} → InNumbers (startOf (length text) w t line) n v → InNumbers (judgedIndex (length text) words totals (countedStart text line)) n v
   start-in-numbers line {n} {v} x = subst (λ (a : IndexAnswer). InNumbers a n v) (start-counted text words totals built line) x

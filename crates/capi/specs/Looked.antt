@@ -4,13 +4,13 @@ use mathlib.Core.Path.{_≡_}
 use mathlib.Core.List.{List}
 use Rattle.rules.specs.Bytes.{Bytes}
 use Rattle.rules.specs.declared.IndexAnswer.{IndexAnswer}
-use Rattle.rules.specs.Lines.{indexNumber, indexValue, building, keptBy, wordsOf, totalsOf}
+use Rattle.rules.specs.Lines.{indexNumber, indexValue, building, heldBy, wordsOf, totalsOf}
 
 -- the index of a text is built: n is given back, w and t are what the lent words and totals then hold
 pub record IndexedInNumbers (text : Bytes) (words totals : List ℕ) (n : ℕ) (w t : List ℕ) : Type 0 where
   pub number-is : n ≡ indexNumber (building text words totals)
-  pub words-are : w ≡ keptBy (building text words totals) (wordsOf text) words
-  pub totals-are : t ≡ keptBy (building text words totals) (totalsOf text) totals
+  pub words-are : w ≡ heldBy (building text words totals) (wordsOf text) words
+  pub totals-are : t ≡ heldBy (building text words totals) (totalsOf text) totals
 
 -- a question's answer: n is given back, v is written
 pub record InNumbers (a : IndexAnswer) (n v : ℕ) : Type 0 where

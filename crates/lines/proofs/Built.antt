@@ -1,10 +1,10 @@
 -- Building the index of a text, word by word. Assumes nothing.
-use Prim.Native.Nat.{ℕ, zero, suc, _+_, _-_, _*_, _/_, _≤_, _<_}
+use Prim.Native.Nat.{ℕ, suc, _+_, _-_, _*_, _/_, _≤_, _<_}
 use native.Mathlib.Omega.{arith}
 use native.Mathlib.Numerals.{add-one}
 use mathlib.Core.Path.{_≡_, refl, sym, ap, ap₂, _∙_}
 use mathlib.Core.Bool.{true, false}
-use mathlib.Core.List.{List, [], _∷_, _++_}
+use mathlib.Core.List.{List, _++_}
 use lib.Count.{ones}
 use lib.ListN.{length, take, drop, getD, set, length-set, length-take, length-drop}
 use lib.Seq.{take-all, append-snoc, drop-cons, set-at}
@@ -12,7 +12,7 @@ use Rattle.rules.specs.declared.IndexAnswer.the-variants.{Built, TooLong, NoRoo
 use Rattle.rules.specs.Bytes.{Bytes}
 use Rattle.rules.specs.Run.{mostLent}
 use Rattle.rules.specs.Contract.{fronted}
-use Rattle.rules.specs.Lines.{indexNumber, wordCount, newlines, newlineBits, wordAt, totalAt, each, wordsOf, totalsOf, hasRoom, building, keptBy, Indexed}
+use Rattle.rules.specs.Lines.{indexNumber, wordCount, newlines, newlineBits, wordAt, totalAt, each, wordsOf, totalsOf, hasRoom, building, heldBy, Indexed}
 use Rattle.rules.proofs.Newlines.{newlines-add, newlines-le}
 use Rattle.rules.proofs.Lines.{length-each, each-last}
 use Rattle.lines.proofs.Judged.{too-long, no-room, admitted, room-for}
@@ -55,11 +55,11 @@ pub record Building (text : Bytes) (words totals w t : List ℕ) (total k : ℕ)
 
 module _ {text : Bytes} {words totals : List ℕ} where
   pub build-too-long : mostLent < length text → Indexed text words totals TooLong words totals
-  unfolding building keptBy indexNumber
+  unfolding building heldBy indexNumber
   build-too-long h = record { answer = too-long (length text) words totals Built h; words-are = refl; totals-are = refl }
 
   pub build-no-room : length text ≤ mostLent → hasRoom (length text) (length words) (length totals) ≡ false → Indexed text words totals NoRoom words totals
-  unfolding building keptBy indexNumber
+  unfolding building heldBy indexNumber
   build-no-room h e = record { answer = no-room (length text) words totals Built h e; words-are = refl; totals-are = refl }
 
   pub build-start : length text ≤ mostLent → hasRoom (length text) (length words) (length totals) ≡ true → Building text words totals words totals 0 0
@@ -115,7 +115,7 @@ module _ {text : Bytes} {words totals : List ℕ} where
             }
 
     pub build-done : length text / 64 < k → Indexed text words totals Built w t
-    unfolding building keptBy indexNumber wordsOf totalsOf wordCount
+    unfolding building heldBy indexNumber wordsOf totalsOf wordCount
     build-done h =
         let last : k ≡ suc (length text / 64) = omega (arith, b .within) in
         record {

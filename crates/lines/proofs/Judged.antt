@@ -9,7 +9,7 @@ use borrow.Author.Tests.{leb-true, le-leb, lt-ltb, le-ltb, not-true, not-false}
 use Rattle.rules.specs.declared.IndexAnswer.{IndexAnswer}
 use Rattle.rules.specs.declared.IndexAnswer.the-variants.{TooLong, NoRoom}
 use Rattle.rules.specs.Run.{mostLent}
-use Rattle.rules.specs.Lines.{wordCount, hasRoom, judged}
+use Rattle.rules.specs.Lines.{wordCount, hasRoom, judgedIndex}
 
 -- ---- room, as the code asks for it
 
@@ -38,14 +38,14 @@ lacks {r} e f = sym e ∙ not-true r f
 -- ---- the order
 
 module _ (n : ℕ) (words totals : List ℕ) (a : IndexAnswer) where
-  pub too-long : mostLent < n → TooLong ≡ judged n words totals a
-  unfolding judged
+  pub too-long : mostLent < n → TooLong ≡ judgedIndex n words totals a
+  unfolding judgedIndex
   too-long h = rw (lt-ltb mostLent n h) refl
 
-  pub no-room : n ≤ mostLent → hasRoom n (length words) (length totals) ≡ false → NoRoom ≡ judged n words totals a
-  unfolding judged
+  pub no-room : n ≤ mostLent → hasRoom n (length words) (length totals) ≡ false → NoRoom ≡ judgedIndex n words totals a
+  unfolding judgedIndex
   no-room h e = rw (le-ltb mostLent n h, e) refl
 
-  pub admitted : n ≤ mostLent → hasRoom n (length words) (length totals) ≡ true → a ≡ judged n words totals a
-  unfolding judged
+  pub admitted : n ≤ mostLent → hasRoom n (length words) (length totals) ≡ true → a ≡ judgedIndex n words totals a
+  unfolding judgedIndex
   admitted h e = rw (le-ltb mostLent n h, e) refl

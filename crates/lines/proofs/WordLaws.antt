@@ -3,8 +3,8 @@ use Prim.Native.Nat.{ℕ, zero, suc, _+_, _-_, _*_, _/_, _%_, _^_, _≤_, _<_, m
 use native.Mathlib.Omega.{arith}
 use native.Mathlib.Nat.{add-zero, zero-add, add-comm, one-mul, pow-suc, le-of-eq, le-trans, lt-of-lt-of-le, lt-of-le-of-lt}
 use native.Mathlib.Numerals.{add-one}
-use mathlib.Core.Path.{_≡_, refl, sym, ap, ap₂, subst, _∙_}
-use mathlib.Core.List.{List, [], _∷_}
+use mathlib.Core.Path.{_≡_, refl, sym, ap, ap₂, _∙_}
+use mathlib.Core.List.{[], _∷_}
 use mathlib.Core.Option.{Option, none, some}
 use lib.Bits.{bitAnd, bitOr, and-step, and-self, and-le-l, and-mask, or-shifted}
 use lib.Count.{onesIn, ones, trailingZeros, under, ones-step}
@@ -14,14 +14,14 @@ use lib.Seq.{drop-cons, getD-take}
 use borrow.Author.Tests.{eq-eqb, ne-eqb}
 use Rattle.rules.specs.Bytes.{Bytes}
 use Rattle.rules.specs.Tokens.{later}
-use Rattle.rules.specs.Lines.{newlineBit, newlines, newlineBits, setBit}
+use Rattle.rules.specs.Lines.{newlineBit, newlines, newlineBits, select}
 use Rattle.rules.proofs.Newlines.{bit-le, bits-odd, bits-half, no-bit}
 use Rattle.lines.specs.Bits.{placeOr}
 
 -- ---- gathering them
 
 -- so many bits for so many bytes
-pub bits-lt : (xs : Bytes) → newlineBits xs < 2 ^ length xs
+bits-lt : (xs : Bytes) → newlineBits xs < 2 ^ length xs
 unfolding newlineBits
 bits-lt [] = omega arith
 bits-lt (x ∷ xs) =
@@ -99,21 +99,21 @@ even-cleared n z p =
     and-step n (n - 1) ∙ rw (half, least, z) (add-zero (bitAnd (n / 2) (n / 2 - 1) * 2))
 
 -- the sought bit is then one less behind
-pub cleared : (d left n : ℕ) → 0 < n → setBit d (suc left) n ≡ setBit d left (bitAnd n (n - 1))
-unfolding setBit
+cleared : (d left n : ℕ) → 0 < n → select d (suc left) n ≡ select d left (bitAnd n (n - 1))
+unfolding select
 cleared zero left n p = refl
 cleared (suc d) left n p = go (n % 2) refl (λ q. cleared d left (n / 2) q)
   where
     sought : ℕ → ℕ → ℕ → Option ℕ
-    sought before b h = elim b [ zero ↦ later (setBit d before h) | suc c ↦ elim before [ zero ↦ some 0 | suc m ↦ later (setBit d m h) ] ]
+    sought before b h = elim b [ zero ↦ later (select d before h) | suc c ↦ elim before [ zero ↦ some 0 | suc m ↦ later (select d m h) ] ]
 
-    least-clear : (m : ℕ) → bitAnd n (n - 1) ≡ m * 2 → sought left (bitAnd n (n - 1) % 2) (bitAnd n (n - 1) / 2) ≡ later (setBit d left m)
+    least-clear : (m : ℕ) → bitAnd n (n - 1) ≡ m * 2 → sought left (bitAnd n (n - 1) % 2) (bitAnd n (n - 1) / 2) ≡ later (select d left m)
     least-clear m e =
         let least : bitAnd n (n - 1) % 2 ≡ 0 = omega arith in
         let half : bitAnd n (n - 1) / 2 ≡ m = omega arith in
         ap₂ (sought left) least half
 
-    go : (b : ℕ) → n % 2 ≡ b → (0 < n / 2 → setBit d (suc left) (n / 2) ≡ setBit d left (bitAnd (n / 2) (n / 2 - 1)))
+    go : (b : ℕ) → n % 2 ≡ b → (0 < n / 2 → select d (suc left) (n / 2) ≡ select d left (bitAnd (n / 2) (n / 2 - 1)))
         → sought (suc left) (n % 2) (n / 2) ≡ sought left (bitAnd n (n - 1) % 2) (bitAnd n (n - 1) / 2)
     go zero e r =
         ap (λ (b : ℕ). sought (suc left) b (n / 2)) e ∙ ap later (r (omega arith))
@@ -122,13 +122,13 @@ cleared (suc d) left n p = go (n % 2) refl (λ q. cleared d left (n / 2) q)
         ap (λ (b : ℕ). sought (suc left) b (n / 2)) e ∙ sym (least-clear (n / 2) (odd-cleared n (omega arith)))
 
 -- with none before it, it is the least one
-pub least-set : (d n : ℕ) → 0 < n → n < 2 ^ d → setBit d 0 n ≡ some (trailingZeros d n)
-unfolding setBit trailingZeros later
+least-set : (d n : ℕ) → 0 < n → n < 2 ^ d → select d 0 n ≡ some (trailingZeros d n)
+unfolding select trailingZeros later
 least-set zero n p h = absurd (omega arith)
 least-set (suc d) n p h = go (n % 2) refl (λ q. least-set d (n / 2) q (omega (arith, pow-suc 2 d)))
   where
-    go : (b : ℕ) → n % 2 ≡ b → (0 < n / 2 → setBit d 0 (n / 2) ≡ some (trailingZeros d (n / 2)))
-        → elim (n % 2) [ zero ↦ later (setBit d 0 (n / 2)) | suc c ↦ some 0 ] ≡ some (under (n % 2) (trailingZeros d (n / 2)))
+    go : (b : ℕ) → n % 2 ≡ b → (0 < n / 2 → select d 0 (n / 2) ≡ some (trailingZeros d (n / 2)))
+        → elim (n % 2) [ zero ↦ later (select d 0 (n / 2)) | suc c ↦ some 0 ] ≡ some (under (n % 2) (trailingZeros d (n / 2)))
     go zero e r = rw (e, r (omega arith)) refl
     go (suc b) e r = rw e refl
 
@@ -142,31 +142,31 @@ unfolding later
 later-under d none h = tt
 later-under d (some i) h = suc-le-suc h
 
-bit-under : (d before word : ℕ) → Under d (setBit d before word)
-unfolding setBit
+bit-under : (d before word : ℕ) → Under d (select d before word)
+unfolding select
 bit-under zero before word = tt
 bit-under (suc d) before word = go (word % 2) before (λ b. bit-under d b (word / 2))
   where
-    go : (b before : ℕ) → ((m : ℕ) → Under d (setBit d m (word / 2)))
-        → Under (suc d) (elim b [ zero ↦ later (setBit d before (word / 2)) | suc c ↦ elim before [ zero ↦ some 0 | suc m ↦ later (setBit d m (word / 2)) ] ])
-    go zero before h = later-under d (setBit d before (word / 2)) (h before)
+    go : (b before : ℕ) → ((m : ℕ) → Under d (select d m (word / 2)))
+        → Under (suc d) (elim b [ zero ↦ later (select d before (word / 2)) | suc c ↦ elim before [ zero ↦ some 0 | suc m ↦ later (select d m (word / 2)) ] ])
+    go zero before h = later-under d (select d before (word / 2)) (h before)
     go (suc b) zero h = omega arith
-    go (suc b) (suc m) h = later-under d (setBit d m (word / 2)) (h m)
+    go (suc b) (suc m) h = later-under d (select d m (word / 2)) (h m)
 
 bit-place : (o : Option ℕ) → Under 64 o → (placeOr 64 o ≡ 64 → o ≡ none) × ((placeOr 64 o ≡ 64 → ⊥) → o ≡ some (placeOr 64 o))
 unfolding placeOr
 bit-place none u = (λ h. refl, λ h. absurd (h refl))
 bit-place (some i) u = (λ h. absurd (omega (arith, u, h)), λ h. refl)
 
-pub bit-none : (before word : ℕ) → placeOr 64 (setBit 64 before word) ≡ 64 → setBit 64 before word ≡ none
-bit-none before word = bit-place (setBit 64 before word) (bit-under 64 before word) .0
+pub bit-none : (before word : ℕ) → placeOr 64 (select 64 before word) ≡ 64 → select 64 before word ≡ none
+bit-none before word = bit-place (select 64 before word) (bit-under 64 before word) .0
 
-pub bit-some : (before word : ℕ) → (placeOr 64 (setBit 64 before word) ≡ 64 → ⊥) → setBit 64 before word ≡ some (placeOr 64 (setBit 64 before word))
-bit-some before word = bit-place (setBit 64 before word) (bit-under 64 before word) .1
+pub bit-some : (before word : ℕ) → (placeOr 64 (select 64 before word) ≡ 64 → ⊥) → select 64 before word ≡ some (placeOr 64 (select 64 before word))
+bit-some before word = bit-place (select 64 before word) (bit-under 64 before word) .1
 
-pub place-le : (before word : ℕ) → placeOr 64 (setBit 64 before word) ≤ 64
+pub place-le : (before word : ℕ) → placeOr 64 (select 64 before word) ≤ 64
 unfolding placeOr
-place-le before word = go (setBit 64 before word) (bit-under 64 before word)
+place-le before word = go (select 64 before word) (bit-under 64 before word)
   where
     go : (o : Option ℕ) → Under 64 o → placeOr 64 o ≤ 64
     go none u = omega arith
@@ -175,7 +175,7 @@ place-le before word = go (setBit 64 before word) (bit-under 64 before word)
 -- the bit that is sought among those of `rest` is the one that was sought
 pub record Clearing (word before rest left : ℕ) : Type 0 where
   pub fits : rest < 2 ^ 64
-  pub same : setBit 64 left rest ≡ setBit 64 before word
+  pub same : select 64 left rest ≡ select 64 before word
 
 module _ {word before rest left : ℕ} (c : Clearing word before rest left) where
   pub clear-on : 0 < left → 0 < rest → Clearing word before (bitAnd rest (rest - 1)) (left - 1)
@@ -183,18 +183,18 @@ module _ {word before rest left : ℕ} (c : Clearing word before rest left) wher
       let one : suc (left - 1) ≡ left = omega arith in
       record {
         fits = lt-of-le-of-lt (and-le-l rest (rest - 1)) (c .fits);
-        same = sym (cleared 64 (left - 1) rest any) ∙ ap (λ (n : ℕ). setBit 64 n rest) one ∙ c .same;
+        same = sym (cleared 64 (left - 1) rest any) ∙ ap (λ (n : ℕ). select 64 n rest) one ∙ c .same;
       }
 
   -- it is the least that is left
-  pub clear-found : 0 < rest → left ≡ 0 → trailingZeros 64 rest ≡ placeOr 64 (setBit 64 before word)
+  pub clear-found : 0 < rest → left ≡ 0 → trailingZeros 64 rest ≡ placeOr 64 (select 64 before word)
   unfolding placeOr
-  clear-found any z = ap (placeOr 64) (sym (ap (λ (n : ℕ). setBit 64 n rest) z ∙ least-set 64 rest any (c .fits)) ∙ c .same)
+  clear-found any z = ap (placeOr 64) (sym (ap (λ (n : ℕ). select 64 n rest) z ∙ least-set 64 rest any (c .fits)) ∙ c .same)
 
   -- none is left
-  pub clear-none : rest ≡ 0 → 64 ≡ placeOr 64 (setBit 64 before word)
+  pub clear-none : rest ≡ 0 → 64 ≡ placeOr 64 (select 64 before word)
   unfolding placeOr
-  clear-none z = ap (placeOr 64) (sym (ap (setBit 64 left) z ∙ no-bit 64 left) ∙ c .same)
+  clear-none z = ap (placeOr 64) (sym (ap (select 64 left) z ∙ no-bit 64 left) ∙ c .same)
 
 -- ---- counting those below a place
 

@@ -92,7 +92,7 @@ pub fn start_of(length: usize, words: &[u64], totals: &[u32], line: u64) -> Inde
         k -= 1;
         let total = totals[k] as u64;
         if total < newline {
-            let i = bits::set_bit(words[k], newline - total - 1);
+            let i = bits::select(words[k], newline - total - 1);
             if i == bits::COUNT {
                 return IndexAnswer::NoLine;
             }
@@ -107,13 +107,11 @@ pub fn number_of(a: IndexAnswer) -> u32
     ensures { λ r. ⌜ r ≡ indexNumber a ⌝ }
 {
     match a {
-        IndexAnswer::Built => 0,
-        IndexAnswer::Line(_) => 0,
-        IndexAnswer::Start(_) => 0,
         IndexAnswer::TooLong => 30,
         IndexAnswer::Beyond => 31,
         IndexAnswer::NoLine => 32,
         IndexAnswer::NoRoom => 33,
+        _ => 0,
     }
 }
 

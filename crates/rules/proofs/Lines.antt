@@ -2,22 +2,22 @@
 -- text when it was made from it". Assumes nothing.
 use Prim.Native.Nat.{ℕ, zero, suc, _+_, _-_, _*_, _/_, _%_, _≤_, _<_}
 use native.Mathlib.Omega.{arith}
-use mathlib.Core.Path.{_≡_, refl, sym, ap, ap₂, subst, _∙_}
-use mathlib.Core.Bool.{Bool, true, false, cond, _&&_, and-eq-true-iff}
+use mathlib.Core.Path.{_≡_, refl, sym, ap, ap₂, _∙_}
+use mathlib.Core.Bool.{Bool, true, false, cond, and-eq-true-iff}
 use mathlib.Core.List.{List, [], _∷_, _++_}
 use mathlib.Core.Option.{Option, none, some}
 use lib.Count.{onesIn}
-use lib.Dec.{leb, ltb, eqb}
-use lib.ListN.{length, take, drop, getD, length-append, length-drop, take-append-drop, drop-of-length-le, List·getD-append}
+use lib.Dec.{leb, ltb}
+use lib.ListN.{length, take, drop, getD, length-append, length-drop, List·getD-append}
 use lib.Seq.{take-take, take-add, take-all, length-take-le}
-use borrow.Author.Tests.{ltb-true, ltb-false, leb-true, lt-ltb}
+use borrow.Author.Tests.{ltb-true, ltb-false, leb-true}
 use Rattle.rules.specs.declared.IndexAnswer.{IndexAnswer}
-use Rattle.rules.specs.declared.IndexAnswer.the-variants.{Built, Line, Start, TooLong, Beyond, NoLine, NoRoom}
+use Rattle.rules.specs.declared.IndexAnswer.the-variants.{Built, Line, Start, TooLong, Beyond, NoRoom}
 use Rattle.rules.specs.Bytes.{Bytes}
 use Rattle.rules.specs.Tokens.{later}
 use Rattle.rules.specs.Run.{mostLent}
 use Rattle.rules.specs.Contract.{fronted}
-use Rattle.rules.specs.Lines.{indexNumber, wordCount, newlines, newlineBits, wordAt, totalAt, each, wordsOf, totalsOf, hasRoom, judged, building, keptBy, Indexed, lineIn, lineOf, lastBelow, setBit, behindBit, startInWord, startIn, startOf, countedLine, behindNewline, startAt, countedStart}
+use Rattle.rules.specs.Lines.{indexNumber, wordCount, newlines, newlineBits, wordAt, totalAt, each, wordsOf, totalsOf, hasRoom, judgedIndex, building, heldBy, Indexed, lineIn, lineOf, lastBelow, select, behindBit, startInWord, startIn, startOf, countedLine, behindNewline, startAt, countedStart}
 use Rattle.rules.proofs.Newlines.{ones-newlines, newlines-add, farther, bit-behind, behind-first, behind-second}
 
 -- ---- a list of a function's values
@@ -27,7 +27,7 @@ unfolding each
 length-each f k zero = refl
 length-each f k (suc n) = ap suc (length-each f (suc k) n)
 
-pub getD-each : (f : ℕ → ℕ) (k n i : ℕ) → i < n → getD (each f k n) i 0 ≡ f (k + i)
+getD-each : (f : ℕ → ℕ) (k n i : ℕ) → i < n → getD (each f k n) i 0 ≡ f (k + i)
 unfolding each
 getD-each f k zero i h = absurd (omega arith)
 getD-each f k (suc n) zero h = ap f (omega arith)
@@ -42,14 +42,14 @@ each-last f k (suc n) =
 -- ---- what stands in the lent slices once the index is built
 
 module _ (f : ℕ → ℕ) (n : ℕ) (lent : List ℕ) (room : n ≤ length lent) where
-  pub length-fronted : length (fronted (each f 0 n) lent) ≡ length lent
+  length-fronted : length (fronted (each f 0 n) lent) ≡ length lent
   unfolding fronted
   length-fronted =
       let e = length-each f 0 n in
       let d = length-drop (length (each f 0 n)) lent in
       length-append (each f 0 n) (drop (length (each f 0 n)) lent) ∙ (omega arith)
 
-  pub at-fronted : (k : ℕ) → k < n → getD (fronted (each f 0 n) lent) k 0 ≡ f k
+  at-fronted : (k : ℕ) → k < n → getD (fronted (each f 0 n) lent) k 0 ≡ f k
   unfolding fronted
   at-fronted k h =
       let e = length-each f 0 n in
@@ -57,12 +57,12 @@ module _ (f : ℕ → ℕ) (n : ℕ) (lent : List ℕ) (room : n ≤ length lent
 
 -- ---- one law for both questions: refused alike, and where nothing is refused, what is answered of the built index
 
-kept-built : (written lent : List ℕ) → keptBy Built written lent ≡ fronted written lent
-unfolding keptBy indexNumber
+kept-built : (written lent : List ℕ) → heldBy Built written lent ≡ fronted written lent
+unfolding heldBy indexNumber
 kept-built written lent = refl
 
-kept-refused : (written lent : List ℕ) → keptBy NoRoom written lent ≡ lent
-unfolding keptBy indexNumber
+kept-refused : (written lent : List ℕ) → heldBy NoRoom written lent ≡ lent
+unfolding heldBy indexNumber
 kept-refused written lent = refl
 
 module _ (text : Bytes) (words totals : List ℕ) where
@@ -75,14 +75,14 @@ module _ (text : Bytes) (words totals : List ℕ) where
   abbrev count : ℕ
   count = wordCount (length text)
 
-  -- what is judged of lent room whose lengths are these
+  -- what is judged, by the two tests
   abbrev judgedBy : Bool → Bool → IndexAnswer → IndexAnswer
   judgedBy long fits a = cond long TooLong (cond fits a NoRoom)
 
-  pub answered : {r : IndexAnswer} {w t : List ℕ} → Indexed text words totals r w t → (X : List ℕ → List ℕ → IndexAnswer) (Y : IndexAnswer)
+  answered : {r : IndexAnswer} {w t : List ℕ} → Indexed text words totals r w t → (X : List ℕ → List ℕ → IndexAnswer) (Y : IndexAnswer)
       → (count ≤ length words → count ≤ length totals → X built-words built-totals ≡ Y)
-      → judged (length text) w t (X w t) ≡ judged (length text) words totals Y
-  unfolding judged hasRoom building wordsOf totalsOf
+      → judgedIndex (length text) w t (X w t) ≡ judgedIndex (length text) words totals Y
+  unfolding judgedIndex hasRoom building wordsOf totalsOf
   answered {r} {w} {t} h X Y same = go (ltb mostLent (length text)) (hasRoom (length text) (length words) (length totals)) refl refl (h .answer)
     where
       go : (long fits : Bool) → ltb mostLent (length text) ≡ long → hasRoom (length text) (length words) (length totals) ≡ fits → r ≡ building text words totals
@@ -90,13 +90,13 @@ module _ (text : Bytes) (words totals : List ℕ) where
       go true fits e f a = rw e refl
       go false false e f a =
           let refused : r ≡ NoRoom = a ∙ rw (e, f) refl in
-          let wi : w ≡ words = h .words-are ∙ ap (λ (x : IndexAnswer). keptBy x (wordsOf text) words) refused ∙ kept-refused (wordsOf text) words in
-          let ti : t ≡ totals = h .totals-are ∙ ap (λ (x : IndexAnswer). keptBy x (totalsOf text) totals) refused ∙ kept-refused (totalsOf text) totals in
+          let wi : w ≡ words = h .words-are ∙ ap (λ (x : IndexAnswer). heldBy x (wordsOf text) words) refused ∙ kept-refused (wordsOf text) words in
+          let ti : t ≡ totals = h .totals-are ∙ ap (λ (x : IndexAnswer). heldBy x (totalsOf text) totals) refused ∙ kept-refused (totalsOf text) totals in
           rw (e, ap length wi, ap length ti, f) refl
       go false true e f a =
           let is : r ≡ Built = a ∙ rw (e, f) refl in
-          let wi : w ≡ built-words = h .words-are ∙ ap (λ (x : IndexAnswer). keptBy x (wordsOf text) words) is ∙ kept-built (wordsOf text) words in
-          let ti : t ≡ built-totals = h .totals-are ∙ ap (λ (x : IndexAnswer). keptBy x (totalsOf text) totals) is ∙ kept-built (totalsOf text) totals in
+          let wi : w ≡ built-words = h .words-are ∙ ap (λ (x : IndexAnswer). heldBy x (wordsOf text) words) is ∙ kept-built (wordsOf text) words in
+          let ti : t ≡ built-totals = h .totals-are ∙ ap (λ (x : IndexAnswer). heldBy x (totalsOf text) totals) is ∙ kept-built (totalsOf text) totals in
           let b = and-eq-true-iff (leb count (length words)) (leb count (length totals)) .0 f in
           let wr = leb-true count (length words) (b .0) in
           let tr = leb-true count (length totals) (b .1) in
@@ -159,8 +159,8 @@ module _ (text : Bytes) (words totals : List ℕ) where
             → startInWord built-words built-totals m (cond t (some k) (lastBelow (suc m) built-totals k)) ≡ startAt (behindNewline m (take (k * 64 + 64) text))
         go true e r =
             let le : newlines front ≤ m = omega (arith, ltb-true (getD built-totals k 0) (suc m) e, total-is) in
-            ap₂ (λ (a b : ℕ). behindBit k (setBit 64 (m - a) b)) total-is word-is
-            ∙ bit-at k (setBit 64 (m - newlines front) (newlineBits chunk))
+            ap₂ (λ (a b : ℕ). behindBit k (select 64 (m - a) b)) total-is word-is
+            ∙ bit-at k (select 64 (m - newlines front) (newlineBits chunk))
             ∙ ap (λ (o : Option ℕ). startAt (farther (k * 64) o)) (bit-behind 64 (m - newlines front) chunk ∙ ap (behindNewline (m - newlines front)) (take-take 64 64 (drop (k * 64) text) (omega arith)))
             ∙ ap (λ (n : ℕ). startAt (farther n (behindNewline (m - newlines front) chunk))) (sym (length-take-le (k * 64) text before))
             ∙ sym (ap startAt (ap (behindNewline m) (take-add (k * 64) 64 text) ∙ behind-second m front chunk le))
@@ -180,7 +180,7 @@ module _ (text : Bytes) (words totals : List ℕ) where
 
   module _ {r : IndexAnswer} {w t : List ℕ} (h : Indexed text words totals r w t) where
     -- "The line of a place is one more than the newlines before it"
-    pub line-counted : (place : ℕ) → lineOf (length text) w t place ≡ judged (length text) words totals (countedLine text place)
+    pub line-counted : (place : ℕ) → lineOf (length text) w t place ≡ judgedIndex (length text) words totals (countedLine text place)
     unfolding lineOf countedLine
     line-counted place =
         answered
@@ -195,6 +195,6 @@ module _ (text : Bytes) (words totals : List ℕ) where
         go wr tr false e = refl
 
     -- "The start of the n-th line too"
-    pub start-counted : (line : ℕ) → startOf (length text) w t line ≡ judged (length text) words totals (countedStart text line)
+    pub start-counted : (line : ℕ) → startOf (length text) w t line ≡ judgedIndex (length text) words totals (countedStart text line)
     unfolding startOf
     start-counted line = answered h (λ (a b : List ℕ). startIn count a b line) (countedStart text line) (λ wr tr. start-built wr tr line)

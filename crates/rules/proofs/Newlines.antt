@@ -1,18 +1,18 @@
 -- Newlines of a text, counted and as bits: what the index of lines rests on. Assumes nothing.
-use Prim.Native.Nat.{ℕ, zero, suc, _+_, _-_, _*_, _/_, _%_, _≤_, _<_}
+use Prim.Native.Nat.{ℕ, zero, suc, _+_, _-_, _/_, _%_, _≤_, _<_}
 use native.Mathlib.Omega.{arith}
 use native.Mathlib.Nat.{add-assoc, zero-add, sub-zero}
 use mathlib.Core.Path.{_≡_, refl, sym, ap, ap₂, _∙_}
 use mathlib.Core.Bool.{Bool, true, false, cond}
-use mathlib.Core.List.{List, [], _∷_, _++_}
+use mathlib.Core.List.{[], _∷_, _++_}
 use mathlib.Core.Option.{Option, none, some}
 use lib.Count.{onesIn}
 use lib.Dec.{eqb}
-use lib.ListN.{length, take, drop, getD}
+use lib.ListN.{length, take, drop}
 use lib.Seq.{take-add}
 use Rattle.rules.specs.Bytes.{Bytes}
 use Rattle.rules.specs.Tokens.{later}
-use Rattle.rules.specs.Lines.{newlineBit, newlines, newlineBits, setBit, behindNewline}
+use Rattle.rules.specs.Lines.{newlineBit, newlines, newlineBits, select, behindNewline}
 
 -- ---- the bits of a text
 
@@ -48,7 +48,7 @@ ones-newlines (suc d) (x ∷ xs) =
 
 -- ---- newlines of joined texts
 
-pub newlines-append : (xs ys : Bytes) → newlines (xs ++ ys) ≡ newlines xs + newlines ys
+newlines-append : (xs ys : Bytes) → newlines (xs ++ ys) ≡ newlines xs + newlines ys
 unfolding newlines
 newlines-append [] ys = sym (zero-add (newlines ys))
 newlines-append (x ∷ xs) ys = ap (λ (n : ℕ). newlineBit x + n) (newlines-append xs ys) ∙ sym (add-assoc (newlineBit x) (newlines xs) (newlines ys))
@@ -79,8 +79,8 @@ farther-later a none = refl
 farther-later a (some p) = ap some (omega arith)
 
 -- a word without set bits
-pub no-bit : (d m : ℕ) → setBit d m 0 ≡ none
-unfolding setBit later
+pub no-bit : (d m : ℕ) → select d m 0 ≡ none
+unfolding select later
 no-bit zero m = refl
 no-bit (suc d) m = ap later (no-bit d m)
 
@@ -89,16 +89,16 @@ abbrev onBit : ℕ → ℕ → Bytes → Option ℕ
 onBit b m xs = elim b [ zero ↦ later (behindNewline m xs) | suc c ↦ elim m [ zero ↦ some 1 | suc k ↦ later (behindNewline k xs) ] ]
 
 -- the bit in a word says where the newline stands; the place behind it is one more
-pub bit-behind : (d m : ℕ) (xs : Bytes) → later (setBit d m (newlineBits xs)) ≡ behindNewline m (take d xs)
-unfolding setBit later behindNewline newlineBits
+pub bit-behind : (d m : ℕ) (xs : Bytes) → later (select d m (newlineBits xs)) ≡ behindNewline m (take d xs)
+unfolding select later behindNewline newlineBits
 bit-behind zero m xs = refl
 bit-behind (suc d) m [] = ap later (no-bit (suc d) m)
 bit-behind (suc d) m (x ∷ xs) =
-    ap₂ (λ (a b : ℕ). later (elim a [ zero ↦ later (setBit d m b) | suc c ↦ elim m [ zero ↦ some 0 | suc k ↦ later (setBit d k b) ] ])) (bits-odd x xs) (bits-half x xs)
+    ap₂ (λ (a b : ℕ). later (elim a [ zero ↦ later (select d m b) | suc c ↦ elim m [ zero ↦ some 0 | suc k ↦ later (select d k b) ] ])) (bits-odd x xs) (bits-half x xs)
     ∙ first (newlineBit x) m (λ k. bit-behind d k xs)
   where
-    first : (b m : ℕ) → ((k : ℕ) → later (setBit d k (newlineBits xs)) ≡ behindNewline k (take d xs))
-        → later (elim b [ zero ↦ later (setBit d m (newlineBits xs)) | suc c ↦ elim m [ zero ↦ some 0 | suc k ↦ later (setBit d k (newlineBits xs)) ] ])
+    first : (b m : ℕ) → ((k : ℕ) → later (select d k (newlineBits xs)) ≡ behindNewline k (take d xs))
+        → later (elim b [ zero ↦ later (select d m (newlineBits xs)) | suc c ↦ elim m [ zero ↦ some 0 | suc k ↦ later (select d k (newlineBits xs)) ] ])
         ≡ onBit b m (take d xs)
     first zero m h = ap later (h m)
     first (suc c) zero h = refl

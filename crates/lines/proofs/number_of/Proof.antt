@@ -1,6 +1,7 @@
--- `lines::number_of` meets its contract: each case gives the number of its answer. Assumes nothing.
+-- `lines::number_of` meets its contract: each refusal has its number, and it is 0 with the others. Assumes nothing.
 use mathlib.Core.Path.{sym, ap}
 use Rattle.rules.specs.Lines.{indexNumber}
+use Rattle.lines.proofs.Numbers.{no-number}
 use borrow.Author.Needs.{needs}
 use Rattle.lines.proofs.number_of.Statement.{statement}
 use Rattle.lines.proofs.number_of.Tie as tie
@@ -16,15 +17,6 @@ enum-told-3 c = search needs
 
 enum-told-4 : tie.Need-enum-told-4
 enum-told-4 c = search needs
-
-enum-told-5 : tie.Need-enum-told-5
-enum-told-5 c = search needs
-
-enum-told-6 : tie.Need-enum-told-6
-enum-told-6 c = search needs
-
-enum-told-7 : tie.Need-enum-told-7
-enum-told-7 c = search needs
 
 returns : tie.Need-returns
 unfolding indexNumber
@@ -43,16 +35,7 @@ unfolding indexNumber
 returns-4 c = ap indexNumber (sym (c .enum-told4 .given .1))
 
 returns-5 : tie.Need-returns-5
-unfolding indexNumber
-returns-5 c = ap indexNumber (sym (c .enum-told5 .given .1))
-
-returns-6 : tie.Need-returns-6
-unfolding indexNumber
-returns-6 c = ap indexNumber (sym (c .enum-told6 .given .1))
-
-returns-7 : tie.Need-returns-7
-unfolding indexNumber
-returns-7 c = ap indexNumber (sym (c .enum-told7 .given .1))
+returns-5 c = no-number (c .before .args .a) (c .match .keys5)
 
 pub number-of-spec : {M : Type 1} → statement M
 number-of-spec =
@@ -62,13 +45,8 @@ number-of-spec =
     enum-told-2
     enum-told-3
     enum-told-4
-    enum-told-5
-    enum-told-6
-    enum-told-7
     returns
     returns-2
     returns-3
     returns-4
-    returns-5
-    returns-6
-    returns-7)
+    returns-5)

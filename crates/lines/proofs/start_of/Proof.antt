@@ -65,58 +65,54 @@ shared-slice-read-total c = omega (arith, c .before .before .loop .inv .below, c
 cast-total : tie.Need-cast-total Inv-loop μ-loop
 cast-total c = omega (arith, c .shared-slice-known3 .given (c .before .before .loop .k - 1))
 
-mul-set-bit : tie.Need-mul-set-bit Inv-loop μ-loop
-mul-set-bit c = omega (arith, c .before .before .before .loop .inv .below, c .before .before .before .loop .inv .short)
+mul-select : tie.Need-mul-select Inv-loop μ-loop
+mul-select c = omega (arith, c .before .before .before .loop .inv .below, c .before .before .before .loop .inv .short)
 
-shared-slice-read-set-bit : tie.Need-shared-slice-read-set-bit Inv-loop μ-loop
-shared-slice-read-set-bit c = omega (arith, c .before .before .before .before .loop .inv .below, c .before .before .before .before .loop .inv .room .0)
+shared-slice-read-select : tie.Need-shared-slice-read-select Inv-loop μ-loop
+shared-slice-read-select c = omega (arith, c .before .before .before .before .loop .inv .below, c .before .before .before .before .loop .inv .room .0)
 
-sub-set-bit : tie.Need-sub-set-bit Inv-loop μ-loop
-sub-set-bit c = omega (arith, c .before .if5 .taken)
+sub-select : tie.Need-sub-select Inv-loop μ-loop
+sub-select c = omega (arith, c .before .if5 .taken)
 
-sub-set-bit-2 : tie.Need-sub-set-bit-2 Inv-loop μ-loop
-sub-set-bit-2 c = omega (arith, c .before .if5 .taken)
+sub-select-2 : tie.Need-sub-select-2 Inv-loop μ-loop
+sub-select-2 c = omega (arith, c .before .if5 .taken)
 
-set-bit-requires : tie.Need-set-bit-requires Inv-loop μ-loop
-set-bit-requires c κs = search needs
+select-requires : tie.Need-select-requires Inv-loop μ-loop
+select-requires c κs = search needs
 
 returns-5 : tie.Need-returns-5 Inv-loop μ-loop
 returns-5 c =
-    seek-short
-    (c .before .before .before .before .before .before .before .before .before .before .before .before .before .before .args .length) (c .before .before .before .before .before .before .before .before .before .before .before .before .before .before .args .words .now) (c .before .before .before .before .before .before .before .before .before .before .before .before .before .before .args .totals .now) (c .before .before .before .before .before .before .before .before .before .before .before .before .before .before .args .line)
-    (c .before .before .before .before .before .before .loop .inv)
+    seek-short (c .before .before .before .before .before .before .loop .inv)
     (omega (arith, c .before .before .before .before .before .loop-test .taken))
     (c .before .before .before .if5 .taken)
-    (c .before .set-bit .ensures)
+    (c .before .select .ensures)
     (c .if6 .taken)
 
 mul-t17 : tie.Need-mul-t17 Inv-loop μ-loop
 mul-t17 c = omega (arith, c .before .before .before .before .before .before .loop .inv .below, c .before .before .before .before .before .before .loop .inv .short)
 
 add-t23 : tie.Need-add-t23 Inv-loop μ-loop
-add-t23 c = omega (arith, c .before .before .before .before .before .before .loop .inv .below, c .before .before .before .before .before .before .loop .inv .short, seek-place (c .before .before .before .before .before .before .before .before .before .before .before .before .before .before .args .length) (c .before .before .before .before .before .before .before .before .before .before .before .before .before .before .args .words .now) (c .before .before .before .before .before .before .before .before .before .before .before .before .before .before .args .totals .now) (c .before .before .before .before .before .before .before .before .before .before .before .before .before .before .args .line) (c .before .before .before .before .before .before .loop .inv) (omega (arith, c .before .before .before .before .before .loop-test .taken)) (c .before .before .before .if5 .taken) (c .before .set-bit .ensures))
+add-t23 c = omega (arith, c .before .before .before .before .before .before .loop .inv .below, c .before .before .before .before .before .before .loop .inv .short, seek-place (c .before .before .before .before .before .before .loop .inv) (omega (arith, c .before .before .before .before .before .loop-test .taken)) (c .before .before .before .if5 .taken) (c .before .select .ensures))
 
 add-t24 : tie.Need-add-t24 Inv-loop μ-loop
-add-t24 c = omega (arith, c .before .before .before .before .before .before .loop .inv .below, c .before .before .before .before .before .before .loop .inv .short, seek-place (c .before .before .before .before .before .before .before .before .before .before .before .before .before .before .args .length) (c .before .before .before .before .before .before .before .before .before .before .before .before .before .before .args .words .now) (c .before .before .before .before .before .before .before .before .before .before .before .before .before .before .args .totals .now) (c .before .before .before .before .before .before .before .before .before .before .before .before .before .before .args .line) (c .before .before .before .before .before .before .loop .inv) (omega (arith, c .before .before .before .before .before .loop-test .taken)) (c .before .before .before .if5 .taken) (c .before .set-bit .ensures))
+add-t24 c = omega (arith, c .before .before .before .before .before .before .loop .inv .below, c .before .before .before .before .before .before .loop .inv .short, seek-place (c .before .before .before .before .before .before .loop .inv) (omega (arith, c .before .before .before .before .before .loop-test .taken)) (c .before .before .before .if5 .taken) (c .before .select .ensures))
 
 returns-6 : tie.Need-returns-6 Inv-loop μ-loop
 returns-6 c =
-    seek-found
-    (c .before .before .before .before .before .before .before .before .before .before .before .before .before .before .args .length) (c .before .before .before .before .before .before .before .before .before .before .before .before .before .before .args .words .now) (c .before .before .before .before .before .before .before .before .before .before .before .before .before .before .args .totals .now) (c .before .before .before .before .before .before .before .before .before .before .before .before .before .before .args .line)
-    (c .before .before .before .before .before .before .loop .inv)
+    seek-found (c .before .before .before .before .before .before .loop .inv)
     (omega (arith, c .before .before .before .before .before .loop-test .taken))
     (c .before .before .before .if5 .taken)
-    (c .before .set-bit .ensures)
+    (c .before .select .ensures)
     (c .if6 .left)
 
 loop-less : tie.Need-loop-less Inv-loop μ-loop
 loop-less c = search needs
 
 loop-again : tie.Need-loop-again Inv-loop μ-loop
-loop-again c = seek-on (c .before .before .before .before .before .before .before .before .before .before .before .args .length) (c .before .before .before .before .before .before .before .before .before .before .before .args .words .now) (c .before .before .before .before .before .before .before .before .before .before .before .args .totals .now) (c .before .before .before .before .before .before .before .before .before .before .before .args .line) (c .before .before .before .loop .inv) (omega (arith, c .before .before .loop-test .taken)) (c .if5 .left)
+loop-again c = seek-on (c .before .before .before .loop .inv) (omega (arith, c .before .before .loop-test .taken)) (c .if5 .left)
 
 returns-7 : tie.Need-returns-7 Inv-loop μ-loop
-returns-7 c = seek-none (c .before .before .before .before .before .before .before .before .before .args .length) (c .before .before .before .before .before .before .before .before .before .args .words .now) (c .before .before .before .before .before .before .before .before .before .args .totals .now) (c .before .before .before .before .before .before .before .before .before .args .line) (c .before .loop .inv) (c .loop-test .left)
+returns-7 c = seek-none (c .before .loop .inv) (c .loop-test .left)
 
 pub start-of-spec : {M : Type 1} → statement M
 start-of-spec =
@@ -136,11 +132,11 @@ start-of-spec =
     mul-total
     shared-slice-read-total
     cast-total
-    mul-set-bit
-    shared-slice-read-set-bit
-    sub-set-bit
-    sub-set-bit-2
-    set-bit-requires
+    mul-select
+    shared-slice-read-select
+    sub-select
+    sub-select-2
+    select-requires
     returns-5
     mul-t17
     add-t23

@@ -1,7 +1,7 @@
 -- `lines::value_of` meets its contract: a line and a start are values, and it is 0 with the others. Assumes nothing.
 use mathlib.Core.Path.{sym, ap}
 use Rattle.rules.specs.Lines.{indexValue}
-use Rattle.lines.proofs.Values.{no-value}
+use Rattle.lines.proofs.Numbers.{no-value}
 use borrow.Author.Needs.{needs}
 use Rattle.lines.proofs.value_of.Statement.{statement}
 use Rattle.lines.proofs.value_of.Tie as tie

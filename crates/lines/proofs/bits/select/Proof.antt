@@ -1,11 +1,11 @@
--- `lines::bits::set_bit` meets its contract: the loop keeps which bit is sought. Assumes nothing.
+-- `lines::bits::select` meets its contract: the loop keeps which bit is sought. Assumes nothing.
 use mathlib.Core.Path.{refl}
 use native.Mathlib.Omega.{arith}
 use lib.Count.{trailing-le}
 use Rattle.lines.proofs.WordLaws.{Clearing, clear-on, clear-found, clear-none}
 use borrow.Author.Needs.{needs}
-use Rattle.lines.proofs.bits.set_bit.Statement.{statement}
-use Rattle.lines.proofs.bits.set_bit.Tie as tie
+use Rattle.lines.proofs.bits.select.Statement.{statement}
+use Rattle.lines.proofs.bits.select.Tie as tie
 
 abbrev Inv-loop : tie.InvT-loop
 Inv-loop word before rest₀ left₀ rest left = Clearing word before rest left
@@ -37,8 +37,8 @@ loop-again c = clear-on (c .before .before .loop .inv) (omega arith) (omega arit
 returns-2 : tie.Need-returns-2 Inv-loop μ-loop
 returns-2 c = clear-none (c .before .loop .inv) (c .loop-test .left)
 
-pub set-bit-spec : {M : Type 1} → statement M
-set-bit-spec =
+pub select-spec : {M : Type 1} → statement M
+select-spec =
     tie.close
     (tie.spec
     Inv-loop

@@ -1,17 +1,30 @@
--- The answers that are neither a line nor a start.
+-- The answers that are no refusal, and those that are neither a line nor a start.
 use mathlib.Core.Path.{_≡_, refl}
 use mathlib.Core.List.{List, [], _∷_}
 use Prim.Native.Nat.{ℕ}
 use types.Run.{OneOf, miss}
 use denote.Enum.Declared.{tagOf}
-use Rattle.rules.specs.Lines.{indexValue}
+use Rattle.rules.specs.Lines.{indexNumber, indexValue}
 use Rattle.rules.specs.declared.IndexAnswer.{IndexAnswer}
 use Rattle.rules.specs.declared.IndexAnswer.the-variants.{Built, Line, Start, TooLong, Beyond, NoLine, NoRoom}
 use Rattle.rules.proofs.IndexAnswer.{the-type}
 
 -- their places among the variants
+abbrev given : List ℕ
+given = 0 ∷ 1 ∷ 2 ∷ []
+
 abbrev others : List ℕ
 others = 0 ∷ 3 ∷ 4 ∷ 5 ∷ 6 ∷ []
+
+pub no-number : (a : IndexAnswer) → OneOf given (tagOf the-type a) → 0 ≡ indexNumber a
+unfolding indexNumber
+no-number Built h = refl
+no-number (Line n) h = refl
+no-number (Start p) h = refl
+no-number TooLong h = absurd (miss given 3 tt h)
+no-number Beyond h = absurd (miss given 4 tt h)
+no-number NoLine h = absurd (miss given 5 tt h)
+no-number NoRoom h = absurd (miss given 6 tt h)
 
 pub no-value : (a : IndexAnswer) → OneOf others (tagOf the-type a) → 0 ≡ indexValue a
 unfolding indexValue
