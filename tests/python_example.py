@@ -276,7 +276,7 @@ def example(library):
     _, program, shown = readme_blocks()
     check("the README's example", python(program.replace("target/libquenhovach.so", library)), (0, shown + "\n", ""))
     spring = open(os.path.join(ROOT, "examples", "frozen", "spring.m4"), "rb").read()
-    check("line and column in the README", shown.endswith(", place 1207 (line %d, column %d)" % counted(spring, 1207)), True)
+    check("line and column in the README", shown.endswith(", place 1207 (line %d, column %d)" % counted(spring, 5, 1207)), True)
     os.symlink(library, os.path.join(os.path.dirname(library), "libquenhovach.so.0"))
     got = python(ALONE + "print(expand(b'eval(2+3)').decode())", EXAMPLE, LD_LIBRARY_PATH=os.path.dirname(library))
     check("a library that the loader finds", got, (0, "5\n", ""))
