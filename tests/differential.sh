@@ -77,6 +77,7 @@ part 'lengths above 4,294,967,295' 0 "$program" huge
 part '500 cases under valgrind' 0 memcheck "$program" memcheck "$seed" 500
 part 'the index of lines in 500 cases under valgrind' 0 memcheck "$program" lines-memcheck "$seed" 500
 part 'a changed byte or number is noticed, ways are told apart, inaccessible pages trap' 0 "$program" noticed
+part 'a changed bit is noticed in and around an index of lines, and inaccessible pages trap' 0 "$program" lines-noticed
 part 'valgrind finds a byte read outside' 9 memcheck "$program" memcheck-outside "$seed" 1
 part 'valgrind finds the use of what was there before' 9 memcheck "$program" memcheck-undefined "$seed" 1
 part 'valgrind finds the use of a word that is not asked for' 9 memcheck "$program" lines-memcheck-undefined "$seed" 200

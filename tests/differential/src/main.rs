@@ -25,11 +25,11 @@
 //! - `differential lines-vectors FILE`: the lines of a table like tests/lines.tsv.
 //! - `differential huge`: lengths above 4,294,967,295.
 //! - `differential memcheck SEED COUNT`: random cases in blocks of the heap, to be run under
-//!   valgrind; `lines-memcheck SEED COUNT` for the index. `memcheck-outside`, `memcheck-undefined`
+//!   valgrind; `lines-memcheck SEED COUNT [FIRST]` for the index. `memcheck-outside`, `memcheck-undefined`
 //!   and `lines-memcheck-undefined` do the same with a mistake that valgrind must find.
 //! - `differential vectors FILE`: the lines of a table like tests/vectors.tsv.
 //! - `differential noticed`: the comparisons notice one changed byte or number, the ways are told
-//!   apart, and the inaccessible pages trap.
+//!   apart, and the inaccessible pages trap; `lines-noticed` for the index.
 //!
 //! Case number FIRST (default 0) of a seed is always the same: a failing one is repeated with COUNT
 //! 1. It is also printed as a line of a table, and a smaller one with it.
@@ -61,9 +61,9 @@ use memcheck::Mistake;
 use std::process::ExitCode;
 
 const USE: &str =
-    "use: differential compare|demand3|fences|lines|lines-fences SEED COUNT [FIRST], \
-    memcheck|lines-memcheck SEED COUNT, vectors|lines-vectors FILE, \
-    bytes, words, comments, lines-counted, huge or noticed";
+    "use: differential compare|demand3|fences|lines|lines-fences|lines-memcheck SEED COUNT [FIRST], \
+    memcheck SEED COUNT, vectors|lines-vectors FILE, \
+    bytes, words, comments, lines-counted, huge, noticed or lines-noticed";
 
 fn main() -> ExitCode {
     let arguments: Vec<String> = std::env::args().skip(1).collect();
@@ -88,6 +88,7 @@ fn run(words: &[&str]) -> Option<(usize, usize)> {
         ["huge"] => one(fences::huge_lengths() && lines::huge_lengths()),
         ["lines-vectors", path] => Some(lines::table(&std::fs::read_to_string(path).ok()?)),
         ["lines-counted"] => one(lines::every_place()),
+        ["lines-noticed"] => one(lines::all_noticed()),
         [command, seed, count] => random(command, seed, count, "0").and_then(one),
         [command, seed, count, first] => random(command, seed, count, first).and_then(one),
         _ => None,
@@ -108,8 +109,8 @@ fn random(command: &str, seed: &str, count: &str, first: &str) -> Option<bool> {
         "memcheck-undefined" => Some(memcheck::random_cases(seed, count, Mistake::Undefined)),
         "lines" => Some(lines::random_cases(seed, count, first)),
         "lines-fences" => Some(lines::between_fences(seed, count, first)),
-        "lines-memcheck" => Some(lines::under_valgrind(seed, count, false)),
-        "lines-memcheck-undefined" => Some(lines::under_valgrind(seed, count, true)),
+        "lines-memcheck" => Some(lines::under_valgrind(seed, count, first, false)),
+        "lines-memcheck-undefined" => Some(lines::under_valgrind(seed, count, first, true)),
         _ => None,
     }
 }

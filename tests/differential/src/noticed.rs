@@ -7,7 +7,6 @@ use crate::case::case;
 use crate::demand3::{check, Ran, Sentence};
 use crate::fences::{Fences, Side};
 use crate::judge::judge;
-use crate::lines;
 use crate::noted::ways_noted;
 use crate::random::Random;
 use crate::supervise::{libc, supervise, End};
@@ -26,8 +25,7 @@ pub fn all_noticed() -> bool {
     let ways = ways_noted();
     let case = case(SEED, 0);
     let fences = fences_trap(&lengths(&case.text, &case.setting), &[TEXT]);
-    let lines = lines::all_noticed();
-    bytes && sentences && ways && fences && lines
+    bytes && sentences && ways && fences
 }
 
 /// One bit of one lent byte, of one surrounding byte or of the returned number.

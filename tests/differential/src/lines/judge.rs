@@ -56,7 +56,11 @@ fn equal_lists<T: Debug + PartialEq>(
     if after == expected {
         return Ok(());
     }
-    equal("their number", &after.len(), &expected.len())?;
+    equal(
+        &format!("the count of {name}s"),
+        &after.len(),
+        &expected.len(),
+    )?;
     let mut pairs = after.iter().zip(expected).enumerate();
     pairs.try_for_each(|(at, (after, expected))| equal(&format!("{name} {at}"), after, expected))
 }
