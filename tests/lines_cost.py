@@ -27,8 +27,8 @@ SIZES = [1024, 32768, 65536]
 EVERY = [1, 2, 7, 64, 900, 0]
 # the most instructions: of the line of a place, of building by the byte, and of the start of a line by the total, by the bit, and beside them
 MOST_LINE = 100
-MOST_BYTE = 8
-MOST_TOTAL, MOST_BIT, MOST_START = 8, 10, 100
+MOST_BYTE = 10
+MOST_TOTAL, MOST_BIT, MOST_START = 8, 8, 100
 # how much the cost of a byte may differ between a short text and a long one
 SPREAD = 1.02
 
@@ -86,7 +86,7 @@ def build(costs):
     for every in EVERY:
         empty, *others = (counts[Asked("build", length, every, 0)] for length in (0, *SIZES))
         each = [(count - empty) / length for count, length in zip(others, SIZES)]
-        print("build, a newline in %3d: %.3f a byte at 1 KiB, %.3f at 32 KiB, %.3f at 64 KiB" % (every, *each))
+        print("build, %-16s %.3f a byte at 1 KiB, %.3f at 32 KiB, %.3f at 64 KiB" % ("newline in %d:" % every if every else "no newline:", *each))
         verdicts.append(0 < min(each) and max(each) <= min(each) * SPREAD and max(each) <= MOST_BYTE)
     return verdicts
 
