@@ -163,13 +163,18 @@ fn tiny(random: &mut Random, setting: &mut Setting) {
 mod tests {
     use super::*;
 
-    #[test]
-    fn a_seed_always_gives_the_same_cases() {
+    /// A seed always gives the same cases, and another seed others. A failure does not print them.
+    pub fn go_by_the_seed<T: PartialEq>(case: fn(&mut Random) -> T) {
         let cases = |seed| {
             let mut random = Random::new(seed);
-            (0..50).map(|_| case(&mut random)).collect::<Vec<Case>>()
+            (0..50).map(|_| case(&mut random)).collect::<Vec<T>>()
         };
-        assert_eq!(cases(7), cases(7));
-        assert_ne!(cases(7), cases(8));
+        assert!(cases(7) == cases(7));
+        assert!(cases(7) != cases(8));
+    }
+
+    #[test]
+    fn cases_go_by_the_seed() {
+        go_by_the_seed(case);
     }
 }

@@ -153,15 +153,10 @@ fn newlines(word: u64) -> u64 {
 #[cfg(test)]
 mod tests {
     use super::*;
+    use crate::generate::tests::go_by_the_seed;
 
     #[test]
-    fn a_seed_always_gives_the_same_cases() {
-        let cases = |seed| {
-            let mut random = Random::new(seed);
-            (0..50).map(|_| case(&mut random)).collect::<Vec<Case>>()
-        };
-        // a failure does not print the cases
-        assert!(cases(7) == cases(7));
-        assert!(cases(7) != cases(8));
+    fn cases_go_by_the_seed() {
+        go_by_the_seed(case);
     }
 }
