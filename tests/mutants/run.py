@@ -38,6 +38,7 @@ TESTS = [
     ("gnu", "tests/gnu.py", []),
     ("examples", "tests/examples.py", []),
     ("stack", "tests/stack.py", []),
+    ("lines_cost", "tests/lines_cost.py", []),
     ("step_costs", "tests/step_costs.py", []),
 ]
 # What a failed part of tests/differential.sh shows: words of its name, words of what it says or its exit status, and the name for it. The first row that
@@ -47,11 +48,14 @@ PARTS = [
     ("each byte", "", "each byte"),
     ("each predefined name", "", "each name"),
     ("open comments", "", "open comments"),
+    ("lines.tsv", "", "lines.tsv"),
+    ("against counting", "", "counting"),
     ("third demand", "", "third demand"),
     ("lengths above", "", "huge lengths"),
     ("between inaccessible pages", "SIGSEGV", "trap"),
     ("cases under valgrind", "exit status 9 ", "valgrind"),
     ("valgrind finds", "", "its own checks"),
+    ("index of lines", "", "random indexes"),
     ("", "", "random cases"),
 ]
 
@@ -72,8 +76,10 @@ in tests/differential.sh. First the source as it stands was built in the same wa
 FOOT = """
 Of `differential` (tests/differential.sh) the table names what showed the fault: `vectors`, the lines of tests/vectors.tsv through the archive; `each byte` wherever
 its class is asked for, `each name` that is predefined wherever it may stand, `open comments` wherever one may begin, and `random cases`, on which archive and
-model differ; `third demand`, two settings that break the letter's third demand; `trap`, a read or write outside of what is lent, between inaccessible pages;
-`valgrind`, the same or the use of what was there before. `step_costs` takes more than a minute, and was tried only on what no other test caught.
+model differ; `lines.tsv`, the vectors of the index of lines, `counting` through the text, which gives another line, start or index, and `random indexes`, on which
+archive and model differ; `third demand`, two settings that break the letter's third demand; `huge lengths`, above 4,294,967,295; `trap`, a read or write outside of
+what is lent, between inaccessible pages; `valgrind`, the same or the use of what was there before. `lines_cost` counts the instructions of the index of lines.
+`step_costs` takes more than a minute, and was tried only on what no other test caught.
 
 Compiled code does not check an index: what a read or write outside comes to may differ from run to run, but for the trap and valgrind.
 """
