@@ -7,8 +7,8 @@ least one of them fails. The last test, which takes long, is only run on a mutan
 built and tested as it stands, and has to pass every test.
 
 An edit has a remark, and then 'file:' (from the root of the repository), 'old:' and 'new:' lines; the old text stands once in the file.
-With names of edits only these are tried. With --table and all edits, docs/MUTANTS.md is written where all is as it should be; nothing else is
-written outside of temporary folders. Needs rt, gcc, g++, cargo, valgrind and m4. Ends with 'N passed, M failed'; exit status 0 only if M is 0.
+With names of edits only these are tried. With --table docs/MUTANTS.md is written where all is as it should be, anew or, with names, the rows of these
+edits; nothing else is written outside of temporary folders. Needs rt, gcc, g++, cargo, valgrind and m4. Ends with 'N passed, M failed'; exit status 0 only if M is 0.
 """
 import glob
 import os
@@ -66,8 +66,9 @@ judge compiled code. No proof is asked for here, to see what the tests notice by
 
     python3 tests/mutants/run.py --table
 
-writes this page. It is not part of `./test`, since it takes long: %d minutes on %d cores for the run below, with seed %s and %s cases
-in tests/differential.sh. First the source as it stands was built in the same way, and passed all of these tests:
+writes this page. It is not part of `./test`, since it takes long: %d minutes on %d cores for the last run of all, with seed %s and %s cases
+in tests/differential.sh. Rows of mutants that came later, or were changed, are tried by themselves and put in, by their names behind `--table`.
+First the source as it stands was built in the same way each time, and passed all of these tests:
 %s.
 
 | mutant | what is wrong | caught by |
@@ -218,9 +219,17 @@ def try_edits(tree, edits):
     return rows
 
 
-def page(rows, minutes, names):
+def standing():
+    """The rows of docs/MUTANTS.md as it stands, by their names, and how many minutes its last run of all took."""
+    text = open(TABLE, encoding="utf-8").read()
+    return {line.split(" | ")[0][2:]: line for line in text.splitlines() if re.match(r"\| \w+ \| .* \|$", line)}, int(re.search(r"(\d+) minutes", text)[1])
+
+
+def page(rows, minutes, names, kept):
+    """The page, with rows of an earlier run for the edits that were not tried now."""
     cell = lambda words: words.replace("|", "\\|")
-    lines = ["| %s | %s | %s |" % (edit.name, cell(edit.remark), ", ".join(caught)) for edit, caught in rows]
+    lines = dict(kept, **{edit.name: "| %s | %s | %s |" % (edit.name, cell(edit.remark), ", ".join(caught)) for edit, caught in rows})
+    lines = [lines[name] for name in sorted(lines)]
     return HEAD % (minutes, os.cpu_count(), SEED, "{:,}".format(int(CASES)), ", ".join(names)) + "\n".join(lines) + "\n" + FOOT
 
 
@@ -241,8 +250,9 @@ def main():
             rows = try_edits(tree, [edit for edit in edits if not names or edit.name in names])
             passed = 1 + sum(1 for _, caught in rows if caught)
     failed = 1 + len(rows) - passed
-    if "--table" in sys.argv and not names and failed == 0:
-        write(TABLE, page(rows, round((time.time() - began) / 60), tried))
+    if "--table" in sys.argv and failed == 0:
+        kept, minutes = standing() if names else ({}, round((time.time() - began) / 60))
+        write(TABLE, page(rows, minutes, tried, {edit.name: kept[edit.name] for edit in edits if edit.name in kept}))
     print("%d passed, %d failed" % (passed, failed))
     sys.exit(1 if failed else 0)
 
