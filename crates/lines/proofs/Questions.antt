@@ -17,7 +17,7 @@ use Rattle.rules.specs.Run.{mostLent}
 use Rattle.rules.specs.Lines.{wordCount, hasRoom, lineIn, lineOf, lastBelow, select, behindBit, startInWord, startIn, startOf}
 use Rattle.lines.proofs.Judged.{too-long, no-room, admitted, room-for}
 use Rattle.lines.proofs.WordLaws.{bit-none, bit-some, place-le}
-use Rattle.lines.specs.Bits.{placeOr}
+use Rattle.lines.specs.Bits.{bitPlace}
 
 module _ (n : ℕ) (words totals : List ℕ) (place : ℕ) where
   abbrev line : IndexAnswer
@@ -112,7 +112,7 @@ module _ {n : ℕ} {words totals : List ℕ} {line k : ℕ} (s : Seeking n words
     seek-on h = record { short = s .short; room = s .room; below = omega (arith, s .below); same = seen false (le-ltb total (line - 1) h) }
 
     -- in this word: the place of the bit that the code found, or 64
-    module _ (h : total < line - 1) {i : ℕ} (e : i ≡ placeOr 64 (select 64 (line - 1 - total - 1) (getD words (k - 1) 0))) where
+    module _ (h : total < line - 1) {i : ℕ} (e : i ≡ bitPlace (select 64 (line - 1 - total - 1) (getD words (k - 1) 0))) where
       here : behindBit (k - 1) (select 64 (line - 1 - total - 1) (getD words (k - 1) 0)) ≡ startOf n words totals line
       unfolding startInWord
       here =

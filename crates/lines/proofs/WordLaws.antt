@@ -16,7 +16,7 @@ use Rattle.rules.specs.Bytes.{Bytes}
 use Rattle.rules.specs.Tokens.{later}
 use Rattle.rules.specs.Lines.{newlineBit, newlines, newlineBits, select}
 use Rattle.rules.proofs.Newlines.{bit-le, bits-odd, bits-half, no-bit}
-use Rattle.lines.specs.Bits.{placeOr}
+use Rattle.lines.specs.Bits.{bitPlace}
 
 -- ---- gathering them
 
@@ -153,22 +153,22 @@ bit-under (suc d) before word = go (word % 2) before (λ b. bit-under d b (word 
     go (suc b) zero h = omega arith
     go (suc b) (suc m) h = later-under d (select d m (word / 2)) (h m)
 
-bit-place : (o : Option ℕ) → Under 64 o → (placeOr 64 o ≡ 64 → o ≡ none) × ((placeOr 64 o ≡ 64 → ⊥) → o ≡ some (placeOr 64 o))
-unfolding placeOr
+bit-place : (o : Option ℕ) → Under 64 o → (bitPlace o ≡ 64 → o ≡ none) × ((bitPlace o ≡ 64 → ⊥) → o ≡ some (bitPlace o))
+unfolding bitPlace
 bit-place none u = (λ h. refl, λ h. absurd (h refl))
 bit-place (some i) u = (λ h. absurd (omega (arith, u, h)), λ h. refl)
 
-pub bit-none : (before word : ℕ) → placeOr 64 (select 64 before word) ≡ 64 → select 64 before word ≡ none
+pub bit-none : (before word : ℕ) → bitPlace (select 64 before word) ≡ 64 → select 64 before word ≡ none
 bit-none before word = bit-place (select 64 before word) (bit-under 64 before word) .0
 
-pub bit-some : (before word : ℕ) → (placeOr 64 (select 64 before word) ≡ 64 → ⊥) → select 64 before word ≡ some (placeOr 64 (select 64 before word))
+pub bit-some : (before word : ℕ) → (bitPlace (select 64 before word) ≡ 64 → ⊥) → select 64 before word ≡ some (bitPlace (select 64 before word))
 bit-some before word = bit-place (select 64 before word) (bit-under 64 before word) .1
 
-pub place-le : (before word : ℕ) → placeOr 64 (select 64 before word) ≤ 64
-unfolding placeOr
+pub place-le : (before word : ℕ) → bitPlace (select 64 before word) ≤ 64
+unfolding bitPlace
 place-le before word = go (select 64 before word) (bit-under 64 before word)
   where
-    go : (o : Option ℕ) → Under 64 o → placeOr 64 o ≤ 64
+    go : (o : Option ℕ) → Under 64 o → bitPlace o ≤ 64
     go none u = omega arith
     go (some i) u = omega (arith, u)
 
@@ -187,14 +187,14 @@ module _ {word before rest left : ℕ} (c : Clearing word before rest left) wher
       }
 
   -- it is the least that is left
-  pub clear-found : 0 < rest → left ≡ 0 → trailingZeros 64 rest ≡ placeOr 64 (select 64 before word)
-  unfolding placeOr
-  clear-found any z = ap (placeOr 64) (sym (ap (λ (n : ℕ). select 64 n rest) z ∙ least-set 64 rest any (c .fits)) ∙ c .same)
+  pub clear-found : 0 < rest → left ≡ 0 → trailingZeros 64 rest ≡ bitPlace (select 64 before word)
+  unfolding bitPlace
+  clear-found any z = ap bitPlace (sym (ap (λ (n : ℕ). select 64 n rest) z ∙ least-set 64 rest any (c .fits)) ∙ c .same)
 
   -- none is left
-  pub clear-none : rest ≡ 0 → 64 ≡ placeOr 64 (select 64 before word)
-  unfolding placeOr
-  clear-none z = ap (placeOr 64) (sym (ap (select 64 left) z ∙ no-bit 64 left) ∙ c .same)
+  pub clear-none : rest ≡ 0 → 64 ≡ bitPlace (select 64 before word)
+  unfolding bitPlace
+  clear-none z = ap bitPlace (sym (ap (select 64 left) z ∙ no-bit 64 left) ∙ c .same)
 
 -- ---- counting those below a place
 

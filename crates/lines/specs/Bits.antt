@@ -2,7 +2,7 @@
 use Prim.Native.Nat.{ℕ}
 use mathlib.Core.Option.{Option, none, some}
 
--- the place, or d where there is none
-unfoldable pub placeOr : ℕ → Option ℕ → ℕ
-placeOr d none = d
-placeOr d (some i) = i
+-- the place of a bit; 64, which no bit of a word has, where there is none
+unfoldable pub bitPlace : Option ℕ → ℕ
+bitPlace none = 64
+bitPlace (some i) = i

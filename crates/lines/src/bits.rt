@@ -3,7 +3,7 @@ ghost use mathlib.Core.Path.{_≡_};
 ghost use Prim.Native.Nat.{min};
 ghost use lib.ListN.{take};
 ghost use Rattle.rules.specs.Lines.{newlineBits, select};
-ghost use Rattle.lines.specs.Bits.{placeOr};
+ghost use Rattle.lines.specs.Bits.{bitPlace};
 
 // So many bits, each for a byte of the text.
 pub(crate) const COUNT: usize = 64;
@@ -36,7 +36,7 @@ pub(crate) fn word_of(text: &[u8]) -> u64
 
 // The place of the set bit that has `before` set bits below it; 64 where there is none. Each turn clears the least set bit.
 pub(crate) fn select(word: u64, before: u64) -> usize
-    ensures { λ r. ⌜ r ≡ placeOr 64 (select 64 before word) ⌝ }
+    ensures { λ r. ⌜ r ≡ bitPlace (select 64 before word) ⌝ }
 {
     let mut rest = word;
     let mut left = before;
