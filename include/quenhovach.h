@@ -1,8 +1,8 @@
 /* quenhovach.h: the m4 expander for C and C++.
  *
  * One function expands one m4 text in buffers that the caller lends. Three more, at the end, find the line of a place in a text. They are
- * built by `rt staticlib capi` as target/staticlib/libcapi.a, for x86-64 Linux, once their proofs are checked; ./install puts them in place
- * as libquenhovach, an archive and a shared object. Of C's library they need memcpy and memset.
+ * built by `rt staticlib quenhovach` as target/staticlib/libquenhovach.a, for x86-64 Linux, once their proofs are checked; ./install puts that in place,
+ * and a shared object made of it. Of C's library they need memcpy and memset.
  *
  * A run ends on every text, every lent length and every budget, in one of fourteen answers. Two of them finish it: "done" and
  * "exit". The twelve others are refusals, and a refusal gives no text at all: there is no shortened output.

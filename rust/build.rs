@@ -1,4 +1,4 @@
-//! Finds the archive libcapi.a and has it linked: in the folder that QUENHOVACH_LIB_DIR names (a relative one is taken from this crate's folder), else in
+//! Finds the archive libquenhovach.a and has it linked: in the folder that QUENHOVACH_LIB_DIR names (a relative one is taken from this crate's folder), else in
 //! target/staticlib of the repository.
 
 use std::path::PathBuf;
@@ -10,16 +10,16 @@ const VARIABLE: &str = "QUENHOVACH_LIB_DIR";
 fn main() {
     println!("cargo:rerun-if-env-changed={VARIABLE}");
     let folder = folder();
-    let archive = folder.join("libcapi.a");
+    let archive = folder.join("libquenhovach.a");
     println!("cargo:rerun-if-changed={}", archive.display());
     if !fs::metadata(&archive).is_ok_and(|found| found.is_file()) {
         eprintln!("The archive {} is missing.", archive.display());
-        eprintln!("Build it at the top of the repository with: rt staticlib capi");
+        eprintln!("Build it at the top of the repository with: rt staticlib quenhovach");
         eprintln!("If it lies elsewhere, name its folder in {VARIABLE}.");
         exit(1);
     }
     println!("cargo:rustc-link-search=native={}", folder.display());
-    println!("cargo:rustc-link-lib=static=capi");
+    println!("cargo:rustc-link-lib=static=quenhovach");
 }
 
 /// The folder of the archive.

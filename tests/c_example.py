@@ -1,5 +1,5 @@
 #!/usr/bin/env python3
-"""The expander from C and C++: include/quenhovach.h, the archive target/staticlib/libcapi.a, and the program of examples/c.
+"""The expander from C and C++: include/quenhovach.h, the archive target/staticlib/libquenhovach.a, and the program of examples/c.
 
 Every expected answer and byte is written by hand from documents 01 and 02; tests/lines.tsv has those of the index of lines. Ends with
 'N passed, M failed'; exit status 0 only if M is 0.
@@ -14,7 +14,7 @@ sys.dont_write_bytecode = True
 import c_lines  # noqa: E402
 
 ROOT = os.path.dirname(os.path.dirname(os.path.abspath(__file__)))
-ARCHIVE = os.path.join(ROOT, "target", "staticlib", "libcapi.a")
+ARCHIVE = os.path.join(ROOT, "target", "staticlib", "libquenhovach.a")
 EXAMPLE = os.path.join(ROOT, "examples", "c")
 STRICT = ["-Wall", "-Wextra", "-Wpedantic", "-Werror", "-I", os.path.join(ROOT, "include")]
 C99 = ["gcc", "-std=c99"] + STRICT
@@ -264,7 +264,7 @@ def test_program(folder):
 
 
 if not os.path.exists(ARCHIVE):
-    print("target/staticlib/libcapi.a is missing: `rt staticlib capi` writes it")
+    print("target/staticlib/libquenhovach.a is missing: `rt staticlib quenhovach` writes it")
     print("0 passed, 1 failed")
     sys.exit(1)
 with tempfile.TemporaryDirectory() as scratch:

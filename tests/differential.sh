@@ -1,6 +1,6 @@
 #!/usr/bin/env bash
-# differential.sh [SEED COUNT]: the archive target/staticlib/libcapi.a against the independent model in tests/model, by the programs of
-# tests/differential. QUENHOVACH_LIB_DIR may name another folder with a libcapi.a.
+# differential.sh [SEED COUNT]: the archive target/staticlib/libquenhovach.a against the independent model in tests/model, by the programs of
+# tests/differential. QUENHOVACH_LIB_DIR may name another folder with a libquenhovach.a.
 #
 # COUNT random cases (default 400000, seed 1) are compared with the model: every number, and every byte of the text, of the seven
 # buffers and around them. A quarter as many pairs of settings are held to the letter's third demand, and a hundredth of the cases

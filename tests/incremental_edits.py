@@ -23,7 +23,7 @@ sys.dont_write_bytecode = True
 import refused  # noqa: E402
 
 ROOT = os.path.dirname(os.path.dirname(os.path.abspath(__file__)))
-CRATES = ["answers", "ascii", "numerals", "matching", "expression", "lines", "expander", "capi"]
+CRATES = ["answers", "ascii", "numerals", "matching", "expression", "lines", "expander", "quenhovach"]
 SMALLEST = "answers"
 
 

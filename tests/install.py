@@ -14,7 +14,7 @@ import sys
 import tempfile
 
 ROOT = os.path.dirname(os.path.dirname(os.path.abspath(__file__)))
-ARCHIVE = os.path.join(ROOT, "target", "staticlib", "libcapi.a")
+ARCHIVE = os.path.join(ROOT, "target", "staticlib", "libquenhovach.a")
 BUILT = os.path.join(ROOT, "target", "rust")
 COMMAND = os.path.join(BUILT, "release", "quenhovach")
 FIVE = b"define(`n',`5')n"
@@ -296,7 +296,7 @@ def building(folder):
     check("nothing is built with --built", (status, os.path.exists(prefix)), (1, False))
     os.remove(log)
     check("it builds", install(prefix, script=copy, stubs=stubs, target=None, variables={"QUENHOVACH_LIB_DIR": "/elsewhere"})[0], 0)
-    lines = ["rt staticlib capi in " + copy, "cargo build --release --offline --locked in %s/rust" % copy]
+    lines = ["rt staticlib quenhovach in " + copy, "cargo build --release --offline --locked in %s/rust" % copy]
     check("the library, then the command", get(log).decode().splitlines(), lines)
     check("and takes what was built", install("--built", prefix, script=copy, stubs=stubs, target=None)[0], 0)
     check("without building again", len(get(log).splitlines()), 2)
@@ -306,7 +306,7 @@ def versions(folder):
     """An older version is replaced, and its own files go."""
     prefix, before = furnished(folder)
     copy, _, _ = copied(folder, "0.0.9")
-    put(os.path.join(copy, "target/staticlib/libcapi.a"), get(ARCHIVE))
+    put(os.path.join(copy, "target/staticlib/libquenhovach.a"), get(ARCHIVE))
     status, _, err = install("--built", prefix, script=copy)
     check("a command of another version", (status, "quenhovach is not of version 0.0.9" in err, tree(prefix) == before), (1, True, True))
     put(os.path.join(copy, "rust/target/release/quenhovach"), b"#!/bin/sh\necho quenhovach 0.0.9\n", 0o755)
@@ -345,7 +345,7 @@ def loader(folder):
 def nobody(folder):
     """Somebody who is not root, with a prefix of his own and with another's."""
     copy, _, _ = copied(folder)
-    put(os.path.join(copy, "target/staticlib/libcapi.a"), get(ARCHIVE))
+    put(os.path.join(copy, "target/staticlib/libquenhovach.a"), get(ARCHIVE))
     put(os.path.join(copy, "rust/target/release/quenhovach"), get(COMMAND), 0o755)
     os.chmod(folder, 0o755)
     home = os.path.join(folder, "home")
@@ -367,7 +367,7 @@ def nobody(folder):
 
 
 def main():
-    for path, how in ((ARCHIVE, "rt staticlib capi"), (COMMAND, "tests/command.py")):
+    for path, how in ((ARCHIVE, "rt staticlib quenhovach"), (COMMAND, "tests/command.py")):
         check("%s is there (%s builds it)" % (os.path.relpath(path, ROOT), how), os.path.exists(path), True)
     for tool in ("pkg-config", "groff", "gcc", "readelf"):
         check(tool + " is installed", shutil.which(tool) is not None, True)

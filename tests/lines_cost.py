@@ -6,7 +6,7 @@ MOST_BYTE for each byte of the text, and a byte of a long text takes what a byte
 for each total of the index, MOST_BIT for each bit of one word, and MOST_START beside them; the worst of the lines asked for must come to half of that, or they would
 show nothing. All answers must be those that counting gives.
 
-Calls the archive target/staticlib/libcapi.a, or that of the folder QUENHOVACH_LIB_DIR, from tests/lines_cost.c. Ends with 'N passed, M failed'; exit status 0
+Calls the archive target/staticlib/libquenhovach.a, or that of the folder QUENHOVACH_LIB_DIR, from tests/lines_cost.c. Ends with 'N passed, M failed'; exit status 0
 only if M is 0.
 """
 import collections
@@ -19,7 +19,7 @@ ROOT = os.path.dirname(os.path.dirname(os.path.abspath(__file__)))
 sys.path.insert(0, os.path.join(ROOT, "bench"))
 from counted import Counter  # noqa: E402
 
-LIBRARY = os.path.join(os.environ.get("QUENHOVACH_LIB_DIR") or os.path.join(ROOT, "target", "staticlib"), "libcapi.a")
+LIBRARY = os.path.join(os.environ.get("QUENHOVACH_LIB_DIR") or os.path.join(ROOT, "target", "staticlib"), "libquenhovach.a")
 DRIVER = os.path.join(ROOT, "tests", "lines_cost.c")
 LENGTHS = [0, 1, 63, 64, 65, 1000, 65535, 65536]
 SIZES = [1024, 32768, 65536]

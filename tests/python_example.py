@@ -1,5 +1,5 @@
 #!/usr/bin/env python3
-"""The expander from Python: examples/python/quenhovach.py over a shared object that is made of target/staticlib/libcapi.a as its README says.
+"""The expander from Python: examples/python/quenhovach.py over a shared object that is made of target/staticlib/libquenhovach.a as its README says.
 
 Every expected answer and byte is written by hand from document 01, and line and column counted through the text; those of the README's example are in tests/c_example.py and tests/examples.py too.
 Ends with 'N passed, M failed'; exit status 0 only if M is 0.
@@ -19,7 +19,7 @@ import threading
 sys.dont_write_bytecode = True
 ROOT = os.path.dirname(os.path.dirname(os.path.abspath(__file__)))
 EXAMPLE = os.path.join(ROOT, "examples", "python")
-ARCHIVE = os.path.join(ROOT, "target", "staticlib", "libcapi.a")
+ARCHIVE = os.path.join(ROOT, "target", "staticlib", "libquenhovach.a")
 sys.path.insert(0, EXAMPLE)
 import quenhovach  # noqa: E402
 from quenhovach import Answer, Buffer, Exited, Expander, NotDone, Refused, Report, Sheet, Unclosed  # noqa: E402
@@ -299,7 +299,7 @@ def source():
 
 def main():
     if not os.path.exists(ARCHIVE):
-        print("target/staticlib/libcapi.a is missing: `rt staticlib capi` writes it")
+        print("target/staticlib/libquenhovach.a is missing: `rt staticlib quenhovach` writes it")
         print("0 passed, 1 failed")
         sys.exit(1)
     names()

@@ -1,4 +1,4 @@
-//! Links libcapi.a of the repository's target/staticlib; QUENHOVACH_LIB_DIR may name another
+//! Links libquenhovach.a of the repository's target/staticlib; QUENHOVACH_LIB_DIR may name another
 //! folder.
 
 use std::path::PathBuf;
@@ -12,8 +12,8 @@ fn main() {
     println!("cargo:rerun-if-env-changed=QUENHOVACH_LIB_DIR");
     println!(
         "cargo:rerun-if-changed={}",
-        folder.join("libcapi.a").display()
+        folder.join("libquenhovach.a").display()
     );
     println!("cargo:rustc-link-search=native={}", folder.display());
-    println!("cargo:rustc-link-lib=static=capi");
+    println!("cargo:rustc-link-lib=static=quenhovach");
 }

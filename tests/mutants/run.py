@@ -170,7 +170,7 @@ def install(tree):
     """Builds the tree, and puts archive and programs where the tests look for them."""
     with tempfile.TemporaryDirectory() as out:
         build(tree, out)
-        for folder, names in (("bin", PROGRAMS), ("staticlib", ["libcapi.a"])):
+        for folder, names in (("bin", PROGRAMS), ("staticlib", ["libquenhovach.a"])):
             os.makedirs(os.path.join(tree, "target", folder), exist_ok=True)
             for name in names:
                 shutil.copy(os.path.join(out, name), os.path.join(tree, "target", folder, name))

@@ -1,4 +1,4 @@
-//! The archive libcapi.a against the independent model of document 01 (tests/model), on random
+//! The archive libquenhovach.a against the independent model of document 01 (tests/model), on random
 //! texts and settings, and of the index of lines of document 02.
 //!
 //! Each command ends with a line 'N passed, M failed' and has exit status 0 only if M is 0.

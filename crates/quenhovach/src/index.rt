@@ -1,6 +1,6 @@
 // The index of lines, with its answers as numbers.
 ghost use Rattle.rules.specs.Lines.{lineOf, startOf};
-ghost use Rattle.capi.specs.Looked.{IndexedInNumbers, InNumbers};
+ghost use Rattle.quenhovach.specs.Looked.{IndexedInNumbers, InNumbers};
 
 // Builds the index of a text in lent words and totals. Returns 0, or the number of the refusal.
 #[no_mangle]

@@ -7,7 +7,7 @@ use Rattle.rules.specs.Answers.{numbers}
 use Rattle.rules.specs.Bytes.{Bytes}
 use Rattle.rules.specs.Contract.{Buffers, Expanded, reportOf}
 use Rattle.rules.specs.declared.Report.{Report}
-use Rattle.capi.specs.Reported.{Reported}
+use Rattle.quenhovach.specs.Reported.{Reported}
 
 -- the numbers of what the expander reports, with the first of them given back
 pub reported :

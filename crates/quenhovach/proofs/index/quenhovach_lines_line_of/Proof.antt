@@ -1,8 +1,8 @@
--- `capi::index::quenhovach_lines_line_of` meets its contract: the number and value of the line's answer. Assumes nothing.
-use Rattle.capi.proofs.Looks.{looked}
+-- `quenhovach::index::quenhovach_lines_line_of` meets its contract: the number and value of the line's answer. Assumes nothing.
+use Rattle.quenhovach.proofs.Looks.{looked}
 use borrow.Author.Needs.{needs}
-use Rattle.capi.proofs.index.quenhovach_lines_line_of.Statement.{statement}
-use Rattle.capi.proofs.index.quenhovach_lines_line_of.Tie as tie
+use Rattle.quenhovach.proofs.index.quenhovach_lines_line_of.Statement.{statement}
+use Rattle.quenhovach.proofs.index.quenhovach_lines_line_of.Tie as tie
 
 line-of-requires : tie.Need-line-of-requires
 line-of-requires c κs = search needs

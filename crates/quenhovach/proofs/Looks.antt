@@ -7,7 +7,7 @@ use Rattle.rules.specs.Bytes.{Bytes}
 use Rattle.rules.specs.declared.IndexAnswer.{IndexAnswer}
 use Rattle.rules.specs.Lines.{indexNumber, indexValue, judgedIndex, building, heldBy, wordsOf, totalsOf, Indexed, lineOf, startOf, countedLine, countedStart}
 use Rattle.rules.proofs.Lines.{line-counted, start-counted}
-use Rattle.capi.specs.Looked.{IndexedInNumbers, InNumbers}
+use Rattle.quenhovach.specs.Looked.{IndexedInNumbers, InNumbers}
 
 module _ {text : Bytes} {words totals w t : List ℕ} where
   pub indexed : {r : IndexAnswer} {n : ℕ} → Indexed text words totals r w t → n ≡ indexNumber r → IndexedInNumbers text words totals n w t

@@ -1,8 +1,8 @@
--- `capi::quenhovach_expand` meets its contract: what the expander promises, with the six numbers written out. Assumes nothing.
-use Rattle.capi.proofs.Reports.{reported}
+-- `quenhovach::quenhovach_expand` meets its contract: what the expander promises, with the six numbers written out. Assumes nothing.
+use Rattle.quenhovach.proofs.Reports.{reported}
 use borrow.Author.Needs.{needs}
-use Rattle.capi.proofs.quenhovach_expand.Statement.{statement}
-use Rattle.capi.proofs.quenhovach_expand.Tie as tie
+use Rattle.quenhovach.proofs.quenhovach_expand.Statement.{statement}
+use Rattle.quenhovach.proofs.quenhovach_expand.Tie as tie
 
 expand-requires : tie.Need-expand-requires
 expand-requires c κs = search needs

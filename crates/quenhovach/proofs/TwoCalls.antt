@@ -15,11 +15,11 @@ use Rattle.rules.specs.Run.{Setting}
 use Rattle.rules.specs.Room.{Lendable, NowhereSmaller, stoppedBy}
 use Rattle.rules.specs.Contract.{Buffers, settingOf, reportOf, runIn, written, Agree}
 use Rattle.rules.proofs.Contract.{calls-agree}
-use Rattle.capi.specs.Agreed.{writtenBytes, stoppedAt, AgreeInNumbers}
-use Rattle.capi.specs.Reported.{Reported}
-use Rattle.capi.proofs.quenhovach_expand.{signature}
-use Rattle.capi.proofs.quenhovach_expand.Kinds as kinds
-use Rattle.capi.proofs.quenhovach_expand.Reads.{Learnt}
+use Rattle.quenhovach.specs.Agreed.{writtenBytes, stoppedAt, AgreeInNumbers}
+use Rattle.quenhovach.specs.Reported.{Reported}
+use Rattle.quenhovach.proofs.quenhovach_expand.{signature}
+use Rattle.quenhovach.proofs.quenhovach_expand.Kinds as kinds
+use Rattle.quenhovach.proofs.quenhovach_expand.Reads.{Learnt}
 
 -- the numbers of two reports agree as the reports do
 in-numbers :

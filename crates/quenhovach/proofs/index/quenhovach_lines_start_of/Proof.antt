@@ -1,8 +1,8 @@
--- `capi::index::quenhovach_lines_start_of` meets its contract: the number and value of the start's answer. Assumes nothing.
-use Rattle.capi.proofs.Looks.{looked}
+-- `quenhovach::index::quenhovach_lines_start_of` meets its contract: the number and value of the start's answer. Assumes nothing.
+use Rattle.quenhovach.proofs.Looks.{looked}
 use borrow.Author.Needs.{needs}
-use Rattle.capi.proofs.index.quenhovach_lines_start_of.Statement.{statement}
-use Rattle.capi.proofs.index.quenhovach_lines_start_of.Tie as tie
+use Rattle.quenhovach.proofs.index.quenhovach_lines_start_of.Statement.{statement}
+use Rattle.quenhovach.proofs.index.quenhovach_lines_start_of.Tie as tie
 
 start-of-requires : tie.Need-start-of-requires
 start-of-requires c κs = search needs

@@ -1,8 +1,8 @@
--- `capi::index::quenhovach_lines_build` meets its contract: what building promises, with the number of its answer. Assumes nothing.
-use Rattle.capi.proofs.Looks.{indexed}
+-- `quenhovach::index::quenhovach_lines_build` meets its contract: what building promises, with the number of its answer. Assumes nothing.
+use Rattle.quenhovach.proofs.Looks.{indexed}
 use borrow.Author.Needs.{needs}
-use Rattle.capi.proofs.index.quenhovach_lines_build.Statement.{statement}
-use Rattle.capi.proofs.index.quenhovach_lines_build.Tie as tie
+use Rattle.quenhovach.proofs.index.quenhovach_lines_build.Statement.{statement}
+use Rattle.quenhovach.proofs.index.quenhovach_lines_build.Tie as tie
 
 build-requires : tie.Need-build-requires
 build-requires c κs = search needs

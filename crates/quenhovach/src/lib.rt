@@ -1,5 +1,5 @@
 // The library for C and Rust: `expander::expand` with its answer as six numbers, and the index of lines. include/quenhovach.h declares both.
-ghost use Rattle.capi.specs.Reported.{Reported};
+ghost use Rattle.quenhovach.specs.Reported.{Reported};
 
 pub mod index;
 
