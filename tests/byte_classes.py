@@ -15,8 +15,8 @@ import sys
 
 sys.dont_write_bytecode = True
 import byte_classes_samples as samples  # noqa: E402
-
-ROOT = os.path.dirname(os.path.dirname(os.path.abspath(__file__)))
+from places import ROOT  # noqa: E402
+from tally import fail, finish, judge  # noqa: E402
 
 # where ranges of bytes stand: the code, the book, the laws of its classes, and the list of all definitions
 CODE = ["crates/ascii/src/lib.rt"]
@@ -128,8 +128,8 @@ def read(path):
         return file.read()
 
 
-def main():
-    passed, failed = 0, []
+def try_samples():
+    """What must be found and what must not."""
     for search, texts, wanted in [
         (code_ranges, samples.FOUND_IN_CODE, True),
         (code_ranges, samples.PASSED_IN_CODE, False),
@@ -139,10 +139,16 @@ def main():
         (rust_ranges, samples.PASSED_IN_RUST, False),
     ]:
         for text in texts:
-            if bool(list(search(text))) == wanted:
-                passed += 1
-            else:
-                failed.append("%s: %r" % ("not found" if wanted else "found, and is no range of bytes", text))
+            judge(repr(text), bool(list(search(text))) == wanted, "not found" if wanted else "found, and is no range of bytes")
+
+
+def try_file(path, found, has_ranges):
+    """A file has ranges of bytes where it should, and else none."""
+    judge(path, bool(found) == has_ranges, "a range of bytes: %s" % ", ".join(found) if found else "it has no range of bytes")
+
+
+def main():
+    try_samples()
     for search, pattern, places in [
         (code_ranges, "crates/*/src/**/*.rt", CODE),
         (book_ranges, "crates/*/specs/**/*.antt", BOOK),
@@ -150,17 +156,11 @@ def main():
         (rust_ranges, "rust/src/**/*.rs", RUST),
     ]:
         paths = files(pattern)
-        failed += ["%s: no such file" % place for place in places if place not in paths]
+        for place in set(places) - set(paths):
+            fail("%s: no such file" % place)
         for path in paths:
-            found_there = list(search(read(path)))
-            if bool(found_there) == (path in places):
-                passed += 1
-            else:
-                failed += ["%s: a range of bytes: %s" % (path, head) for head in found_there] if found_there else ["%s: has no range of bytes" % path]
-    for line in failed:
-        print(line)
-    print("%d passed, %d failed" % (passed, len(failed)))
-    return 1 if failed else 0
+            try_file(path, list(search(read(path))), path in places)
+    finish()
 
 
-sys.exit(main())
+main()

@@ -12,9 +12,9 @@ import tempfile
 
 sys.dont_write_bytecode = True
 import c_lines  # noqa: E402
+from places import ARCHIVE, ROOT  # noqa: E402
+from tally import check, finish, stop  # noqa: E402
 
-ROOT = os.path.dirname(os.path.dirname(os.path.abspath(__file__)))
-ARCHIVE = os.path.join(ROOT, "target", "staticlib", "libquenhovach.a")
 EXAMPLE = os.path.join(ROOT, "examples", "c")
 STRICT = ["-Wall", "-Wextra", "-Wpedantic", "-Werror", "-I", os.path.join(ROOT, "include")]
 C99 = ["gcc", "-std=c99"] + STRICT
@@ -128,20 +128,6 @@ PROGRAM_RUNS = [
     ("an unclosed call behind the last newline", b"a\nlen(b\n", b"",
      b"FILE:3:1: no sheet: the template ends inside a call (answer 5 3, after 5 steps and 8 bytes)", 1),
 ]
-
-passed = 0
-failed = 0
-
-
-def check(name, got, expected):
-    """One test: counts it, and tells where the two differ."""
-    global passed, failed
-    if got == expected:
-        passed += 1
-        return True
-    failed += 1
-    print("%s: expected %.300r, got %.300r" % (name, expected, got))
-    return False
 
 
 def build(name, command):
@@ -264,14 +250,11 @@ def test_program(folder):
 
 
 if not os.path.exists(ARCHIVE):
-    print("target/staticlib/libquenhovach.a is missing: `rt staticlib quenhovach` writes it")
-    print("0 passed, 1 failed")
-    sys.exit(1)
+    stop("target/staticlib/libquenhovach.a is missing: `rt staticlib quenhovach` writes it")
 with tempfile.TemporaryDirectory() as scratch:
     test_header(scratch)
     test_archive()
     test_calls(scratch)
     test_lines(scratch)
     test_program(scratch)
-print("%d passed, %d failed" % (passed, failed))
-sys.exit(1 if failed else 0)
+finish()

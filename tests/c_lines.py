@@ -1,7 +1,9 @@
 """The index of lines from C: the source of a program that makes one call, and for each line of tests/lines.tsv what it is given and must write."""
 import os
 
-TABLE = os.path.join(os.path.dirname(os.path.abspath(__file__)), "lines.tsv")
+from places import ROOT
+
+TABLE = os.path.join(ROOT, "tests", "lines.tsv")
 
 # A call as the command line says: the function, the text's length, the place or line, the lent words, "/", the lent totals. A text is on standard
 # input; none lent is a null pointer. Writes what came back, the line or start, and then what the words and totals hold.

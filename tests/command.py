@@ -12,7 +12,6 @@ sys.dont_write_bytecode = True
 sys.path.insert(0, os.path.join(os.path.dirname(os.path.abspath(__file__)), "command"))
 import answers  # noqa: E402
 import apart  # noqa: E402
-import common  # noqa: E402
 import crate  # noqa: E402
 import files  # noqa: E402
 import hints  # noqa: E402
@@ -21,6 +20,7 @@ import long_runs  # noqa: E402
 import several  # noqa: E402
 import usage  # noqa: E402
 import widths  # noqa: E402
+from tally import finish  # noqa: E402
 
 PARTS = [
     answers.endings, answers.places, widths.lines, widths.table, files.inputs, files.sheets, files.reports, files.limits, files.standard_output, apart.told_apart, apart.harmless,
@@ -41,7 +41,7 @@ def main():
     for part in [crate.missing_archive, crate.build, crate.tests, crate.habits] + PARTS:
         with tempfile.TemporaryDirectory() as folder:
             part(folder)
-    common.finish()
+    finish()
 
 
 main()

@@ -14,6 +14,8 @@ import tempfile
 sys.dont_write_bytecode = True
 import incremental_edits as edits  # noqa: E402
 import refused  # noqa: E402
+from places import ROOT  # noqa: E402
+from tally import count, fail, finish  # noqa: E402
 
 LEAVES = ["answers", "ascii", "numerals", "matching", "expression", "lines"]
 ENSURES = re.compile(r"^    ensures .*\n", re.M)
@@ -49,31 +51,31 @@ def with_edit(weaker, edit, folder, tree, crate):
     return set(refused.refusals(said, folder))
 
 
-def is_watched(function, own, folder, tree, crate):
-    """Whether the loss of a promise is seen."""
+def try_function(function, own, folder, tree, crate):
+    """The loss of a promise is seen."""
     for edit in own:
         broken = with_edit(without_promise(function, folder), edit, folder, tree, crate)
         if function.name not in broken:
             others = ", ".join(sorted(broken)) or "none"
             print("%s::%s without its promise: %s is proved; callers that break: %s" % (crate, function.name, os.path.basename(edit), others), flush=True)
-            return True
-    print("%s::%s without its promise: NOT SEEN, each of its edits is still refused" % (crate, function.name), flush=True)
-    return False
+            return count(1, 0)
+    fail("%s::%s without its promise: NOT SEEN, each of its edits is still refused" % (crate, function.name))
 
 
 def try_crate(crate, tree):
     folder = os.path.join(tree, "crates", crate)
-    found = sorted(glob.glob(os.path.join(edits.ROOT, "tests", "edits", crate, "*.edit")))
-    public = [f for f in refused.functions_of(folder).values() if f.public]
-    return [is_watched(f, [e for e in found if refused.named_by(e) == f.name], folder, tree, crate) for f in public]
+    found = sorted(glob.glob(os.path.join(ROOT, "tests", "edits", crate, "*.edit")))
+    for function in refused.functions_of(folder).values():
+        if function.public:
+            try_function(function, [e for e in found if refused.named_by(e) == function.name], folder, tree, crate)
 
 
 def main():
     with tempfile.TemporaryDirectory() as tree:
         edits.copy_tree(tree, LEAVES)
-        seen = [watched for crate in sys.argv[1:] or LEAVES for watched in try_crate(crate, tree)]
-    print("%d passed, %d failed" % (seen.count(True), seen.count(False)))
-    sys.exit(0 if all(seen) and seen else 1)
+        for crate in sys.argv[1:] or LEAVES:
+            try_crate(crate, tree)
+    finish()
 
 
 if __name__ == "__main__":

@@ -13,7 +13,10 @@ import subprocess
 import sys
 import tempfile
 
-ROOT = os.path.dirname(os.path.dirname(os.path.abspath(__file__)))
+sys.dont_write_bytecode = True
+from places import ROOT  # noqa: E402
+from tally import count, fail, finish  # noqa: E402
+
 LEFT_OUT = (lambda text: len(text) > 65536, lambda text: b"2147483647)" in text and text.startswith(b"eval(1,10,"))
 
 HEAD = """-- Made by tests/definitions.py.
@@ -141,10 +144,10 @@ def main():
     kept = [(i, fields) for i, fields in enumerate(rows) if not left_out(fields)]
     wrong = check(kept)
     for i in sorted(wrong):
-        print("wrong: %s: %s" % ("  ".join(rows[i])[:400], wrong[i]))
+        fail("wrong: %s: %s" % ("  ".join(rows[i])[:400], wrong[i]))
     print("%d lines left out (out of reach of a computation)" % (len(rows) - len(kept)))
-    print("%d passed, %d failed" % (len(kept) - len(wrong), len(wrong)))
-    sys.exit(1 if wrong else 0)
+    count(len(kept) - len(wrong), 0)
+    finish()
 
 
 main()

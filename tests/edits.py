@@ -12,10 +12,11 @@ import re
 import sys
 
 sys.dont_write_bytecode = True
+import places  # noqa: E402
 import refused  # noqa: E402
+from tally import count, fail, finish  # noqa: E402
 
-HERE = os.path.dirname(os.path.dirname(os.path.abspath(__file__)))
-ROOT = sys.argv[1] if len(sys.argv) > 1 else HERE
+ROOT = sys.argv[1] if len(sys.argv) > 1 else places.ROOT
 REFUSAL = re.compile(r"^\S+/proofs/\S+\.antt:\d+:\d+: error: |^fn \S+: no proof: ", re.M)
 
 
@@ -34,7 +35,7 @@ def fault_of(edit, folder, functions):
 
 
 def try_crate(folder):
-    """How many edits of a crate pass, and how many do not."""
+    """Counts the edits of a crate that pass, and those that do not."""
     functions = refused.functions_of(folder)
     edits = sorted(glob.glob(os.path.join(folder, "must-fail", "*.edit")))
     tried = {edit: fault_of(edit, folder, functions) for edit in edits}
@@ -43,15 +44,14 @@ def try_crate(folder):
     if not os.path.exists(os.path.join(ROOT, "tests", "edits", os.path.basename(folder))):
         faults += refused.too_few(functions, edits) + refused.unwatched(functions, edits, {edit: where for edit, (_, where) in tried.items()})
     for fault in faults:
-        print("%s/%s" % (os.path.basename(folder), fault))
-    return len(edits) - failed, len(faults)
+        fail("%s/%s" % (os.path.basename(folder), fault))
+    count(len(edits) - failed, 0)
 
 
 def main():
-    counts = [try_crate(folder) for folder in sorted(glob.glob(os.path.join(ROOT, "crates", "*")))]
-    passed, failed = sum(p for p, _ in counts), sum(f for _, f in counts)
-    print("%d passed, %d failed" % (passed, failed + (passed + failed == 0)))
-    sys.exit(1 if failed or not passed else 0)
+    for folder in sorted(glob.glob(os.path.join(ROOT, "crates", "*"))):
+        try_crate(folder)
+    finish()
 
 
 main()

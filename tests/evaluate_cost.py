@@ -9,11 +9,13 @@ import os
 import sys
 
 sys.dont_write_bytecode = True
-ROOT = os.path.dirname(os.path.dirname(os.path.abspath(__file__)))
-sys.path.insert(0, os.path.join(ROOT, "bench"))
+HERE = os.path.dirname(os.path.abspath(__file__))
+sys.path.insert(0, os.path.join(HERE, "..", "bench"))
 from counted import Counter  # noqa: E402
+from places import program  # noqa: E402
+from tally import finish, judge  # noqa: E402
 
-PROGRAM = os.path.join(ROOT, "target", "bin", "evaluate")
+PROGRAM = program("evaluate")
 MOST = 9.0
 
 
@@ -43,19 +45,14 @@ def instructions(counter, text, value):
 
 
 def main():
-    passed = failed = 0
     counter = Counter()
     base = instructions(counter, "1", 1)
     for name, (build, value) in KINDS.items():
         small, large = (instructions(counter, text, value(text)) - base for text in (build(8192), build(65536)))
         ratio = large / small
         print("%-32s %9d at 8 KB %10d at 64 KB, ratio %.2f, %.1f a byte" % (name, small, large, ratio, large / 65536))
-        if ratio <= MOST:
-            passed += 1
-        else:
-            failed += 1
-    print("%d passed, %d failed" % (passed, failed))
-    sys.exit(1 if failed else 0)
+        judge(name, ratio <= MOST, "the cost grows faster than the expression")
+    finish()
 
 
 main()

@@ -10,7 +10,8 @@ import sys
 import tempfile
 
 sys.dont_write_bytecode = True
-from built import COMMAND, ROOT, build  # noqa: E402
+from places import COMMAND, ROOT, build_command  # noqa: E402
+from tally import check, finish  # noqa: E402
 
 EXAMPLES = os.path.join(ROOT, "examples")
 
@@ -33,16 +34,6 @@ REFUSED = [
 ]
 ROOM = 64 + 4
 OLD = b"the old sheet\n"
-count = 0
-failures = []
-
-
-def check(name, got, expected):
-    global count
-    count += 1
-    if got != expected:
-        failures.append(name)
-        print("%s: expected %.200r, got %.200r" % (name, expected, got))
 
 
 def get(path):
@@ -101,7 +92,7 @@ def room_never_shapes(folder, name):
     check(name + ": refused in some and whole in others", seen, {True, False})
 
 
-def judge(name):
+def by_gnu_m4(name):
     done = subprocess.run(["m4", "-G", name + ".m4"], cwd=EXAMPLES, capture_output=True)
     check(name + " by GNU m4", (done.returncode, done.stdout, done.stderr), stored(name))
 
@@ -114,7 +105,7 @@ def templates():
 
 
 def main():
-    check("the command is built", build(), True)
+    check("the command is built", build_command(), True)
     check("every template is tried", templates(), sorted(ENDS))
     with tempfile.TemporaryDirectory() as folder:
         for name in ENDS:
@@ -123,9 +114,8 @@ def main():
         frozen_line(folder)
     check("GNU m4 is installed", shutil.which("m4") is not None, True)
     for name in ENDS if shutil.which("m4") else ():
-        judge(name)
-    print("%d passed, %d failed" % (count - len(failures), len(failures)))
-    sys.exit(1 if failures else 0)
+        by_gnu_m4(name)
+    finish()
 
 
 main()

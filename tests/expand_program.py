@@ -1,23 +1,20 @@
 #!/usr/bin/env python3
 """The program `expand` from the outside: both of its streams, byte for byte, and exit status 0. A failed read or write is told, and no answer line follows."""
-import os
 import subprocess
 import sys
 
-PROGRAM = os.path.join(os.path.dirname(os.path.abspath(__file__)), "..", "target", "bin", "expand")
+sys.dont_write_bytecode = True
+import tally  # noqa: E402
+from places import program  # noqa: E402
+
+PROGRAM = program("expand")
 UNREAD = b"expand: standard input could not be read\n"
 UNWRITTEN = b"expand: the output could not be written\n"
-failures = []
-count = 0
 
 
 def check(name, got, expected):
     """Standard output, standard error and the exit status, against the first two and 0."""
-    global count
-    count += 1
-    if got != (*expected, 0):
-        failures.append(name)
-        print("%s: expected %r, got %r and exit status %d" % (name, tuple(x[:80] for x in expected), tuple(x[:80] for x in got[:2]), got[2]))
+    tally.check(name, got, (*expected, 0))
 
 
 def run(text):
@@ -56,5 +53,4 @@ check("a full disk", run_shell(">/dev/full", b"text"), (b"", UNWRITTEN))
 check("a directory as standard input", run_shell("</"), (b"", UNREAD))
 check("a closed standard input", run_shell("<&-"), (b"", UNREAD))
 
-print("%d passed, %d failed" % (count - len(failures), len(failures)))
-sys.exit(1 if failures else 0)
+tally.finish()

@@ -16,29 +16,19 @@ import shutil
 import subprocess
 import sys
 
-HERE = os.path.dirname(os.path.abspath(__file__))
-PROGRAM = os.path.join(HERE, "..", "target", "bin", "expand")
-FOLDER = os.path.join(HERE, "gnu")
-RANDOM = os.path.join(FOLDER, "random.jsonl")
-PAGE = os.path.join(HERE, "..", "docs", "GNU.md")
-JUDGES = (["m4"], ["m4", "-G"])
-STORED_SEEDS = range(100)
-
 sys.dont_write_bytecode = True
+FOLDER = os.path.join(os.path.dirname(os.path.abspath(__file__)), "gnu")
 sys.path.insert(0, FOLDER)
 import texts  # noqa: E402
 from pages import Given, did, plain, says  # noqa: E402
+from places import ROOT, program  # noqa: E402
+from tally import fail, finish, judge, stop  # noqa: E402
 
-passed = failed = 0
-
-
-def check(name, good, word=""):
-    global passed, failed
-    if good:
-        passed += 1
-    else:
-        failed += 1
-        print("%s: %s" % (name, word))
+PROGRAM = program("expand")
+RANDOM = os.path.join(FOLDER, "random.jsonl")
+PAGE = os.path.join(ROOT, "docs", "GNU.md")
+JUDGES = (["m4"], ["m4", "-G"])
+STORED_SEEDS = range(100)
 
 
 # the two programs
@@ -73,17 +63,15 @@ def gnu(command, text):
 
 def alike(name, given, wanted):
     """Output, error text and exit number are the same."""
-    for part, got, want in (("output", given.output, wanted.output), ("error text", given.errors, wanted.errors), ("exit number", given.code, wanted.code)):
-        if got != want:
-            return check(name, False, "%s is %r, GNU m4 has %r" % (part, got, want))
-    check(name, True)
+    parts = zip(("output", "error text", "exit number"), given, wanted)
+    judge(name, given[:3] == wanted[:3], "; ".join("%s is %r, GNU m4 has %r" % part for part in parts if part[1] != part[2]))
 
 
 def judged(name, text, wanted):
     """`expand` gives what GNU m4 gave, by an answer that finishes."""
     given = expand(text)
     if given.answer not in (0, 1):
-        return check(name, False, "not finished: answer %s, standard error %r" % (given.answer, given.errors))
+        return fail("%s: not finished: answer %s, standard error %r" % (name, given.answer, given.errors))
     alike(name, given, wanted)
 
 
@@ -155,30 +143,28 @@ def examples():
 def check_example(example):
     name = "docs/GNU.md, line %d" % example.line
     if not example.given:
-        return check(name, False, "no text with what 01 and GNU make of it")
+        return fail("%s: no text with what 01 and GNU make of it" % name)
     ours, *theirs = example.given
-    check(name, any(ours != other for other in theirs), "the example shows no difference")
+    judge(name, any(ours != other for other in theirs), "the example shows no difference")
     given = did(expand(example.text))
-    check(name, given == ours, "expand gives %r" % (given,))
-    for judge, wanted in zip(JUDGES, theirs):
-        given = did(gnu(judge, example.text))
-        check(name, given == wanted, "%s gives %r" % (" ".join(judge), given))
+    judge(name, given == ours, "expand gives %r" % (given,))
+    for command, wanted in zip(JUDGES, theirs):
+        given = did(gnu(command, example.text))
+        judge(name, given == wanted, "%s gives %r" % (" ".join(command), given))
 
 
 def check_nothing_left_out():
     """Each table that is gone through has what it should."""
-    check("tests/gnu/templates", len(templates()) > 0, "there is none")
+    judge("tests/gnu/templates", len(templates()) > 0, "there is none")
     with open(RANDOM, encoding="ascii") as f:
         seeds = [json.loads(line)["seed"] for line in f]
-    check("tests/gnu/random.jsonl", seeds == list(STORED_SEEDS), "it has the seeds %r" % seeds)
-    check("docs/GNU.md", len(list(examples())) > 0, "it has no example")
+    judge("tests/gnu/random.jsonl", seeds == list(STORED_SEEDS), "it has the seeds %r" % seeds)
+    judge("docs/GNU.md", len(list(examples())) > 0, "it has no example")
 
 
 def main():
     if not shutil.which("m4"):
-        print("m4 is not installed")
-        print("0 passed, 1 failed")
-        sys.exit(1)
+        stop("m4 is not installed")
     if sys.argv[1:] == ["--store"]:
         return store()
     first, count = (int(n) for n in sys.argv[1:]) if len(sys.argv) == 3 else (1000, 300)
@@ -186,8 +172,8 @@ def main():
     check_nothing_left_out()
     for name, text, wanted in stored():
         judged(name, text, wanted)
-        for judge in JUDGES:
-            alike("%s, %s now" % (name, " ".join(judge)), gnu(judge, text), wanted)
+        for command in JUDGES:
+            alike("%s, %s now" % (name, " ".join(command)), gnu(command, text), wanted)
     for example in examples():
         check_example(example)
     for seed in range(first, first + count):
@@ -195,8 +181,7 @@ def main():
         wanted = gnu(JUDGES[0], text)
         judged("random text %d" % seed, text, wanted)
         alike("random text %d, m4 -G" % seed, gnu(JUDGES[1], text), wanted)
-    print("%d passed, %d failed" % (passed, failed))
-    sys.exit(1 if failed else 0)
+    finish()
 
 
 main()

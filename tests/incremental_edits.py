@@ -21,8 +21,9 @@ import time
 
 sys.dont_write_bytecode = True
 import refused  # noqa: E402
+from places import ROOT  # noqa: E402
+from tally import count, fail, finish  # noqa: E402
 
-ROOT = os.path.dirname(os.path.dirname(os.path.abspath(__file__)))
 CRATES = ["answers", "ascii", "numerals", "matching", "expression", "lines", "expander", "quenhovach"]
 SMALLEST = "answers"
 
@@ -109,7 +110,7 @@ def applied(places):
 
 
 def try_round(edits, places, where, tree, crate):
-    """How many edits of a round pass, and how many do not; notes where each was refused."""
+    """Counts the edits of a round that pass, and those that do not; notes where each was refused."""
     began = time.time()
     kept = applied([place for edit in edits for place in places[edit]])
     status, said = check(tree, crate)
@@ -118,21 +119,20 @@ def try_round(edits, places, where, tree, crate):
     print("%s with %d edits (%d s)" % (crate, len(edits), time.time() - began), flush=True)
     if status != 1 or "logic=not-proved" not in said:
         print("NOT REFUSED, or it did not reach the prover (exit status %d): %s" % (status, said[-2000:]))
-        return 0, len(edits)
-    found, failed = refused.refusals(said, os.path.join(tree, "crates", crate)), 0
+        return count(0, len(edits))
+    found = refused.refusals(said, os.path.join(tree, "crates", crate))
     for edit in edits:
         fault, where[edit] = refused.fault_of(changed(places[edit]), found)
         print("%s/%s: %s" % (crate, os.path.basename(edit), fault or "refused at the promise: " + where[edit]), flush=True)
-        failed += fault is not None
+        count(fault is None, fault is not None)
     touched = set().union(*(changed(places[edit]) for edit in edits))
-    others = [name for name in found if not any(refused.is_of(name, f) for f in touched)]
-    for name in others:
-        print("%s: refused, and no edit touches it: %s" % (name, found[name][0][:2]))
-    return len(edits) - failed, failed + len(others)
+    for name in found:
+        if not any(refused.is_of(name, f) for f in touched):
+            fail("%s: refused, and no edit touches it: %s" % (name, found[name][0][:2]))
 
 
 def try_crate(crate, tree):
-    """How many edits of a crate pass, and how many do not."""
+    """Counts the edits of a crate that pass, and those that do not."""
     copy_checked(crate, tree)
     folder = os.path.join(tree, "crates", crate)
     functions = refused.functions_of(folder)
@@ -144,22 +144,20 @@ def try_crate(crate, tree):
             faults.append("%s: %s" % (os.path.basename(edit), fault))
         else:
             places[edit] = found
-    rounds = rounds_of({edit: changed(found) for edit, found in places.items()})
-    counts = [try_round(tried, places, where, tree, crate) for tried in rounds]
-    faults += refused.unwatched(functions, edits, where)
+    for tried in rounds_of({edit: changed(found) for edit, found in places.items()}):
+        try_round(tried, places, where, tree, crate)
+    faults += refused.unwatched(functions, edits, where) + ([] if places else ["no edit of it was tried"])
     for fault in faults:
-        print("%s/%s" % (crate, fault))
-    return sum(p for p, _ in counts), sum(f for _, f in counts) + len(faults) + (not counts)
+        fail("%s/%s" % (crate, fault))
 
 
 def main():
     crates = sys.argv[1:] or CRATES
     with tempfile.TemporaryDirectory() as tree:
         copy_tree(tree, crates)
-        counts = [try_crate(crate, tree) for crate in crates]
-    passed, failed = sum(p for p, _ in counts), sum(f for _, f in counts)
-    print("%d passed, %d failed" % (passed, failed))
-    sys.exit(1 if failed or not passed else 0)
+        for crate in crates:
+            try_crate(crate, tree)
+    finish()
 
 
 if __name__ == "__main__":

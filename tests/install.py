@@ -13,16 +13,14 @@ import subprocess
 import sys
 import tempfile
 
-ROOT = os.path.dirname(os.path.dirname(os.path.abspath(__file__)))
-ARCHIVE = os.path.join(ROOT, "target", "staticlib", "libquenhovach.a")
-BUILT = os.path.join(ROOT, "target", "rust")
-COMMAND = os.path.join(BUILT, "release", "quenhovach")
+sys.dont_write_bytecode = True
+from places import ARCHIVE, COMMAND, ROOT, RUST  # noqa: E402
+from tally import check, finish  # noqa: E402
+
 FIVE = b"define(`n',`5')n"
 HEADER = os.path.join(ROOT, "include", "quenhovach.h")
 EXPORTED = ["quenhovach_expand", "quenhovach_lines_build", "quenhovach_lines_line_of", "quenhovach_lines_start_of"]
 NO_BUILD = tempfile.TemporaryDirectory()  # tools that must not be called
-passed = 0
-failed = 0
 
 # a call in just the room that document 01 names for this text, and the numbers that it names; then the line of a place, which is the second
 PROGRAM = r"""
@@ -42,15 +40,6 @@ int main(void)
     return 0;
 }
 """
-
-
-def check(name, got, expected):
-    global passed, failed
-    if got == expected:
-        passed += 1
-        return
-    failed += 1
-    print("%s: expected %.400r, got %.400r" % (name, expected, got))
 
 
 def get(path):
@@ -91,7 +80,7 @@ def tree(folder):
     return found
 
 
-def install(*words, script=ROOT, stubs="", target=BUILT, variables=(), **how):
+def install(*words, script=ROOT, stubs="", target=RUST, variables=(), **how):
     """./install, with tools of the test before the others, and none that builds: exit status, standard output, standard error."""
     environment = {name: value for name, value in os.environ.items() if name not in ("DESTDIR", "QUENHOVACH_LIB_DIR", "CARGO_TARGET_DIR")}
     environment.update(variables, PATH=":".join(filter(None, [stubs, NO_BUILD.name, os.environ["PATH"]])))
@@ -367,18 +356,20 @@ def nobody(folder):
 
 
 def main():
+    ready = []
     for path, how in ((ARCHIVE, "rt staticlib quenhovach"), (COMMAND, "tests/command.py")):
-        check("%s is there (%s builds it)" % (os.path.relpath(path, ROOT), how), os.path.exists(path), True)
+        ready.append(check("%s is there (%s builds it)" % (os.path.relpath(path, ROOT), how), os.path.exists(path), True))
     for tool in ("pkg-config", "groff", "gcc", "readelf"):
-        check(tool + " is installed", shutil.which(tool) is not None, True)
+        ready.append(check(tool + " is installed", shutil.which(tool) is not None, True))
+    if not all(ready):
+        finish()
     os.chmod(NO_BUILD.name, 0o755)
     for tool in ("rt", "cargo"):
         stub(NO_BUILD.name, tool, "exit 1\n")
-    for part in () if failed else (whole, elsewhere, refused, interrupted, usage, building, versions, loader, nobody):
+    for part in (whole, elsewhere, refused, interrupted, usage, building, versions, loader, nobody):
         with tempfile.TemporaryDirectory() as folder:
             part(os.path.realpath(folder))
-    print("%d passed, %d failed" % (passed, failed))
-    sys.exit(1 if failed else 0)
+    finish()
 
 
 main()

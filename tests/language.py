@@ -13,8 +13,9 @@ import sys
 import tempfile
 
 sys.dont_write_bytecode = True
-from built import COMMAND, ROOT, build  # noqa: E402
 from pages import Given, did, plain, says  # noqa: E402
+from places import COMMAND, ROOT, build_command  # noqa: E402
+from tally import finish, judge  # noqa: E402
 
 PAGE = os.path.join(ROOT, "docs", "LANGUAGE.md")
 MANUAL = os.path.join(ROOT, "docs", "quenhovach.1")
@@ -25,16 +26,6 @@ TEMPLATE = "mast.m4"
 
 # `kind` is gives, refused, message or sh; `words` is what the page says comes of the template, and for sh the lines for the shell with their output
 Example = collections.namedtuple("Example", "line section text kind words")
-passed = failed = 0
-
-
-def check(name, good, word=""):
-    global passed, failed
-    if good:
-        passed += 1
-    else:
-        failed += 1
-        print("%s: %.1000s" % (name, word))
 
 
 def read(path):
@@ -68,8 +59,7 @@ def examples():
             section = body
         elif kind == "row":
             row = re.fullmatch(r'(.*?) {2,}(?:gives (".*)|(refused .*))', body)
-            check("line %d" % line, row, "no template with what comes of it")
-            if row:
+            if judge("line %d" % line, row, "no template with what comes of it"):
                 yield Example(line, section, plain(row[1]), "gives" if row[2] else "refused", row[2] or row[3])
         elif kind == "m4":
             text = body.encode()
@@ -94,7 +84,7 @@ def expand(folder, text):
     answer = int(read(os.path.join(folder, "numbers")).split()[0])
     if answer < 2:
         return Given(done.stdout, done.stderr, done.returncode, answer=answer), ""
-    check("the exit status of answer %d" % answer, done.returncode == 64 + answer, done.returncode)
+    judge("the exit status of answer %d" % answer, done.returncode == 64 + answer, done.returncode)
     return Given(done.stdout, b"", done.returncode, answer=answer), done.stderr.decode()
 
 
@@ -111,16 +101,16 @@ def try_example(folder, example):
     given, message = expand(folder, example.text or b"")
     if example.kind == "gives":
         wanted = says(example.words) if isinstance(example.words, str) else example.words
-        check(name, did(given) == wanted, "%r" % (did(given),))
+        judge(name, did(given) == wanted, "%r" % (did(given),))
     elif example.kind == "refused":
         found = refusal(message, " at " in example.words)
-        check(name, (found, given.output) == (example.words, b""), "%s, output %r" % (found, given.output))
+        judge(name, (found, given.output) == (example.words, b""), "%s, output %r" % (found, given.output))
     elif example.kind == "message":
-        check(name, re.fullmatch(".*".join(map(re.escape, example.words.split("...\n"))), message, re.S), message)
+        judge(name, re.fullmatch(".*".join(map(re.escape, example.words.split("...\n"))), message, re.S), message)
     else:
         path = os.path.dirname(COMMAND) + os.pathsep + os.environ["PATH"]
         done = subprocess.run(["sh", "-c", example.words[0]], cwd=folder, capture_output=True, env=dict(os.environ, PATH=path))
-        check(name, (done.stdout.decode(), done.stderr, done.returncode) == (example.words[1], b"", 0), "%r" % (done,))
+        judge(name, (done.stdout.decode(), done.stderr, done.returncode) == (example.words[1], b"", 0), "%r" % (done,))
 
 
 def calls(folder, name, example):
@@ -146,7 +136,7 @@ def refusals():
 
 def check_blocks():
     blocks = "".join(kind + " " for _, kind, _ in pieces() if kind not in ("section", "entry", "row"))
-    check("each block has what comes of it", re.fullmatch(r"(m4 (sheet|message|sh text) |sh text )+", blocks), blocks)
+    judge("each block has what comes of it", re.fullmatch(r"(m4 (sheet|message|sh text) |sh text )+", blocks), blocks)
 
 
 def check_macros(folder, found):
@@ -155,35 +145,33 @@ def check_macros(folder, found):
         if kind == "section":
             section = text
         elif kind == "entry":
-            check("%s has one entry" % text, text not in entries, "it has two")
+            judge("%s has one entry" % text, text not in entries, "it has two")
             entries[text] = section
-    check("the page has each predefined macro", sorted(entries) == sorted(predefined()), sorted(entries))
-    check("and their count", "\n%d names have a meaning from the start" % len(entries) in read(PAGE), len(entries))
+    judge("the page has each predefined macro", sorted(entries) == sorted(predefined()), sorted(entries))
+    judge("and their count", "\n%d names have a meaning from the start" % len(entries) in read(PAGE), len(entries))
     for name, section in entries.items():
-        check("%s has an example" % name, any(e.section == section and calls(folder, name, e) for e in found), "none in its section calls it")
+        judge("%s has an example" % name, any(e.section == section and calls(folder, name, e) for e in found), "none in its section calls it")
 
 
 def check_manual():
     section = re.search(r"^\.SH PREDEFINED MACROS\n(.*?)^\.SH ", read(MANUAL), re.M | re.S)
     names = re.findall(r"^(\w+)[^\t\n]*\t", section[1] if section else "", re.M)
-    check("the manual has each predefined macro", sorted(names) == sorted(predefined()), names)
+    judge("the manual has each predefined macro", sorted(names) == sorted(predefined()), names)
 
 
 def check_refusals(found):
     shown = {e.words.split(" at ")[0] for e in found if e.kind == "refused"}
-    check("each refusal of the README is shown", shown == set(refusals()), sorted(shown ^ set(refusals())))
+    judge("each refusal of the README is shown", shown == set(refusals()), sorted(shown ^ set(refusals())))
 
 
 def check_table():
     """The last section of the page points to sections of docs/GNU.md."""
     sections = re.findall(r"^\|.* \| (.*) \|$", read(PAGE).split("\n## Beside GNU m4\n")[1], re.M)[1:]
-    check("the sections of docs/GNU.md are there", sections and all("\n## %s\n" % s in read(GNU) for s in sections), sections)
+    judge("the sections of docs/GNU.md are there", sections and all("\n## %s\n" % s in read(GNU) for s in sections), sections)
 
 
 def main():
-    built = build()
-    check("the command", built, "it could not be built")
-    if built:
+    if judge("the command", build_command(), "it could not be built"):
         found = list(examples())
         with tempfile.TemporaryDirectory() as folder:
             for example in found:
@@ -193,8 +181,7 @@ def main():
         check_manual()
         check_refusals(found)
         check_table()
-    print("%d passed, %d failed" % (passed, failed))
-    sys.exit(1 if failed else 0)
+    finish()
 
 
 main()

@@ -15,12 +15,15 @@ import subprocess
 import sys
 
 sys.dont_write_bytecode = True
-ROOT = os.path.dirname(os.path.dirname(os.path.abspath(__file__)))
-sys.path.insert(0, os.path.join(ROOT, "bench"))
+HERE = os.path.dirname(os.path.abspath(__file__))
+sys.path.insert(0, os.path.join(HERE, "..", "bench"))
 from counted import Counter  # noqa: E402
+from places import ARCHIVE, ROOT  # noqa: E402
+from tally import finish, judge  # noqa: E402
 
-LIBRARY = os.path.join(os.environ.get("QUENHOVACH_LIB_DIR") or os.path.join(ROOT, "target", "staticlib"), "libquenhovach.a")
-DRIVER = os.path.join(ROOT, "tests", "lines_cost.c")
+FOLDER = os.environ.get("QUENHOVACH_LIB_DIR")
+LIBRARY = os.path.join(FOLDER, "libquenhovach.a") if FOLDER else ARCHIVE
+DRIVER = os.path.join(HERE, "lines_cost.c")
 LENGTHS = [0, 1, 63, 64, 65, 1000, 65535, 65536]
 SIZES = [1024, 32768, 65536]
 # a newline at every so many-th byte, dense and thin; 0: none
@@ -72,45 +75,44 @@ class Costs:
 
 
 def line_of(costs):
-    """Whether all places of all texts take the same."""
+    """All places of all texts take the same."""
     places = lambda length: {0, min(1, length), length // 2, max(0, length - 1), length}
     counts = costs.of("line_of", [(length, every, place) for length in LENGTHS for every in EVERY for place in places(length)]).values()
     print("line_of: %d places, at least %d and at most %d instructions" % (len(counts), min(counts), max(counts)))
-    return [min(counts) == max(counts) <= MOST_LINE]
+    judge("line_of", min(counts) == max(counts) <= MOST_LINE, "not one count, or more than %d" % MOST_LINE)
 
 
 def build(costs):
-    """For each kind of text, whether a byte takes the same in short and long ones."""
+    """In each kind of text a byte takes the same in short and long ones."""
     counts = costs.of("build", [(length, every, 0) for length in (0, *SIZES) for every in EVERY])
-    verdicts = []
     for every in EVERY:
         empty, *others = (counts[Asked("build", length, every, 0)] for length in (0, *SIZES))
         each = [(count - empty) / length for count, length in zip(others, SIZES)]
-        print("build, %-16s %.3f a byte at 1 KiB, %.3f at 32 KiB, %.3f at 64 KiB" % ("newline in %d:" % every if every else "no newline:", *each))
-        verdicts.append(0 < min(each) and max(each) <= min(each) * SPREAD and max(each) <= MOST_BYTE)
-    return verdicts
+        kind = "newline in %d" % every if every else "no newline"
+        print("build, %-16s %.3f a byte at 1 KiB, %.3f at 32 KiB, %.3f at 64 KiB" % (kind + ":", *each))
+        good = 0 < min(each) and max(each) <= min(each) * SPREAD and max(each) <= MOST_BYTE
+        judge("build, " + kind, good, "a byte takes more than %d, or not the same in short and long texts" % MOST_BYTE)
 
 
 def start_of(costs):
-    """For each size, whether the start of a line takes no more than it may, and the worst not much less."""
+    """For each size the start of a line takes no more than it may, and the worst not much less."""
     last = lambda length, every: newlines(length, every) + 1
     lines = lambda *text: {0, 1, 2, 64, 65, 66, last(*text) // 2, last(*text), last(*text) + 1, 2**64 - 1}
     counts = costs.of("start_of", [(length, every, line) for length in SIZES for every in EVERY for line in lines(length, every)])
-    verdicts = []
     for length in SIZES:
         here = [count for asked, count in counts.items() if asked.length == length]
         totals = length // 64 + 1
         limit = MOST_START + MOST_TOTAL * totals + MOST_BIT * 64
         print("start_of, %5d bytes: %d lines, at most %d instructions of %d for %d totals" % (length, len(here), max(here), limit, totals))
-        verdicts.append(limit / 2 <= max(here) <= limit)
-    return verdicts
+        judge("start_of, %d bytes" % length, limit / 2 <= max(here) <= limit, "the worst line takes more than it may, or less than half of that")
 
 
 def main():
     costs = Costs()
-    verdicts = line_of(costs) + build(costs) + start_of(costs)
-    print("%d passed, %d failed" % (verdicts.count(True), verdicts.count(False)))
-    sys.exit(0 if all(verdicts) else 1)
+    line_of(costs)
+    build(costs)
+    start_of(costs)
+    finish()
 
 
 main()

@@ -17,9 +17,10 @@ import tempfile
 import threading
 
 sys.dont_write_bytecode = True
-ROOT = os.path.dirname(os.path.dirname(os.path.abspath(__file__)))
+from places import ARCHIVE, ROOT  # noqa: E402
+from tally import check, finish, stop  # noqa: E402
+
 EXAMPLE = os.path.join(ROOT, "examples", "python")
-ARCHIVE = os.path.join(ROOT, "target", "staticlib", "libquenhovach.a")
 sys.path.insert(0, EXAMPLE)
 import quenhovach  # noqa: E402
 from quenhovach import Answer, Buffer, Exited, Expander, NotDone, Refused, Report, Sheet, Unclosed  # noqa: E402
@@ -81,25 +82,6 @@ CALLS = [
     ("257 arguments", b"len(" + b"," * 256, (13, 0, 256, 259, 0, 0), b"", b"", {}),
 ]
 
-passed = 0
-failed = 0
-
-
-def check(name, got, expected):
-    """One test: counts it, and tells where the two differ."""
-    global passed, failed
-    if got == expected:
-        passed += 1
-        return True
-    failed += 1
-    print("%s: expected %.300r, got %.300r" % (name, expected, got))
-    return False
-
-
-def finish():
-    print("%d passed, %d failed" % (passed, failed))
-    sys.exit(1 if failed else 0)
-
 
 def ended(run, *arguments):
     """What a call came to: its value, or the exception that it raised."""
@@ -131,9 +113,8 @@ def python(program, *words, **environment):
 
 def names():
     for enum, (first, words) in NAMES.items():
-        check("the numbers of " + enum.__name__, [(m.name, m.value) for m in enum], [(word, first + i) for i, word in enumerate(words.split())])
-    if failed:
-        finish()
+        if not check("the numbers of " + enum.__name__, [(m.name, m.value) for m in enum], [(word, first + i) for i, word in enumerate(words.split())]):
+            finish()
     check("every answer is tried", sorted({call[2][0] for call in CALLS}), list(range(14)))
     check("every buffer is tried", sorted({call[2][1] for call in CALLS if call[2][0] == 4}), list(range(1, 8)))
 
@@ -299,9 +280,7 @@ def source():
 
 def main():
     if not os.path.exists(ARCHIVE):
-        print("target/staticlib/libquenhovach.a is missing: `rt staticlib quenhovach` writes it")
-        print("0 passed, 1 failed")
-        sys.exit(1)
+        stop("target/staticlib/libquenhovach.a is missing: `rt staticlib quenhovach` writes it")
     names()
     source()
     with tempfile.TemporaryDirectory() as folder:

@@ -11,7 +11,9 @@ import subprocess
 import sys
 import tempfile
 
-ROOT = os.path.dirname(os.path.dirname(os.path.abspath(__file__)))
+sys.dont_write_bytecode = True
+from places import ROOT  # noqa: E402
+from tally import finish, judge  # noqa: E402
 
 
 def section(text, title):
@@ -44,12 +46,9 @@ def main():
         ("the lines shown are the sheet's first", sheet.decode().startswith(shown + "\n")),
         ("the command that tests is there", blocks(section(text, "Test it"))[0] == "./test" and os.access(os.path.join(ROOT, "test"), os.X_OK)),
     ]
-    for name, good in checks:
-        print("%s: %s" % (name, "yes" if good else "NO"))
-    if not all(good for _, good in checks):
+    if not all([judge(name, good, "no") for name, good in checks]):
         print(run.stdout.decode(errors="replace")[-1500:], run.stderr.decode(errors="replace")[-1500:])
-    print("%d passed, %d failed" % (sum(good for _, good in checks), sum(not good for _, good in checks)))
-    sys.exit(0 if all(good for _, good in checks) else 1)
+    finish()
 
 
 main()

@@ -6,17 +6,16 @@ texts of each macro (tests/worst_texts.py) and on those here, and must give what
 expression, so these have the deepest stack: 32 nestings, with an operator of each level open in every one of them and inside the last.
 A limit that is 400 KB smaller must end the program by a signal, or the limit would show nothing. Ends with 'N passed, M failed'; exit status 0 only if M is 0.
 """
-import os
 import resource
 import subprocess
 import sys
 
 sys.dont_write_bytecode = True
-ROOT = os.path.dirname(os.path.dirname(os.path.abspath(__file__)))
-sys.path.insert(0, os.path.join(ROOT, "tests"))
+from places import program  # noqa: E402
+from tally import finish, judge  # noqa: E402
 from worst_texts import END, WORST, Piece, joined, made, opened, run  # noqa: E402
 
-PROGRAM = os.path.join(ROOT, "target", "bin", "expand")
+PROGRAM = program("expand")
 BUFFERS = 65537 + 7 * 65536
 ENOUGH = BUFFERS + 1024 * 1024 + 16 * 1024
 LEVELS = b"0||1&&0|0^1&1==1<1<<0+1*"  # before an operand of 1 it comes to 1, and every side is worked out
@@ -63,18 +62,13 @@ def limited(text, limit):
 
 
 def main():
-    failed = 0
     for name, wanted in RUNS.items():
         done = limited(wanted.text, ENOUGH)
-        if (done.returncode, done.stdout, done.stderr) != (0, wanted.output, wanted.errors):
-            failed += 1
-            print("%s: exit status %d in 1 MiB of stack, %.40r and %r instead of %.40r and %r" % (
-                name, done.returncode, done.stdout, done.stderr[-80:], wanted.output, wanted.errors[-80:]))
-    if limited(b"", ENOUGH - 400 * 1024).returncode >= 0:
-        failed += 1
-        print("a much smaller stack is enough too: this measures nothing")
-    print("%d passed, %d failed" % (len(RUNS) + 1 - failed, failed))
-    sys.exit(1 if failed else 0)
+        judge(name, (done.returncode, done.stdout, done.stderr) == (0, wanted.output, wanted.errors),
+              "exit status %d in 1 MiB of stack, %.40r and %r instead of %.40r and %r" % (
+                  done.returncode, done.stdout, done.stderr[-80:], wanted.output, wanted.errors[-80:]))
+    judge("a much smaller stack", limited(b"", ENOUGH - 400 * 1024).returncode < 0, "it is enough too: this measures nothing")
+    finish()
 
 
 main()

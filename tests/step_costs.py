@@ -10,12 +10,14 @@ import os
 import sys
 
 sys.dont_write_bytecode = True
-ROOT = os.path.dirname(os.path.dirname(os.path.abspath(__file__)))
-sys.path[:0] = [os.path.join(ROOT, "bench"), os.path.join(ROOT, "tests")]
+HERE = os.path.dirname(os.path.abspath(__file__))
+sys.path.insert(0, os.path.join(HERE, "..", "bench"))
 from counted import Counter  # noqa: E402
+from places import program  # noqa: E402
+from tally import fail, finish, judge  # noqa: E402
 from worst_texts import WORST, without_text  # noqa: E402
 
-PROGRAM = os.path.join(ROOT, "target", "bin", "expand")
+PROGRAM = program("expand")
 SMALL, LARGE = 15000, 60000
 LEAST, MOST = 2.0, 5.0
 SAME = 1.01
@@ -50,19 +52,16 @@ def fault_of(small, large, grows):
 
 def main():
     chosen = {name: make for name, make in WORST.items() if not sys.argv[1:] or any(name.startswith(word) for word in sys.argv[1:])}
-    counter, passed, failed = Counter(), 0, len(without_text())
+    counter = Counter()
     for name in without_text():
-        print("%s: there is no text for it" % name)
+        fail("%s: there is no text for it" % name)
     print("%-25s %12s %12s %7s" % ("step of", "16 KB", "64 KB", "ratio"))
     for name, make in chosen.items():
         (small, first), (large, second) = (cost(counter, make(n)) for n in (SMALL, LARGE))
         fault = fault_of(small, large, make(SMALL).grows) if first and second else "another answer than it should be"
         print("%-25s %12d %12d %7.2f" % (name, small, large, large / small if small else 0), flush=True)
-        passed, failed = passed + (fault is None), failed + (fault is not None)
-        if fault:
-            print("%s: %s" % (name, fault))
-    print("%d passed, %d failed" % (passed, failed + (not chosen)))
-    sys.exit(1 if failed or not chosen else 0)
+        judge(name, fault is None, fault)
+    finish()
 
 
 main()

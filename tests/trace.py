@@ -10,7 +10,10 @@ import os
 import re
 import sys
 
-ROOT = os.path.dirname(os.path.dirname(os.path.abspath(__file__)))
+sys.dont_write_bytecode = True
+from places import ROOT  # noqa: E402
+from tally import check, fail, finish, judge  # noqa: E402
+
 PUB = r"(?:pub(?:\(\w+\))? )?"
 
 
@@ -88,31 +91,27 @@ def rows():
 
 
 def main():
-    passed, wrong, cited = 0, [], {}
+    cited = {}
     for kind, (text, wanted) in SAMPLES.items():
-        got = DECLARED[kind](text)
-        passed += got == wanted
-        wrong += ["sample %s declares %s, not %s" % (kind, sorted(wanted), sorted(got))] if got != wanted else []
+        check("what the sample %s declares" % kind, sorted(DECLARED[kind](text)), sorted(wanted))
     for number, cells in rows():
         path = os.path.join(ROOT, cells[-1])
         names = re.findall(r"`([^`]+)`", cells[1])
         if len(cells) != 3 or not names or not os.path.exists(path):
-            wrong.append("line %d: not three cells, no name in the second, or no file in the third" % number)
+            fail("line %d: not three cells, no name in the second, or no file in the third" % number)
             continue
         known = DECLARED.get(os.path.splitext(path)[1], lambda text: ())(read(path))
         cited.setdefault(path, set()).update(names)
-        passed += sum(name in known for name in names)
-        wrong += ["line %d: `%s` is not declared in %s" % (number, name, cells[2]) for name in names if name not in known]
-    for line in wrong + ([] if cited else ["docs/TRACE.md has no row"]):
-        print(line)
+        for name in names:
+            judge("line %d" % number, name in known, "`%s` is not declared in %s" % (name, cells[2]))
+    if not cited:
+        fail("docs/TRACE.md has no row")
     for name in sorted(os.listdir(os.path.join(ROOT, "crates", "rules", "specs"))) if "--helpers" in sys.argv[1:] else ():
         path = os.path.join(ROOT, "crates", "rules", "specs", name)
         helpers = [n for n in re.findall(r"^unfoldable pub (\S+) :", read(path), re.M) if n not in cited.get(path, ())]
         if helpers:
             print("helpers in %s: %s" % (name, " ".join(helpers)))
-    failed = len(wrong) + (not cited)
-    print("%d passed, %d failed" % (passed, failed))
-    sys.exit(1 if failed else 0)
+    finish()
 
 
 main()

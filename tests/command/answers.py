@@ -2,7 +2,8 @@
 import os
 import re
 
-from common import FIVE, check, get, put, run
+from common import FIVE, get, put, run
+from tally import check
 
 
 # Text, options, exit status, output, error text, the six numbers.

@@ -4,7 +4,9 @@ import pty
 import socket
 import subprocess
 
-from common import COMMAND, FIVE, check, complained, contents, furnished, get, put, shell
+from common import FIVE, complained, contents, furnished, get, put, shell
+from places import COMMAND
+from tally import check
 
 
 # Two of the run's files are one: a line for the shell, and what the complaint calls the two.

@@ -1,35 +1,14 @@
-"""What the judges of the crate and the command share: how a check is counted, how the command is run, files with their bytes."""
+"""What the judges of the crate and the command share: how the command is run, files with their bytes."""
 import os
 import shutil
 import stat
 import subprocess
-import sys
 import tempfile
 
-ROOT = os.path.dirname(os.path.dirname(os.path.dirname(os.path.abspath(__file__))))
+from places import COMMAND, ROOT
+
 CRATE = os.path.join(ROOT, "rust")
-BUILT = os.path.join(ROOT, "target", "rust")
-COMMAND = os.path.join(BUILT, "release", "quenhovach")
 FIVE = b"define(`n',`5')n"
-passed = 0
-failed = 0
-
-
-def count(good, bad):
-    global passed, failed
-    passed += good
-    failed += bad
-
-
-def check(name, got, expected):
-    count(got == expected, got != expected)
-    if got != expected:
-        print("%s: expected %.300r, got %.300r" % (name, expected, got))
-
-
-def finish():
-    print("%d passed, %d failed" % (passed, failed))
-    sys.exit(1 if failed else 0)
 
 
 def run(options, text=b"", **how):

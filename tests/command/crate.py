@@ -3,9 +3,11 @@ import os
 import re
 import subprocess
 
-from common import BUILT, CRATE, check, count, finish
+from common import CRATE
+from places import RUST
+from tally import check, count, finish
 
-ENVIRONMENT = dict(os.environ, CARGO_TARGET_DIR=BUILT)
+ENVIRONMENT = dict(os.environ, CARGO_TARGET_DIR=RUST)
 
 
 def cargo(*arguments, **environment):

@@ -5,7 +5,9 @@ import shutil
 import stat
 import subprocess
 
-from common import COMMAND, FIVE, check, complained, get, put, run, run_as_nobody, run_shell, shell
+from common import FIVE, complained, get, put, run, run_as_nobody, run_shell, shell
+from places import COMMAND
+from tally import check
 
 
 def inputs(folder):

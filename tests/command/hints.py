@@ -3,8 +3,10 @@ import os
 import re
 import time
 
-from common import CRATE, ROOT, check, get, put, run, run_shell
+from common import CRATE, get, put, run, run_shell
+from places import ROOT
 from several import written
+from tally import check
 
 GAP = "there is a blank between `%s` and `(`, so it is plain text; without the blank it is a call"
 NEWLINE = GAP.replace("blank", "newline")

@@ -6,7 +6,9 @@ import resource
 import signal
 import subprocess
 
-from common import COMMAND, check, get, put
+from common import get, put
+from places import COMMAND
+from tally import check
 
 
 class Held:

@@ -11,7 +11,9 @@ import subprocess
 import termios
 import time
 
-from common import COMMAND, check, get, put
+from common import get, put
+from places import COMMAND
+from tally import check
 
 LINE = re.compile(r"quenhovach: still expanding, (\d+) s")
 ENDLESS = b"define(`l',`l')l"

@@ -3,7 +3,9 @@ import os
 import subprocess
 
 from answers import caret
-from common import COMMAND, FIVE, check, complained, contents, furnished, get, put, run, run_as_nobody, shell
+from common import FIVE, complained, contents, furnished, get, put, run, run_as_nobody, shell
+from places import COMMAND
+from tally import check
 
 # The texts of the templates, - for standard input with its text, the sheet.
 JOINED = [

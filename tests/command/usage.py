@@ -4,7 +4,9 @@ import re
 import shutil
 import subprocess
 
-from common import CRATE, FIVE, ROOT, check, get, put, run
+from common import CRATE, FIVE, get, put, run
+from places import ROOT
+from tally import check
 
 MANUAL = os.path.join(ROOT, "docs", "quenhovach.1")
 

@@ -4,7 +4,8 @@ import re
 import unicodedata
 
 from answers import caret
-from common import CRATE, check, get, run
+from common import CRATE, get, run
+from tally import check
 
 # What stands before an open quote, how it is shown if otherwise, and the column under the quote.
 LINES = [

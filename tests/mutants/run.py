@@ -21,10 +21,12 @@ import tempfile
 import time
 
 sys.dont_write_bytecode = True
-from build import PROGRAMS, BuildError, build
-
 HERE = os.path.dirname(os.path.abspath(__file__))
-ROOT = os.path.dirname(os.path.dirname(HERE))
+sys.path.insert(0, os.path.join(HERE, ".."))
+import tally  # noqa: E402
+from build import PROGRAMS, BuildError, build  # noqa: E402
+from places import ROOT  # noqa: E402
+
 TABLE = os.path.join(ROOT, "docs", "MUTANTS.md")
 SEED, CASES = "1", "20000"
 PATIENCE = 900
@@ -215,6 +217,7 @@ def try_edits(tree, edits):
         except BuildError as fault:
             caught, told = [], "NOT BUILT: %s" % fault
         print("%s: %s (%d s)" % (edit.name, told, time.time() - began), flush=True)
+        tally.count(bool(caught), not caught)
         rows.append((edit, caught))
     return rows
 
@@ -240,21 +243,20 @@ def main():
     if unknown:
         sys.exit("no such edit: %s" % ", ".join(sorted(unknown)))
     began = time.time()
-    rows, passed = [], 0
+    rows = []
     with tempfile.TemporaryDirectory() as folder:
         tree = os.path.join(folder, "tree")
         shutil.copytree(ROOT, tree, ignore=shutil.ignore_patterns(".git", "target", "__pycache__"))
         tried = [test[0] for test in TESTS]
-        if clean_passes(tree):
+        clean = clean_passes(tree)
+        tally.count(clean, not clean)
+        if clean:
             print("the source as it stands passes %s (%d s)" % (", ".join(tried), time.time() - began), flush=True)
             rows = try_edits(tree, [edit for edit in edits if not names or edit.name in names])
-            passed = 1 + sum(1 for _, caught in rows if caught)
-    failed = 1 + len(rows) - passed
-    if "--table" in sys.argv and failed == 0:
+    if "--table" in sys.argv and tally.failed == 0:
         kept, minutes = standing() if names else ({}, round((time.time() - began) / 60))
         write(TABLE, page(rows, minutes, tried, {edit.name: kept[edit.name] for edit in edits if edit.name in kept}))
-    print("%d passed, %d failed" % (passed, failed))
-    sys.exit(1 if failed else 0)
+    tally.finish()
 
 
 if __name__ == "__main__":
