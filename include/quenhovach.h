@@ -103,7 +103,7 @@ enum {
  *   - Each pointer leads to as many bytes as the length behind it says. With length 0 it may be null. `report` leads to six numbers and
  *     is not null.
  *   - The text, the seven buffers and the report do not overlap each other, and nothing else writes to them during the call.
- *   - The calling thread has 1 MiB of stack left. (Less was needed in every test; tests/stack.py holds the expander to it.)
+ *   - The calling thread has 1 MiB of stack left. (Less was needed in every test; tests/costs/stack.py holds the expander to it.)
  *
  * The function keeps no state between calls and uses no heap. It may run in several threads at once, each with its own buffers.
  */

@@ -22,7 +22,7 @@ import time
 
 sys.dont_write_bytecode = True
 HERE = os.path.dirname(os.path.abspath(__file__))
-sys.path.insert(0, os.path.join(HERE, ".."))
+sys.path.insert(0, os.path.join(HERE, "..", "shared"))
 import tally  # noqa: E402
 from build import PROGRAMS, BuildError, build  # noqa: E402
 from places import ROOT  # noqa: E402
@@ -33,17 +33,17 @@ PATIENCE = 900
 
 # name, file and words of each test, in the order in which they are run
 TESTS = [
-    ("expand_program", "tests/expand_program.py", []),
-    ("c_example", "tests/c_example.py", []),
+    ("expand_program", "tests/interfaces/expand_program.py", []),
+    ("c_example", "tests/interfaces/c_example.py", []),
     ("worked_texts", "crates/worked_texts/stdout", None),
-    ("differential", "tests/differential.sh", [SEED, CASES]),
-    ("gnu", "tests/gnu.py", []),
-    ("examples", "tests/examples.py", []),
-    ("stack", "tests/stack.py", []),
-    ("lines_cost", "tests/lines_cost.py", []),
-    ("step_costs", "tests/step_costs.py", []),
+    ("differential", "tests/differential/run", [SEED, CASES]),
+    ("gnu", "tests/gnu/run.py", []),
+    ("examples", "tests/documents/examples.py", []),
+    ("stack", "tests/costs/stack.py", []),
+    ("lines_cost", "tests/costs/lines_cost.py", []),
+    ("step_costs", "tests/costs/step_costs.py", []),
 ]
-# What a failed part of tests/differential.sh shows: words of its name, words of what it says or its exit status, and the name for it. The first row that
+# What a failed part of tests/differential/run shows: words of its name, words of what it says or its exit status, and the name for it. The first row that
 # fits counts. Most parts compare random cases with the model; a trap and valgrind's exit status 9 show more than that.
 PARTS = [
     ("vectors.tsv", "", "vectors"),
@@ -69,7 +69,7 @@ judge compiled code. No proof is asked for here, to see what the tests notice by
     python3 tests/mutants/run.py --table
 
 writes this page. It is not part of `./test`, since it takes long: %d minutes on %d cores for the last run of all, with seed %s and %s cases
-in tests/differential.sh. Rows of mutants that came later, or were changed, are tried by themselves and put in, by their names behind `--table`.
+in tests/differential/run. Rows of mutants that came later, or were changed, are tried by themselves and put in, by their names behind `--table`.
 First the source as it stands was built in the same way each time, and passed all of these tests:
 %s.
 
@@ -77,7 +77,7 @@ First the source as it stands was built in the same way each time, and passed al
 |---|---|---|
 """
 FOOT = """
-Of `differential` (tests/differential.sh) the table names what showed the fault: `vectors`, the lines of tests/vectors.tsv through the archive; `each byte` wherever
+Of `differential` (tests/differential/run) the table names what showed the fault: `vectors`, the lines of tests/vectors.tsv through the archive; `each byte` wherever
 its class is asked for, `each name` that is predefined wherever it may stand, `open comments` wherever one may begin, and `random cases`, on which archive and
 model differ; `lines.tsv`, the vectors of the index of lines, `counting` through the text, which gives another line, start or index, and `random indexes`, on which
 archive and model differ; `third demand`, two settings that break the letter's third demand; `huge lengths`, above 4,294,967,295; `trap`, a read or write outside of
@@ -143,7 +143,7 @@ def finished(words, tree):
 
 
 def failed_parts(said):
-    """What the parts of tests/differential.sh that failed show, each once."""
+    """What the parts of tests/differential/run that failed show, each once."""
     found = re.findall(r"^(.*): (exit status \d+ instead of \d+\n(?:(?!.*: (?:exit status|as it should be)).*\n)*)", said, re.M)
     return list(dict.fromkeys(next(short for name, sign, short in PARTS if name in part and sign in told) for part, told in found))
 

@@ -1,4 +1,4 @@
-//! The names and characters that the scan for likely mistakes knows. tests/command/hints.py holds the names to the book of rules.
+//! The names and characters that the scan for likely mistakes knows. tests/interfaces/command/hints.py holds the names to the book of rules.
 
 /// Predefined names that are plain text unless `(` directly follows.
 const NEED_CALL: [&str; 17] = [

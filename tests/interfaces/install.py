@@ -14,6 +14,7 @@ import sys
 import tempfile
 
 sys.dont_write_bytecode = True
+sys.path.insert(0, os.path.join(os.path.dirname(os.path.abspath(__file__)), "..", "shared"))
 from places import ARCHIVE, COMMAND, ROOT, RUST  # noqa: E402
 from tally import check, finish  # noqa: E402
 
@@ -357,7 +358,7 @@ def nobody(folder):
 
 def main():
     ready = []
-    for path, how in ((ARCHIVE, "rt staticlib quenhovach"), (COMMAND, "tests/command.py")):
+    for path, how in ((ARCHIVE, "rt staticlib quenhovach"), (COMMAND, "tests/interfaces/command/run.py")):
         ready.append(check("%s is there (%s builds it)" % (os.path.relpath(path, ROOT), how), os.path.exists(path), True))
     for tool in ("pkg-config", "groff", "gcc", "readelf"):
         ready.append(check(tool + " is installed", shutil.which(tool) is not None, True))

@@ -1,4 +1,4 @@
-/* The driver of tests/lines_cost.py. It reads questions, 'FUNCTION LENGTH EVERY NUMBER', makes the text of this length in which every so many-th byte is a
+/* The driver of lines_cost.py. It reads questions, 'FUNCTION LENGTH EVERY NUMBER', makes the text of this length in which every so many-th byte is a
  * newline (none if 0), builds its index, asks the function for this place or line, and writes the answer and the line or start. All room is lent every time. */
 #include <inttypes.h>
 #include <stdio.h>

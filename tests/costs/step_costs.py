@@ -1,7 +1,7 @@
 #!/usr/bin/env python3
 """step_costs.py [NAME..]: what one step of each macro costs at its worst, in instructions (bench/counted.py).
 
-For each of the texts of tests/worst_texts.py two runs are counted that differ by the step in question, with about 16 KB and with about 64 KB of argument,
+For each of the texts of worst_texts.py two runs are counted that differ by the step in question, with about 16 KB and with about 64 KB of argument,
 definitions, streams or text before it. Where the step costs a fixed number of passes over that, the second is four times the first; it may be at most
 five times, and less than twice would say that the text is not the macro's worst. A step that passes over nothing must cost the same. Each run must give what is
 written there. Names are beginnings of those of the texts. Ends with 'N passed, M failed'; exit status 0 only if M is 0.
@@ -11,7 +11,7 @@ import sys
 
 sys.dont_write_bytecode = True
 HERE = os.path.dirname(os.path.abspath(__file__))
-sys.path.insert(0, os.path.join(HERE, "..", "bench"))
+sys.path[:0] = [os.path.join(HERE, "..", "shared"), os.path.join(HERE, "..", "..", "bench")]
 from counted import Counter  # noqa: E402
 from places import program  # noqa: E402
 from tally import fail, finish, judge  # noqa: E402

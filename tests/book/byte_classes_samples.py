@@ -1,4 +1,4 @@
-"""What tests/byte_classes.py must find, and what it must not: ways to write a range or a list of bytes, and what looks like one."""
+"""What byte_classes.py must find, and what it must not: ways to write a range or a list of bytes, and what looks like one."""
 
 FOUND_IN_CODE = [
     "    if 48 <= x && x <= 57 {",

@@ -2,15 +2,17 @@
 """A whole call of `expand` needs at most 1 MiB of stack.
 
 The program lends its own buffers from the stack, 524,289 bytes; it is run with a stack limit of that, 1 MiB and 16 KB for the start of a process, on the worst
-texts of each macro (tests/worst_texts.py) and on those here, and must give what is written there. Nothing of the expander calls itself but the readers of an
+texts of each macro (worst_texts.py) and on those here, and must give what is written there. Nothing of the expander calls itself but the readers of an
 expression, so these have the deepest stack: 32 nestings, with an operator of each level open in every one of them and inside the last.
 A limit that is 400 KB smaller must end the program by a signal, or the limit would show nothing. Ends with 'N passed, M failed'; exit status 0 only if M is 0.
 """
+import os
 import resource
 import subprocess
 import sys
 
 sys.dont_write_bytecode = True
+sys.path.insert(0, os.path.join(os.path.dirname(os.path.abspath(__file__)), "..", "shared"))
 from places import program  # noqa: E402
 from tally import finish, judge  # noqa: E402
 from worst_texts import END, WORST, Piece, joined, made, opened, run  # noqa: E402

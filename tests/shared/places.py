@@ -2,7 +2,7 @@
 import os
 import subprocess
 
-ROOT = os.path.dirname(os.path.dirname(os.path.abspath(__file__)))
+ROOT = os.path.dirname(os.path.dirname(os.path.dirname(os.path.abspath(__file__))))
 # the library, from `rt staticlib quenhovach`
 ARCHIVE = os.path.join(ROOT, "target", "staticlib", "libquenhovach.a")
 # the crate in rust/ is built here, and the command with it

@@ -11,6 +11,7 @@ import sys
 import tempfile
 
 sys.dont_write_bytecode = True
+sys.path.insert(0, os.path.join(os.path.dirname(os.path.abspath(__file__)), "..", "shared"))
 import c_lines  # noqa: E402
 from places import ARCHIVE, ROOT  # noqa: E402
 from tally import check, finish, stop  # noqa: E402

@@ -2,7 +2,7 @@
 """edits.py [ROOT]: each must-fail edit that `rt ci` tried was refused at the promise, and not because a proof file no longer fits the edited code.
 
 Reads the logs that `rt ci` left under target/must-fail (of ROOT, by default this repository). Where a crate has functions, its edits are held to what
-tests/refused.py says, and each of its public functions has two; the edits of the book's definitions only have to be refused for a fact. An edit fails
+refused.py says, and each of its public functions has two; the edits of the book's definitions only have to be refused for a fact. An edit fails
 where its log is missing or has no refusal of a proof, or has a line that says that the code has no need of a name which the proof file answers: such a refusal shows nothing.
 Ends with 'N passed, M failed'; exit status 0 only if M is 0.
 """
@@ -12,6 +12,7 @@ import re
 import sys
 
 sys.dont_write_bytecode = True
+sys.path.insert(0, os.path.join(os.path.dirname(os.path.abspath(__file__)), "..", "shared"))
 import places  # noqa: E402
 import refused  # noqa: E402
 from tally import count, fail, finish  # noqa: E402

@@ -1,7 +1,7 @@
 #!/usr/bin/env python3
 """The expander from Python: examples/python/quenhovach.py over a shared object that is made of target/staticlib/libquenhovach.a as its README says.
 
-Every expected answer and byte is written by hand from document 01, and line and column counted through the text; those of the README's example are in tests/c_example.py and tests/examples.py too.
+Every expected answer and byte is written by hand from document 01, and line and column counted through the text; those of the README's example are in c_example.py and tests/documents/examples.py too.
 Ends with 'N passed, M failed'; exit status 0 only if M is 0.
 """
 import ast
@@ -17,6 +17,7 @@ import tempfile
 import threading
 
 sys.dont_write_bytecode = True
+sys.path.insert(0, os.path.join(os.path.dirname(os.path.abspath(__file__)), "..", "shared"))
 from places import ARCHIVE, ROOT  # noqa: E402
 from tally import check, finish, stop  # noqa: E402
 

@@ -2,7 +2,7 @@
 """incremental_edits.py [CRATE..]: the must-fail edits of the crates with code below the programs, over an incremental check.
 
 `rt ci` pays a check of the whole crate for each edit of crates/NAME/must-fail. So the edits of these crates stand in tests/edits/CRATE, in the same
-form (tests/refused.py), and are tried here in a copy of what they need, as many at once as don't touch the same function:
+form (refused.py), and are tried here in a copy of what they need, as many at once as don't touch the same function:
 each changes bodies only, and a function is proved from its own body and its callees' contracts, so no edit can hide another. A check has to refuse the
 functions of each edit, each in its own proof and at its promise, and none that no edit touches; what rests on one of these is not counted. An edit that was
 refused because the proof file does not fit the edited code fails. So does a public function with fewer than two edits, or with none that is refused at `returns`.
@@ -20,6 +20,7 @@ import tempfile
 import time
 
 sys.dont_write_bytecode = True
+sys.path.insert(0, os.path.join(os.path.dirname(os.path.abspath(__file__)), "..", "shared"))
 import refused  # noqa: E402
 from places import ROOT  # noqa: E402
 from tally import count, fail, finish  # noqa: E402

@@ -10,6 +10,7 @@ import sys
 import tempfile
 
 sys.dont_write_bytecode = True
+sys.path.insert(0, os.path.join(os.path.dirname(os.path.abspath(__file__)), "..", "shared"))
 from places import COMMAND, ROOT, build_command  # noqa: E402
 from tally import check, finish  # noqa: E402
 

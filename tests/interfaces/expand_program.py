@@ -1,9 +1,11 @@
 #!/usr/bin/env python3
 """The program `expand` from the outside: both of its streams, byte for byte, and exit status 0. A failed read or write is told, and no answer line follows."""
+import os
 import subprocess
 import sys
 
 sys.dont_write_bytecode = True
+sys.path.insert(0, os.path.join(os.path.dirname(os.path.abspath(__file__)), "..", "shared"))
 import tally  # noqa: E402
 from places import program  # noqa: E402
 

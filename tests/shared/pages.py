@@ -1,4 +1,4 @@
-"""How the pages of docs/ write an example down, for the tests that run them: gnu.py and language.py."""
+"""How the pages of docs/ write an example down, for the tests that run them: tests/gnu/run.py and tests/documents/language.py."""
 import collections
 import re
 

@@ -14,12 +14,13 @@ import sys
 import tempfile
 
 sys.dont_write_bytecode = True
+sys.path.insert(0, os.path.join(os.path.dirname(os.path.abspath(__file__)), "..", "shared"))
 from places import ROOT  # noqa: E402
 from tally import count, fail, finish  # noqa: E402
 
 LEFT_OUT = (lambda text: len(text) > 65536, lambda text: b"2147483647)" in text and text.startswith(b"eval(1,10,"))
 
-HEAD = """-- Made by tests/definitions.py.
+HEAD = """-- Made by tests/book/definitions.py.
 use Prim.Native.Nat.{ℕ}
 use mathlib.Core.Bool.{Bool, true, false, _&&_}
 use mathlib.Core.List.{List, [], _∷_, _++_}
@@ -122,7 +123,7 @@ def check(rows):
         with open(os.path.join(folder, "crates.txt"), "w") as f:
             f.write("rules:\ncomputed: rules\n")
         with open(os.path.join(computed, "src", "lib.rt"), "w") as f:
-            f.write("// Made by tests/definitions.py.\npub struct Line {\n    pub number: u32,\n}\n")
+            f.write("// Made by tests/book/definitions.py.\npub struct Line {\n    pub number: u32,\n}\n")
         with open(os.path.join(computed, "proofs", "Lib.antt"), "w") as f:
             f.write("pub mod Lines\n")
         with open(os.path.join(computed, "proofs", "Lines.antt"), "w") as f:

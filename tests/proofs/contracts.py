@@ -2,7 +2,7 @@
 """contracts.py [CRATE..]: nothing that a public function of the leaves promises can be dropped unseen.
 
 Not part of the gate: it takes minutes. For each public function, in a copy of the tree, its `ensures` lines are removed and its proof is made to fit (each
-`returns` answered by search). Then one of its must-fail edits has to be proved, which makes tests/incremental_edits.py fail. The callers in the crate whose
+`returns` answered by search). Then one of its must-fail edits has to be proved, which makes incremental_edits.py fail. The callers in the crate whose
 proofs break besides are listed. Ends with 'N passed, M failed'; exit status 0 only if M is 0.
 """
 import glob
@@ -12,6 +12,7 @@ import sys
 import tempfile
 
 sys.dont_write_bytecode = True
+sys.path.insert(0, os.path.join(os.path.dirname(os.path.abspath(__file__)), "..", "shared"))
 import incremental_edits as edits  # noqa: E402
 import refused  # noqa: E402
 from places import ROOT  # noqa: E402

@@ -14,6 +14,7 @@ import re
 import sys
 
 sys.dont_write_bytecode = True
+sys.path.insert(0, os.path.join(os.path.dirname(os.path.abspath(__file__)), "..", "shared"))
 import byte_classes_samples as samples  # noqa: E402
 from places import ROOT  # noqa: E402
 from tally import fail, finish, judge  # noqa: E402

@@ -13,6 +13,7 @@ import sys
 import tempfile
 
 sys.dont_write_bytecode = True
+sys.path.insert(0, os.path.join(os.path.dirname(os.path.abspath(__file__)), "..", "shared"))
 from pages import Given, did, plain, says  # noqa: E402
 from places import COMMAND, ROOT, build_command  # noqa: E402
 from tally import finish, judge  # noqa: E402

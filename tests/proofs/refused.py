@@ -1,4 +1,4 @@
-"""Must-fail edits, as tests/edits.py and tests/incremental_edits.py read them: what an edit says, the functions of a crate, where a check refused one.
+"""Must-fail edits, as edits.py and incremental_edits.py read them: what an edit says, the functions of a crate, where a check refused one.
 
 An edit is a remark, a line 'function: NAME' (MODULE::NAME, MODULE::TYPE::NAME), and 'file:', 'old:' and 'new:' lines. It changes the body of that function, or
 of a private one of its file that only it calls; an old text stands there just once, as a whole line or else as a part of one. The edit has to be refused in

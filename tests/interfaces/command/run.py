@@ -1,7 +1,7 @@
 #!/usr/bin/env python3
 """The crate in rust/ and the command `quenhovach`: builds both offline, runs the crate's tests, and tries the command from outside.
 
-Every expected text and number is written by hand from the rules. The judges are in tests/command. The last line is 'N passed, M failed'.
+Every expected text and number is written by hand from the rules. The judges are in the other files of this folder. The last line is 'N passed, M failed'.
 """
 import os
 import signal
@@ -9,7 +9,7 @@ import sys
 import tempfile
 
 sys.dont_write_bytecode = True
-sys.path.insert(0, os.path.join(os.path.dirname(os.path.abspath(__file__)), "command"))
+sys.path.insert(0, os.path.join(os.path.dirname(os.path.abspath(__file__)), "..", "..", "shared"))
 import answers  # noqa: E402
 import apart  # noqa: E402
 import crate  # noqa: E402

@@ -11,6 +11,7 @@ import re
 import sys
 
 sys.dont_write_bytecode = True
+sys.path.insert(0, os.path.join(os.path.dirname(os.path.abspath(__file__)), "..", "shared"))
 from places import ROOT  # noqa: E402
 from tally import check, fail, finish, judge  # noqa: E402
 

@@ -1,5 +1,5 @@
 #!/usr/bin/env python3
-"""gnu.py [SEED COUNT] | --store: an independent m4, GNU m4, as the judge of the program `expand` where both have one rule.
+"""run.py [SEED COUNT] | --store: an independent m4, GNU m4, as the judge of the program `expand` where both have one rule.
 
 Compared are output, error text and exit number: the templates of tests/gnu/templates and the random texts of tests/gnu/random.jsonl with what GNU m4
 gave for them when they were stored, and with what it gives now, as `m4` and as `m4 -G`; then COUNT more random texts (tests/gnu/texts.py,
@@ -17,8 +17,8 @@ import subprocess
 import sys
 
 sys.dont_write_bytecode = True
-FOLDER = os.path.join(os.path.dirname(os.path.abspath(__file__)), "gnu")
-sys.path.insert(0, FOLDER)
+FOLDER = os.path.dirname(os.path.abspath(__file__))
+sys.path.insert(0, os.path.join(FOLDER, "..", "shared"))
 import texts  # noqa: E402
 from pages import Given, did, plain, says  # noqa: E402
 from places import ROOT, program  # noqa: E402
