@@ -4,8 +4,8 @@ use crate::archive::{call, lengths, AREAS, REPORT};
 use crate::case::Case;
 use crate::judge::judge;
 use crate::noise::{Noise, LONGEST};
-use crate::random::Random;
 use crate::windows::{lent_parts, Before, Window};
+use model::random::Random;
 use model::Report;
 
 /// The bytes before and behind what is lent that must not change.
@@ -37,7 +37,7 @@ impl Arenas {
 
     /// The windows for a case. Only the report has an alignment.
     pub fn windows(&mut self, case: &Case) -> [Window; AREAS] {
-        let mut random = Random::new(case.salt, AREAS as u64);
+        let mut random = Random::numbered(case.salt, AREAS as u64);
         let lengths = lengths(&case.text, &case.setting);
         std::array::from_fn(|area| {
             let memory = &mut self.memory[area];

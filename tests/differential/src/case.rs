@@ -1,8 +1,7 @@
 //! A case: a text, a setting, and what the lent memory holds before.
 
-use crate::generate::text;
-use crate::random::Random;
-use crate::setting::choose;
+use model::generate::{self, Scale};
+use model::random::Random;
 use model::table::{write, Row};
 use model::{Report, Setting};
 
@@ -17,9 +16,8 @@ pub struct Case {
 
 /// Makes case `index` of a seed.
 pub fn case(seed: u64, index: u64) -> Case {
-    let mut random = Random::new(seed, index);
-    let text = text(&mut random);
-    let setting = choose(&mut random, &text);
+    let mut random = Random::numbered(seed, index);
+    let generate::Case { text, setting } = generate::case(&mut random, Scale::Full);
     Case {
         text,
         setting,

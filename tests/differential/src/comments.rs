@@ -1,19 +1,15 @@
 //! Comments that no end mark closes, wherever one may begin, under marks of every kind: request 3 of
 //! 02. The archive against the model, with ample and with tight rooms.
 
-mod places;
-mod text;
-
 use crate::arenas::Arenas;
 use crate::case::{line, Case};
-use crate::setting::exact_and_shorter;
+use model::generate::comments::{
+    filled, fits, Marks, Outcome, Place, CONTENTS, ENDINGS, MARKS, PLACES, PLAIN,
+};
+use model::generate::setting::exact_and_shorter;
 use model::ways::remarks::Remarks;
-use model::{expand, expand_traced, Report, Setting, Trace};
-use places::Place;
-pub use places::PLACES;
+use model::{expand, expand_traced, Report, Setting, Trace, LIMIT};
 use std::collections::BTreeSet;
-pub use text::{filled, CONTENTS, ENDINGS, MARKS};
-use text::{fits, large, Marks, Outcome, PLAIN};
 
 /// More steps than any of the texts needs: a run that goes on without end is soon over.
 const STEPS: u32 = 20_000;
@@ -164,4 +160,25 @@ fn unseen(place: &Place, marks: &Marks) -> Vec<&'static str> {
             .any(|(name, count)| *name == way && *count > 0)
     };
     ways.iter().copied().filter(|way| !taken(way)).collect()
+}
+
+/// A comment of a whole text, and one of pending text and input that no buffer can hold; with the
+/// number and the detail of the answer.
+fn large() -> [(Vec<u8>, (u32, u32)); 5] {
+    let whole = |last: u8| [&b"#"[..], &[b'a'; LIMIT - 2], &[last]].concat();
+    let twice = "define(`d',`define(`x',defn(`x')defn(`x'))')define(`x',`#a')";
+    let across = |before: &str| {
+        let mut text = [before, twice, &"d ".repeat(14), "x()"]
+            .concat()
+            .into_bytes();
+        text.resize(LIMIT, b'b');
+        text
+    };
+    [
+        (whole(b'a'), (0, 0)),
+        (whole(b'\n'), (0, 0)),
+        (across(""), (4, 7)),
+        (across("divert(-1)"), (0, 0)),
+        (across("m4wrap(`c')divert(10)"), (0, 0)),
+    ]
 }

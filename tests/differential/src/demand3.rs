@@ -4,31 +4,20 @@
 use crate::archive::call;
 use crate::arenas::Arenas;
 use crate::case::Case;
-use crate::generate::text;
 use crate::judge::reported;
-use crate::random::Random;
-use crate::setting::{close, probe};
 use crate::supervise::{supervise, End, Progress};
 use crate::tally::ENOUGH;
 use crate::windows::{lent_parts, Before};
+use model::generate::{pair, Pair, Scale};
+use model::random::Random;
 use model::table::hex;
-use model::{Setting, LIMIT};
+use model::Setting;
 
 /// The answers of runs that were stopped by their setting.
 const SPENT: u32 = 3;
 const ROOM: u32 = 4;
 /// After so many violations a run stops.
 const PATIENCE: usize = 3;
-
-/// A text and two settings, "none above 65,536 bytes" and "the second nowhere smaller than the
-/// first".
-#[derive(Clone, Debug)]
-pub struct Pair {
-    pub text: Vec<u8>,
-    pub settings: [Setting; 2],
-    /// Two, so that the lent memory of the runs differs.
-    salts: [u64; 2],
-}
 
 /// What a run gives: "number, detail, completed steps, place and both counts" and "written bytes".
 #[derive(Clone, Debug, PartialEq, Eq)]
@@ -71,34 +60,11 @@ pub fn check(settings: &[Setting; 2], first: &Ran, second: &Ran) -> Result<Sente
     Ok(Sentence::AsFar)
 }
 
-/// Makes pair `index` of a seed.
-pub fn pair(seed: u64, index: u64) -> Pair {
-    let mut random = Random::new(seed, index);
-    let text = text(&mut random);
-    let probe = probe(&mut random, &text);
-    let first = close(&mut random, &probe);
-    let second = no_smaller(&mut random, &first, probe.budget);
-    Pair {
-        text,
-        settings: [first, second],
-        salts: [random.bits(), random.bits()],
-    }
-}
-
-fn no_smaller(random: &mut Random, first: &Setting, steps: u32) -> Setting {
-    let mut second = first.clone();
-    let often = random.pick(&[10, 30, 60, 100]);
-    for length in &mut second.lengths {
-        if random.chance(often) {
-            *length = (*length + random.pick(&[1, 1, 2, 10, 1_000, LIMIT])).min(LIMIT);
-        }
-    }
-    if random.chance(often) {
-        second.budget = second
-            .budget
-            .saturating_add(random.pick(&[1, 1, 2, 10, 500, steps]));
-    }
-    second
+/// Makes pair `index` of a seed, and two salts, so that the lent memory of the runs differs.
+fn salted_pair(seed: u64, index: u64) -> (Pair, [u64; 2]) {
+    let mut random = Random::numbered(seed, index);
+    let pair = pair(&mut random, Scale::Full);
+    (pair, [random.bits(), random.bits()])
 }
 
 /// Runs a text in noise.
@@ -141,9 +107,8 @@ fn check_all(progress: &Progress, seed: u64, count: u64, first: u64) -> bool {
     let mut failed = 0;
     for index in first..first + count {
         progress.at(index);
-        let pair = pair(seed, index);
-        let [one, two] =
-            [0, 1].map(|i| run(&mut arenas, &pair.text, &pair.settings[i], pair.salts[i]));
+        let (pair, salts) = salted_pair(seed, index);
+        let [one, two] = [0, 1].map(|i| run(&mut arenas, &pair.text, &pair.settings[i], salts[i]));
         answers[(one.numbers[0] as usize).min(13)] += 1;
         match check(&pair.settings, &one, &two) {
             Ok(sentence) => spoke[sentence as usize] += 1,

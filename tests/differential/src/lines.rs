@@ -10,7 +10,6 @@ mod judge;
 mod memcheck;
 mod noticed;
 
-use crate::random::Random;
 use crate::supervise::{all_pass, supervise, End, Progress};
 use crate::tally::all_reached;
 use arenas::Arenas;
@@ -19,6 +18,7 @@ pub use fences::random_cases as between_fences;
 pub use huge::huge_lengths;
 pub use memcheck::random_cases as under_valgrind;
 use model::lines::case::Case;
+use model::random::Random;
 use model::table::judge::lines;
 use model::table::lines::{read, write, Row};
 use model::ways::lines::Lines;
@@ -29,9 +29,8 @@ const PRINTED: usize = 2_000;
 
 /// Makes case `index` of a seed, and its salt, which decides what is around it, and its alignment.
 fn case(seed: u64, index: u64) -> (Case, u64) {
-    let mut random = Random::new(seed, index);
-    let mut numbers = model::random::Random::new(random.bits());
-    (model::generate::lines::case(&mut numbers), random.bits())
+    let mut random = Random::numbered(seed, index);
+    (model::generate::lines::case(&mut random), random.bits())
 }
 
 /// Runs `count` random cases from number `first` on. True if all agree and every way was taken.

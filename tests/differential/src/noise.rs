@@ -1,6 +1,6 @@
 //! What the lent memory holds before a call: bytes that no run may look at or change by mistake.
 
-use crate::random::Random;
+use model::random::Random;
 
 /// No window of lent memory with its surroundings is longer.
 pub const LONGEST: usize = 2 * 65_536;
@@ -12,7 +12,7 @@ pub struct Noise {
 
 impl Noise {
     pub fn new() -> Noise {
-        let mut random = Random::new(0, 0);
+        let mut random = Random::numbered(0, 0);
         let any: Vec<u8> = (0..=255).collect();
         let length = 2 * LONGEST;
         let like_text = b"a`b'(len,f)#\n$1 ".repeat(length / 16);
@@ -28,7 +28,7 @@ impl Noise {
 
     /// The bytes that memory number `area` holds before the case with this salt. Most are random.
     pub fn before(&self, salt: u64, area: usize, length: usize) -> &[u8] {
-        let mut random = Random::new(salt, area as u64);
+        let mut random = Random::numbered(salt, area as u64);
         let block = &self.blocks[random.pick(&[0, 0, 0, 0, 0, 0, 0, 0, 0, 0, 0, 0, 1, 1, 2, 3])];
         let from = random.below(block.len() - length);
         &block[from..from + length]

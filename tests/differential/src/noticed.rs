@@ -8,9 +8,9 @@ use crate::demand3::{check, Ran, Sentence};
 use crate::fences::{Fences, Side};
 use crate::judge::judge;
 use crate::noted::ways_noted;
-use crate::random::Random;
 use crate::supervise::{libc, supervise, End};
 use crate::windows::{lent_parts, Before, Seen};
+use model::random::Random;
 use model::{expand, Setting};
 
 /// How many calls are tampered with, and the seed of their cases.
@@ -73,7 +73,7 @@ pub fn tamper<const N: usize>(
     if judge(returned + 1, seen).is_ok() {
         return Err("another number returned is not noticed".to_string());
     }
-    let mut random = Random::new(SEED, index);
+    let mut random = Random::numbered(SEED, index);
     for area in 0..N {
         let (from, to) = (seen[area].lent.start, seen[area].lent.end);
         let around = random.pick(&[0, from - 1, to, seen[area].after.len() - 1]);

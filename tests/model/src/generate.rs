@@ -1,18 +1,32 @@
 //! Random texts with settings, from a seed. They are made to reach every macro and every answer of
 //! 01, and every way of a plain word and of a last comment of 02. Cases of the index of lines are made
 //! in [`lines`].
+//!
+//! A text comes from a grammar of plausible pieces ([`writer`]), from a scenario with a purpose
+//! ([`scenarios`], [`bare`], [`last`], [`heavy`]), from the table of vectors, or is a soup of words;
+//! then some of its bytes may be changed ([`mutate`]).
 
+mod bare;
+pub mod comments;
 mod expressions;
+mod heavy;
+mod last;
 pub mod lines;
-mod remarks;
-mod templates;
+mod marks;
+mod mutate;
+pub mod names;
+mod pairs;
+mod scenarios;
+pub mod setting;
 mod words;
 mod writer;
 
 use crate::answer::Setting;
 use crate::random::Random;
-use crate::run::{expand_traced, Trace};
-use crate::{Report, LIMIT};
+use crate::table;
+use crate::LIMIT;
+pub use pairs::{pair, Pair};
+use std::sync::OnceLock;
 use writer::Writer;
 
 /// A text and the setting to expand it with.
@@ -22,141 +36,98 @@ pub struct Case {
     pub setting: Setting,
 }
 
-/// The budget of the run that finds out what a text needs. Texts that want more steps get no more.
-const PROBE: u32 = 4_000;
+/// How much time a case may take.
+#[derive(Clone, Copy, Debug, PartialEq, Eq)]
+pub enum Scale {
+    /// Mostly short texts and at most a few thousand steps, for judges that take long for each.
+    Small,
+    /// Up to the longest texts and hundreds of thousands of steps.
+    Full,
+}
 
 /// Makes a case. The text is tried once with ample room, so that a setting can lie close to what it
 /// needs.
-pub fn case(random: &mut Random) -> Case {
-    let text = text(random);
-    let setting = setting(random, &text);
+pub fn case(random: &mut Random, scale: Scale) -> Case {
+    let text = text(random, scale);
+    let setting = setting::choose(random, &text, scale);
     Case { text, setting }
 }
 
 /// Makes a text, most of them short.
-pub fn text(random: &mut Random) -> Vec<u8> {
-    if random.below(700) == 0 {
-        return overlong(random);
-    }
-    let wild = random.pick(&[0, 0, 0, 2, 2, 5, 15]);
-    let length = if random.chance(3) {
-        1_500
-    } else {
-        random.between(10, 140)
+pub fn text(random: &mut Random, scale: Scale) -> Vec<u8> {
+    let mut text = match random.below(1_000) {
+        0 => return heavy::overlong(random),
+        1..=5 if scale == Scale::Full => heavy::heavy(random),
+        _ => plausible(random, scale),
     };
-    let mut text = Writer::new(random, wild).text(length);
-    if random.chance(15) {
-        damage(random, &mut text);
+    if random.chance(20) {
+        mutate::mutate(random, &mut text, scale);
     }
+    text.truncate(LIMIT + 40_000);
     text
 }
 
-/// A text that is as long as may be, or a little longer.
-fn overlong(random: &mut Random) -> Vec<u8> {
-    let length = LIMIT + random.below(3);
-    let mut text = vec![b'\n'; length];
-    text[..4].copy_from_slice(b"dnl ");
-    text[length - 1] = b'x';
-    text
-}
-
-/// Changes, drops or adds a few bytes, or cuts the end off.
-fn damage(random: &mut Random, text: &mut Vec<u8>) {
-    for _ in 0..random.between(1, 3) {
-        let at = random.below(text.len() + 1);
-        let byte = random.pick(b"`'(),#$ \n0a_-\x00\xff");
-        match random.below(4) {
-            0 if at < text.len() => drop(text.remove(at)),
-            1 if at < text.len() => text[at] = byte,
-            2 if random.chance(30) => text.truncate(at),
-            _ => text.insert(at, byte),
-        }
-    }
-}
-
-/// Chooses lengths and budget with an eye on what the text needs.
-pub fn setting(random: &mut Random, text: &[u8]) -> Setting {
-    let (report, trace) = probe(text);
-    let mut setting = Setting::ample();
-    if report.number == 3 {
-        setting.budget = random.below(PROBE as usize) as u32;
-    }
+/// A text as it comes from its source.
+fn plausible(random: &mut Random, scale: Scale) -> Vec<u8> {
     match random.below(100) {
-        0..=44 => {}
-        45..=69 => tighten_one(random, &mut setting, &trace),
-        70..=79 => tighten_all(random, &mut setting, &trace),
-        80..=91 => setting.budget = budget(random, report.steps),
-        92..=93 => setting.lengths[random.below(7)] = LIMIT + random.between(1, 3),
-        _ => tiny(random, &mut setting),
+        0..=34 => written(random, scale),
+        35..=53 => last::last(random),
+        54..=76 => scenarios::scenario(random),
+        77..=92 => bare::bare(random),
+        93..=96 => from_vectors(random),
+        _ => soup(random),
     }
-    setting
 }
 
-/// A budget that may do, often one that ends at the last steps.
-fn budget(random: &mut Random, needed: u32) -> u32 {
+/// Pieces of the grammar, sometimes behind or before a scenario.
+fn written(random: &mut Random, scale: Scale) -> Vec<u8> {
+    let wild = random.pick(&[0, 0, 0, 0, 1, 2, 2, 6, 15]);
+    let length = length(random, scale);
+    let mut text = Vec::new();
+    if random.chance(10) {
+        text = scenarios::scenario(random);
+    }
+    text.extend(Writer::new(random, wild).text(length));
+    if random.chance(8) {
+        text.extend(scenarios::scenario(random));
+    }
+    text
+}
+
+/// About how long a text of pieces becomes.
+fn length(random: &mut Random, scale: Scale) -> usize {
+    match (random.below(60), scale) {
+        (0, Scale::Full) => random.between(1_000, 6_000),
+        (1..=2, _) | (3..=8, Scale::Full) => random.between(200, 800),
+        (_, Scale::Full) => random.between(5, 200),
+        (_, Scale::Small) => random.between(5, 60),
+    }
+}
+
+/// A text of tests/vectors.tsv, or two of them joined.
+fn from_vectors(random: &mut Random) -> Vec<u8> {
+    static TEXTS: OnceLock<Vec<Vec<u8>>> = OnceLock::new();
+    let texts = TEXTS.get_or_init(|| {
+        let table = include_str!("../../vectors.tsv");
+        let rows = table
+            .lines()
+            .filter(|line| !line.starts_with('#'))
+            .map(table::read);
+        rows.map(|row| row.expect("a line of vectors").text)
+            .filter(|text| text.len() < 1_000)
+            .collect()
+    });
+    let mut text = texts[random.below(texts.len())].clone();
     if random.chance(40) {
-        needed.saturating_sub(random.below(3) as u32)
-    } else {
-        random.below(needed as usize + 2) as u32
+        text.extend(&texts[random.below(texts.len())]);
     }
+    text
 }
 
-/// What the text does with ample room.
-pub fn probe(text: &[u8]) -> (Report, Trace) {
-    let mut setting = Setting::ample();
-    setting.budget = PROBE;
-    expand_traced(text, &setting)
-}
-
-/// One buffer gets what is needed, or less; one that is used, if there is any.
-fn tighten_one(random: &mut Random, setting: &mut Setting, trace: &Trace) {
-    let buffer = used_buffer(random, trace);
-    let peak = trace.peaks[buffer];
-    setting.lengths[buffer] = match random.below(4) {
-        0 => peak,
-        1 => random.below(peak + 1),
-        _ => peak.saturating_sub(1),
-    };
-}
-
-/// A buffer that the text uses; streams, wrap text and error text, which few texts use, go first.
-fn used_buffer(random: &mut Random, trace: &Trace) -> usize {
-    let used: Vec<usize> = (0..7).filter(|&buffer| trace.peaks[buffer] > 0).collect();
-    let rare: Vec<usize> = used
-        .iter()
-        .copied()
-        .filter(|buffer| (3..=5).contains(buffer))
-        .collect();
-    if trace.peaks[3] > 0 && random.chance(50) {
-        3
-    } else if !rare.is_empty() && random.chance(70) {
-        random.pick(&rare)
-    } else if used.is_empty() {
-        random.below(7)
-    } else {
-        random.pick(&used)
-    }
-}
-
-/// All buffers get about what is needed.
-fn tighten_all(random: &mut Random, setting: &mut Setting, trace: &Trace) {
-    let short = random.chance(50);
-    for (length, peak) in setting.lengths.iter_mut().zip(trace.peaks) {
-        let missing = usize::from(short && random.chance(10));
-        *length = (peak + random.below(2) * random.below(3))
-            .saturating_sub(missing)
-            .min(LIMIT);
-    }
-}
-
-/// Hardly any room, and few steps.
-fn tiny(random: &mut Random, setting: &mut Setting) {
-    for length in &mut setting.lengths {
-        *length = random.below(12);
-    }
-    if random.chance(50) {
-        setting.budget = random.below(25) as u32;
-    }
+/// Names, marks, numbers and odd bytes without any order.
+fn soup(random: &mut Random) -> Vec<u8> {
+    let count = random.between(1, 60);
+    (0..count).flat_map(|_| words::any(random)).collect()
 }
 
 #[cfg(test)]
@@ -175,6 +146,7 @@ mod tests {
 
     #[test]
     fn cases_go_by_the_seed() {
-        go_by_the_seed(case);
+        go_by_the_seed(|random| case(random, Scale::Small));
+        go_by_the_seed(|random| case(random, Scale::Full));
     }
 }

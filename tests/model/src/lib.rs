@@ -9,8 +9,8 @@
 //! [`definitions`], [`streams`] and [`ahead`] hold; [`numbers`], [`eval`], [`expansion`] and
 //! [`macros`] work; [`step`] and [`run`] join them. [`lines`] stands by itself: it indexes a text
 //! and answers questions of the index. [`table`], [`random`], [`generate`] and [`demand3`] serve the
-//! programs `vectors`, `lines` and `random`. [`ways`] serves tests: it watches runs and looks at
-//! cases of the index, and no rule asks it.
+//! programs `vectors`, `lines` and `random`, and tests/differential. [`ways`] serves tests: it watches
+//! runs and looks at cases of the index. No rule asks any of these.
 
 pub mod ahead;
 pub mod answer;

@@ -3,6 +3,7 @@
 //! indexes that no text has against the forms that 01 names.
 
 use model::generate::lines::case;
+use model::generate::Scale;
 use model::lines::case::{Asked, Case};
 use model::lines::{build, counted_line, counted_start, line_of, start_of, words_of, Answer};
 use model::random::Random;
@@ -176,7 +177,7 @@ fn places_of_runs() {
     let mut random = Random::new(6);
     let mut open_calls = 0;
     for _ in 0..1_000 {
-        let run = model::generate::case(&mut random);
+        let run = model::generate::case(&mut random, Scale::Small);
         if run.text.len() > LIMIT {
             continue;
         }

@@ -1,8 +1,8 @@
 //! The generators reach every answer, every detail of 4 and 5, every macro and every way of requests
 //! 2, 3 and 6, and the third demand holds on random pairs.
 
-use model::demand3::{pair, try_pair};
-use model::generate::{case, lines};
+use model::demand3::try_pair;
+use model::generate::{case, lines, pair, Scale};
 use model::macros::Predefined;
 use model::random::Random;
 use model::ways::lines::Lines;
@@ -16,7 +16,7 @@ fn everything_is_reached() {
     let (mut answers, mut room, mut unclosed) = ([0; 14], [0; 8], [0; 4]);
     let mut calls = [0; 24];
     for _ in 0..2_000 {
-        let case = case(&mut random);
+        let case = case(&mut random, Scale::Small);
         let (report, trace) = expand_traced(&case.text, &case.setting);
         answers[report.number as usize] += 1;
         match report.number {
@@ -49,7 +49,7 @@ fn every_way_of_a_plain_word_is_reached() {
     let mut random = Random::new(1);
     let mut ways = Ways::default();
     for _ in 0..4_000 {
-        let case = case(&mut random);
+        let case = case(&mut random, Scale::Small);
         let verdict = ways.walk(&case.text, &expand(&case.text, &case.setting));
         assert_eq!(verdict, Ok(()), "{}", String::from_utf8_lossy(&case.text));
     }
@@ -71,7 +71,7 @@ fn every_way_of_a_last_comment_is_reached() {
     let mut random = Random::new(1);
     let mut remarks = Remarks::default();
     for _ in 0..4_000 {
-        let case = case(&mut random);
+        let case = case(&mut random, Scale::Small);
         let verdict = remarks.walk(&case.text, &expand(&case.text, &case.setting));
         assert_eq!(verdict, Ok(()), "{}", String::from_utf8_lossy(&case.text));
     }
@@ -97,7 +97,7 @@ fn every_way_of_the_index_of_lines_is_reached() {
 fn room_never_shapes_text() {
     let mut random = Random::new(3);
     for _ in 0..1_000 {
-        let pair = pair(&mut random);
+        let pair = pair(&mut random, Scale::Small);
         if let Err(violation) = try_pair(&mut random, &pair) {
             panic!("{violation}");
         }
@@ -110,7 +110,7 @@ fn room_never_shapes_text() {
 fn peaks_are_exact() {
     let mut random = Random::new(5);
     for _ in 0..500 {
-        let text = model::generate::text(&mut random);
+        let text = model::generate::text(&mut random, Scale::Small);
         let ample = Setting {
             budget: 4_000,
             ..Setting::ample()

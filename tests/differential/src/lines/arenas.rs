@@ -4,9 +4,9 @@ use super::archive::{call, given, lengths, AREAS, TEXT, TOTAL, TOTALS, WORD};
 use super::judge::judge;
 use crate::arenas::guarded;
 use crate::noise::{Noise, LONGEST};
-use crate::random::Random;
 use crate::windows::{lent_parts, Before, Seen, Window};
 use model::lines::case::Case;
+use model::random::Random;
 
 /// Alignment and guards need no more.
 const AROUND: usize = 64;
@@ -52,7 +52,7 @@ impl Arenas {
         salt: u64,
         look: impl FnOnce(u32, &[Seen; AREAS]) -> T,
     ) -> T {
-        let mut random = Random::new(salt, AREAS as u64);
+        let mut random = Random::numbered(salt, AREAS as u64);
         let windows = self.windows(case, &mut random);
         let before = Before::fill(&windows, &given(case), &self.noise, salt);
         let lent = lent_parts(&windows).map(|(start, length)| match length {

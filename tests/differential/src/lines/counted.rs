@@ -2,8 +2,8 @@
 //! and of the longest. Every place and every line is asked; the model has no part in it.
 
 use super::archive::{build, line_of, start_of};
-use crate::random::Random;
 use crate::supervise::try_each;
+use model::random::Random;
 use model::LIMIT;
 use std::fmt::{Debug, Display};
 use std::ops::RangeInclusive;
@@ -66,7 +66,7 @@ pub fn every_place() -> bool {
 }
 
 fn text((kind, length): (usize, usize)) -> Vec<u8> {
-    let mut random = Random::new(kind as u64, length as u64);
+    let mut random = Random::numbered(kind as u64, length as u64);
     let byte = KINDS[kind].1;
     (0..length)
         .map(|at| byte(at, length, &mut random))

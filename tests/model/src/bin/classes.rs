@@ -1,5 +1,5 @@
 //! `classes` prints a line for each byte from 0 to 255: its number in decimal, a space and its class.
-//! `tests/model.sh` compares these lines with those that the proved program prints.
+//! `tests/model/run` compares these lines with those that the proved program prints.
 
 use model::bytes::class;
 

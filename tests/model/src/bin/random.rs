@@ -2,8 +2,8 @@
 //! standard error. `random --demand3 SEED COUNT` tries the letter's third demand on random pairs of
 //! settings.
 
-use model::demand3::{pair, try_pair};
-use model::generate::case;
+use model::demand3::try_pair;
+use model::generate::{case, pair, Scale};
 use model::macros::Predefined;
 use model::random::Random;
 use model::table::{write, Row, HEADER};
@@ -83,7 +83,7 @@ fn write_cases(seed: u64, count: usize) -> std::io::Result<()> {
     let mut out = BufWriter::new(std::io::stdout().lock());
     writeln!(out, "{HEADER}")?;
     for i in 1..=count {
-        let case = case(&mut random);
+        let case = case(&mut random, Scale::Small);
         let (expected, trace) = expand_traced(&case.text, &case.setting);
         counts.add(&expected, &trace);
         let row = Row {
@@ -104,7 +104,7 @@ fn try_demand3(seed: u64, count: usize) -> ExitCode {
     let mut answers = [0usize; 14];
     let mut violations = 0;
     for _ in 0..count {
-        let pair = pair(&mut random);
+        let pair = pair(&mut random, Scale::Small);
         match try_pair(&mut random, &pair) {
             Ok(number) => answers[number as usize] += 1,
             Err(violation) => {

@@ -1,125 +1,150 @@
-//! Sentences about predefined names as plain words. 02, request 2: these names "shall stand as plain
-//! text unless `(` directly follows. The other seven keep their bare call."
+//! The smallest pieces of texts: names, words, numbers, odd bytes.
 
 use crate::macros::Predefined;
 use crate::random::Random;
+use crate::ways::NEED_PARENTHESIS;
 
-/// In the forms below N is a name, B stands between it and a parenthesis, and A is an argument.
-const OUTSIDE: [&str; 6] = [
-    "the N of the boom",
-    "N",
-    "N,N)",
-    "(N)",
-    "1N-N_",
-    "divert(1)N`'divert",
+const NAMES: [&str; 21] = [
+    "a",
+    "b",
+    "c",
+    "f",
+    "g",
+    "h",
+    "n",
+    "p",
+    "x",
+    "y",
+    "ab",
+    "abc",
+    "_",
+    "_1",
+    "_z1",
+    "A",
+    "Az9",
+    "foo",
+    "ff",
+    "le",
+    "a_rather_long_name_of_a_macro",
 ];
-const PARTED: [&str; 5] = [
-    "NB(A)",
-    "NB(A)NB(",
-    "len(NB(A))",
-    "shift(a,NB(A))",
-    "(NB(A))",
+const PLAIN: [&str; 22] = [
+    "a", "b", "ab", "abc", "ba", "n", "le", "len", "f", "ff", "x", "xyz", "foo", "1", "0", "42",
+    "007", "a b", "Z_", "divnum", "a,b", "(a)",
 ];
-const INSIDE: [&str; 16] = [
-    "len( N )",
-    "define(`f',`[$#$*]')f( N , N B N)",
-    "define(`f',`$1')f( N`'(A))",
-    "ifelse(N,N,`N',N)",
-    "ifdef(N,`N',N)",
-    "errprint(N, N A)",
-    "shift(N,N,B N)",
-    "index(a N b,N)",
-    "substr( N,1,2)",
-    "translit(N,den,xyz)",
-    "m4wrap( N B(A))",
-    "defn(`f',N)",
-    "pushdef(N,`x')N popdef(`N')N",
-    "popdef(N)N",
-    "undefine(N)NB(A)",
-    "define(N,`x')N(A)N",
+const ODD: [&[u8]; 27] = [
+    b"\x00",
+    b"\x01",
+    b"\x7f",
+    b"\x80",
+    b"\xff",
+    b"\xc3\xa9",
+    b"\r",
+    b"\x0b",
+    b"\x0c",
+    b"$",
+    b"$1",
+    b"$#",
+    b"$*",
+    b"$@",
+    b"$0",
+    b";",
+    b"=",
+    b"'",
+    b"`'",
+    b")",
+    b"(",
+    b",",
+    b"(a,b)",
+    b"-",
+    b"+-",
+    b".",
+    b"\"",
 ];
-const BORDER: [&str; 8] = [
-    "define(`p',`N')p()(A)",
-    "define(`p',`a N')p()(A)",
-    "define(`p',`N')len(p()(A))",
-    "define(`p',`N')define(`q',`p()')q()(A)",
-    "substr(xN,1)(A)",
-    "define(`p',`N')p()B(A)",
-    "define(`p',`N')p()1(A)",
-    "define(`p',`N(')p()A)",
-];
-const COVERED: [&str; 6] = [
-    "pushdef(`N',`x')N popdef(`N')N N(A)",
-    "pushdef(`N',`[$1]')NB(A)popdef(`N')NB(A)",
-    "len(pushdef(`N',`x')N popdef(`N')N)",
-    "pushdef(`N',`x')N(A)N popdef(`N')N",
-    "pushdef(`N',`x')pushdef(`N',`y')popdef(`N')N popdef(`N')N",
-    "define(`N',`x')N N(A)",
-];
-const WAITING: [&str; 4] = [
-    "m4wrap(`(A)')N",
-    "m4wrap(`N')m4wrap(`(A)')",
-    "m4wrap(`m4wrap(`(A)')N')",
-    "m4wrap(`N')m4wrap(`B(A)')",
+const BLANKS: [&str; 8] = [" ", "\n", "\t", "  ", " \n", "\n\n", "\t ", " \t\n "];
+const SIGNS: [&[u8]; 20] = [
+    b"(", b")", b",", b"(", b")", b",", b"`", b"'", b"`", b"'", b"#", b"\n", b" ", b"$1", b"$@",
+    b"[", b"]", b"0", b"1", b"-",
 ];
 
-/// A sentence, written with the default marks.
-pub fn sentence(random: &mut Random) -> String {
-    let form = match random.below(16) {
-        0..=2 => random.pick(&OUTSIDE),
-        3..=4 => random.pick(&PARTED),
-        5..=8 => random.pick(&INSIDE),
-        9..=11 => random.pick(&BORDER),
-        12..=14 => random.pick(&COVERED),
-        _ => random.pick(&WAITING),
+/// Texts that are no number of 01.
+pub const BAD_NUMBERS: [&str; 18] = [
+    "",
+    "-",
+    "+1",
+    "1a",
+    "1 ",
+    "` 1'",
+    "--1",
+    "-+1",
+    "1.5",
+    "0x1",
+    "2147483648",
+    "-2147483649",
+    "4294967295",
+    "4294967296",
+    "4294967297",
+    "18446744073709551616",
+    "-99999999999999999999",
+    "a",
+];
+
+pub fn name(random: &mut Random) -> Vec<u8> {
+    match random.below(40) {
+        0 => predefined(random).into(),
+        1 => {
+            let length = random.between(1, 60);
+            [b"q".to_vec(), random.bytes(b"ab_Z1", length)].concat()
+        }
+        _ => random.pick(&NAMES).into(),
+    }
+}
+
+pub fn predefined(random: &mut Random) -> &'static str {
+    random.pick(&Predefined::ALL).name()
+}
+
+/// A name that is a plain word unless `(` follows.
+pub fn needs_parenthesis(random: &mut Random) -> &'static str {
+    random.pick(&NEED_PARENTHESIS).name()
+}
+
+pub fn plain(random: &mut Random) -> Vec<u8> {
+    match random.below(24) {
+        0 => needs_parenthesis(random).into(),
+        _ => random.pick(&PLAIN).into(),
+    }
+}
+
+pub fn odd(random: &mut Random) -> Vec<u8> {
+    random.pick(&ODD).to_vec()
+}
+
+pub fn blanks(random: &mut Random) -> Vec<u8> {
+    random.pick(&BLANKS).into()
+}
+
+/// A word of any kind.
+pub fn any(random: &mut Random) -> Vec<u8> {
+    match random.below(20) {
+        0..=4 => predefined(random).into(),
+        5..=7 => name(random),
+        8..=9 => plain(random),
+        10 => blanks(random),
+        11 => odd(random),
+        _ => random.pick(&SIGNS).to_vec(),
+    }
+}
+
+/// A number from `least` to `most`, sometimes with more zeros than need be.
+pub fn number(random: &mut Random, least: i64, most: i64) -> Vec<u8> {
+    let value = least + random.below((most - least + 1) as usize) as i64;
+    let zeros = match random.below(30) {
+        0..=1 => random.between(1, 2),
+        2 => random.between(2, 12),
+        3 => random.between(20, 90),
+        _ => 0,
     };
-    let name = name(random);
-    let argument = argument(random, name);
-    let between = random.pick(&[" ", "\n", "\t", "  ", "`'", "`a'", "#\n", "#a(\n"]);
-    form.replace('A', argument)
-        .replace('B', between)
-        .replace('N', name)
-}
-
-/// Sentences that mostly do not join each other's names.
-pub fn sentences(random: &mut Random) -> Vec<u8> {
-    let mut text = String::new();
-    for _ in 0..random.between(1, 4) {
-        text.push_str(&sentence(random));
-        text.push_str(random.pick(&[" ", "\n", ";", "`'", ""]));
-    }
-    text.into_bytes()
-}
-
-/// A predefined name, seldom one of the seven that are called bare.
-fn name(random: &mut Random) -> &'static str {
-    if random.chance(10) {
-        random.pick(&Predefined::ALL).name()
-    } else {
-        plain_name(random)
-    }
-}
-
-/// A predefined name that is not called bare.
-pub fn plain_name(random: &mut Random) -> &'static str {
-    loop {
-        let which = random.pick(&Predefined::ALL);
-        if which.needs_parenthesis() {
-            return which.name();
-        }
-    }
-}
-
-/// An argument that mostly suits the macro.
-fn argument(random: &mut Random, name: &str) -> &'static str {
-    match name {
-        _ if random.chance(5) => random.pick(&["", "a", "1", "-"]),
-        "decr" | "eval" | "incr" | "divert" | "m4exit" | "undivert" => {
-            random.pick(&["1", "2", "7"])
-        }
-        "substr" => random.pick(&["ab,1", "abc,1,1", "`c',0"]),
-        "define" | "pushdef" | "defn" | "popdef" | "undefine" => random.pick(&["f", "`g'", "f,1"]),
-        "changecom" | "changequote" => random.pick(&["`[',`]'", "`<'"]),
-        _ => random.pick(&["", "a", "a,b", "`c'", " a ", "(a,b)"]),
-    }
+    let minus = value < 0 || (value == 0 && random.chance(5));
+    let sign = if minus { "-" } else { "" };
+    format!("{sign}{}{}", "0".repeat(zeros), value.abs()).into_bytes()
 }

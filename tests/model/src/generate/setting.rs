@@ -1,7 +1,10 @@
 //! Settings for a text: most lie close to what it needs.
 
+use super::Scale;
+use crate::answer::{Report, Setting};
 use crate::random::Random;
-use model::{expand_traced, Report, Setting, Trace, LIMIT};
+use crate::run::{expand_traced, Trace};
+use crate::LIMIT;
 
 /// Lengths where something might turn.
 const TURNS: [usize; 24] = [
@@ -32,30 +35,53 @@ const TURNS: [usize; 24] = [
 ];
 
 /// What a text does with ample room and many steps, by the model.
-pub struct Probe {
+pub(super) struct Probe {
     pub report: Report,
     pub trace: Trace,
     /// The steps that it was given.
     pub budget: u32,
 }
 
+impl Probe {
+    fn new(text: &[u8], budget: u32) -> Probe {
+        let setting = Setting {
+            budget,
+            ..Setting::ample()
+        };
+        let (report, trace) = expand_traced(text, &setting);
+        Probe {
+            report,
+            trace,
+            budget,
+        }
+    }
+}
+
 /// Runs a text with ample room. Few texts get many steps; those without end use them all.
-pub fn probe(random: &mut Random, text: &[u8]) -> Probe {
-    let budget = match random.below(400) {
+pub(super) fn probe(random: &mut Random, text: &[u8], scale: Scale) -> Probe {
+    match scale {
+        Scale::Small => small_probe(text),
+        Scale::Full => Probe::new(text, many_steps(random, text)),
+    }
+}
+
+fn many_steps(random: &mut Random, text: &[u8]) -> u32 {
+    match random.below(400) {
         _ if text.len() > 10_000 => 300_000,
         0 => 300_000,
         1..=7 => 30_000,
         _ => 3_000,
-    };
-    let setting = Setting {
-        budget,
-        ..Setting::ample()
-    };
-    let (report, trace) = expand_traced(text, &setting);
-    Probe {
-        report,
-        trace,
-        budget,
+    }
+}
+
+/// Few steps, and fewest where they have much to carry along.
+fn small_probe(text: &[u8]) -> Probe {
+    let probe = Probe::new(text, 1_500);
+    let most = probe.trace.peaks.into_iter().fold(text.len(), usize::max);
+    if most > 1_000 {
+        Probe::new(text, 200)
+    } else {
+        probe
     }
 }
 
@@ -71,8 +97,8 @@ pub fn exact_and_shorter(exact: &Setting) -> Vec<Setting> {
 }
 
 /// Chooses lengths and budget.
-pub fn choose(random: &mut Random, text: &[u8]) -> Setting {
-    let probe = probe(random, text);
+pub(super) fn choose(random: &mut Random, text: &[u8], scale: Scale) -> Setting {
+    let probe = probe(random, text, scale);
     let mut setting = close(random, &probe);
     if random.chance(2) {
         overlong(random, &mut setting);
@@ -81,7 +107,7 @@ pub fn choose(random: &mut Random, text: &[u8]) -> Setting {
 }
 
 /// A setting that lends nothing overlong.
-pub fn close(random: &mut Random, probe: &Probe) -> Setting {
+pub(super) fn close(random: &mut Random, probe: &Probe) -> Setting {
     let mut setting = ample(random, probe);
     match random.below(100) {
         0..=27 => {}
@@ -92,8 +118,8 @@ pub fn close(random: &mut Random, probe: &Probe) -> Setting {
         }
         70..=77 => shorten_one(random, &mut setting, probe),
         78..=80 => setting.lengths = std::array::from_fn(|_| random.below(11)),
-        81..=85 => setting.lengths = std::array::from_fn(|_| random.pick(&TURNS)),
-        86..=95 => setting.budget = fewer(random, probe.report.steps),
+        81..=83 => setting.lengths = std::array::from_fn(|_| random.pick(&TURNS)),
+        84..=95 => setting.budget = fewer(random, probe.report.steps),
         _ => {
             exact(random, &mut setting, probe);
             shorten_one(random, &mut setting, probe);
@@ -124,7 +150,9 @@ fn exact(random: &mut Random, setting: &mut Setting, probe: &Probe) {
     for (length, peak) in setting.lengths.iter_mut().zip(probe.trace.peaks) {
         *length = (peak + random.below(slack + 1)).min(LIMIT);
     }
-    setting.budget = probe.report.steps + random.pick(&[0, 0, 0, 1, 7]);
+    // a refused step needs its place in the budget too
+    let needed = probe.report.steps + u32::from(probe.report.number > 3);
+    setting.budget = needed + random.pick(&[0, 0, 0, 1, 7]);
 }
 
 /// One buffer that the text uses gets less than it needs.
@@ -137,7 +165,7 @@ fn shorten_one(random: &mut Random, setting: &mut Setting, probe: &Probe) {
     };
 }
 
-/// A buffer that the text uses, if there is one. Few texts use buffers 4 to 6.
+/// A buffer that the text uses, if there is one. Few texts use buffers 4 to 6, and fewest buffer 4.
 fn used_buffer(random: &mut Random, probe: &Probe) -> usize {
     let used: Vec<usize> = (0..7)
         .filter(|&buffer| probe.trace.peaks[buffer] > 0)
@@ -147,7 +175,9 @@ fn used_buffer(random: &mut Random, probe: &Probe) -> usize {
         .copied()
         .filter(|buffer| (3..=5).contains(buffer))
         .collect();
-    if !rare.is_empty() && random.chance(60) {
+    if probe.trace.peaks[3] > 0 && random.chance(30) {
+        3
+    } else if !rare.is_empty() && random.chance(60) {
         random.pick(&rare)
     } else if !used.is_empty() {
         random.pick(&used)
@@ -158,11 +188,11 @@ fn used_buffer(random: &mut Random, probe: &Probe) -> usize {
 
 /// A budget that is about used up, or used up somewhere on the way.
 fn fewer(random: &mut Random, steps: u32) -> u32 {
-    match random.below(7) {
+    match random.below(8) {
         0 => random.below(4) as u32,
-        1 => steps.saturating_sub(1),
-        2 => steps.saturating_sub(2),
-        3 => steps,
+        1..=2 => steps.saturating_sub(1),
+        3..=4 => steps.saturating_sub(2),
+        5 => steps,
         _ => random.below(steps as usize + 2) as u32,
     }
 }

@@ -1,7 +1,9 @@
-//! Texts of the table of comments, made of a place, of marks, of what the comment holds and of what
-//! stands behind that; and a few with as much ahead as there can be.
+//! Texts with a comment that no end mark closes, made of a place, of marks, of what the comment holds
+//! and of what stands behind that.
 
-use model::LIMIT;
+mod places;
+
+pub use places::{Place, PLACES};
 
 /// What becomes of a comment at the end of the text ahead.
 #[derive(Clone, Copy, Debug, PartialEq, Eq)]
@@ -23,6 +25,13 @@ pub struct Marks {
     begin: &'static str,
     end: &'static str,
     pub outcome: Outcome,
+}
+
+impl Marks {
+    /// Whether the begin mark has more than one byte.
+    pub fn is_long(&self) -> bool {
+        self.begin.len() > 1
+    }
 }
 
 const fn marks(
@@ -192,25 +201,4 @@ impl Filling<'_> {
             }
         }
     }
-}
-
-/// A comment of a whole text, and one of pending text and input that no buffer can hold; with the
-/// number and the detail of the answer.
-pub fn large() -> [(Vec<u8>, (u32, u32)); 5] {
-    let whole = |last: u8| [&b"#"[..], &[b'a'; LIMIT - 2], &[last]].concat();
-    let twice = "define(`d',`define(`x',defn(`x')defn(`x'))')define(`x',`#a')";
-    let across = |before: &str| {
-        let mut text = [before, twice, &"d ".repeat(14), "x()"]
-            .concat()
-            .into_bytes();
-        text.resize(LIMIT, b'b');
-        text
-    };
-    [
-        (whole(b'a'), (0, 0)),
-        (whole(b'\n'), (0, 0)),
-        (across(""), (4, 7)),
-        (across("divert(-1)"), (0, 0)),
-        (across("m4wrap(`c')divert(10)"), (0, 0)),
-    ]
 }

@@ -2,7 +2,7 @@
 //! are few of them.
 
 use crate::random::Random;
-use model::LIMIT;
+use crate::LIMIT;
 
 pub fn heavy(random: &mut Random) -> Vec<u8> {
     match random.below(10) {
@@ -14,6 +14,14 @@ pub fn heavy(random: &mut Random) -> Vec<u8> {
         8 => tripled_border(random),
         _ => long_results(random),
     }
+}
+
+/// A text that is as long as may be, or a little longer, and soon read.
+pub fn overlong(random: &mut Random) -> Vec<u8> {
+    let mut text = b"dnl ".to_vec();
+    text.resize(LIMIT - 1 + random.below(3), b'\n');
+    text.push(b'x');
+    text
 }
 
 /// A text of 65,536 bytes, or a few less or more.

@@ -2,6 +2,7 @@
 
 /// A text with signs (see [`super::filled`]), and what it is there for: the ways, by the names that
 /// the model gives them, where a newline ends comments and where another mark does.
+#[derive(Clone, Copy, Debug)]
 pub struct Place {
     pub text: &'static str,
     pub closed: &'static [&'static str],
