@@ -1,16 +1,5 @@
 -- Laws of choices, of names and of slices that a loop walks. Assumes nothing.
-use Prim.Native.Nat.{ℕ, suc, _+_, _≤_, _<_}
-use native.Mathlib.Omega.{arith}
-use native.Mathlib.Numerals.{add-one}
-use native.Mathlib.Nat.{zero-add}
-use mathlib.Core.Path.{_≡_, refl, sym, ap, _∙_}
-use mathlib.Core.List.{List, [], _∷_, _++_, map, append-nil}
-use mathlib.Core.Bool.{Bool, true, false}
-use mathlib.Core.Logic.{inl, inr}
-use lib.Dec.{eqb, eqb·zero-suc, eqb·suc-suc}
-use lib.ListN.{length, replicate, take, drop, getD, set, drop-of-length-le}
-use lib.Seq.{drop-cons, paste-suc, take-length, drop-length}
-use borrow.Author.Tests.{eq-eqb, ne-eqb}
+use Rattle.rules.proofs.Base.{_≤_, _+_, ℕ, _<_, suc, _∙_, refl, sym, ap, _≡_, true, Bool, false, inl, inr, List, [], _++_, _∷_, append-nil, map, zero-add, add-one, arith, eqb, eqb·zero-suc, eqb·suc-suc, length, drop, take, getD, set, drop-of-length-le, replicate, drop-cons, paste-suc, drop-length, take-length, eq-eqb, ne-eqb}
 use types.Run.{OneOf}
 use denote.Enum.Declared.{tagOf}
 use Rattle.rules.specs.declared.Class.{Class}

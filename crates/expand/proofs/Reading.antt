@@ -1,9 +1,5 @@
 -- What was read lies in the buffer.
-use Prim.Native.Nat.{ℕ, _≤_}
-use mathlib.Core.Path.{_≡_, sym, subst}
-use mathlib.Core.List.{List}
-use lib.ListN.{length, take}
-use lib.Seq.{length-take-le}
+use Rattle.rules.proofs.Base.{_≤_, ℕ, sym, _≡_, subst, List, length, take, length-take-le}
 use Rattle.expand.specs.declared.Input.{Input}
 use Rattle.expand.specs.declared.Input.the-variants as input
 use Rattle.expand.specs.Input.{Fits}

@@ -1,15 +1,5 @@
 -- Laws of the arguments of a closed call: where one stands, how many and how long they are, and what number one is. Assumes nothing.
-use Prim.Native.Nat.{ℕ, zero, suc, _+_, _-_, _%_, _^_, _≤_, _<_}
-use native.Mathlib.Omega.{arith}
-use mathlib.Core.Path.{_≡_, refl, sym, ap, subst, _∙_}
-use mathlib.Core.Bool.{Bool, true, false}
-use mathlib.Core.List.{List, [], _∷_}
-use mathlib.Core.Option.{Option, none, some}
-use lib.Dec.{leb, ltb, eqb}
-use lib.IntN.{ℤ, pos, negsuc, negℤ}
-use lib.ListN.{length, take, getD, length-take, length-drop, drop-of-length-le, List·getD-eq-default, List·getD-append, length-append}
-use lib.Seq.{drop-cons, getD-take, getD-drop, getD-append-add}
-use borrow.Author.Tests.{le-leb, lt-leb, leb-true, leb-false, lt-ltb, le-ltb, ltb-true, ltb-false}
+use Rattle.rules.proofs.Base.{_≤_, _+_, ℕ, _-_, _<_, suc, zero, _^_, _%_, _∙_, refl, sym, ap, _≡_, subst, true, Bool, false, some, none, Option, List, [], _∷_, arith, eqb, leb, ltb, pos, ℤ, negsuc, negℤ, length, take, getD, length-append, length-drop, drop-of-length-le, length-take, List·getD-eq-default, List·getD-append, drop-cons, getD-take, getD-drop, getD-append-add, le-leb, leb-true, lt-leb, leb-false, ltb-true, ltb-false, lt-ltb, le-ltb}
 use Rattle.numerals.specs.declared.Decimal.{Decimal}
 use Rattle.numerals.specs.declared.Decimal.the-variants as read
 use Rattle.numerals.specs.declared.Natural.the-variants as found

@@ -1,13 +1,8 @@
 -- Laws of a text in two parts, one behind the other. Assumes nothing.
-use Prim.Native.Nat.{ℕ, _+_, _-_, _≤_, _<_}
-use native.Mathlib.Omega.{arith}
-use mathlib.Core.Path.{_≡_, sym, ap, _∙_}
-use mathlib.Core.List.{[], _++_, append-nil}
-use lib.ListN.{length, take, drop, getD, length-append, length-drop, drop-of-length-le, List·getD-eq-default}
-use lib.Seq.{take-append-le, drop-append-le, take-append-add, drop-append-add, getD-append-add, take-at, drop-at, length-take-le}
+use Rattle.rules.proofs.Base.{_≤_, _+_, ℕ, _-_, _<_, _∙_, sym, ap, _≡_, [], _++_, append-nil, arith, length, drop, take, getD, length-append, length-drop, drop-of-length-le, List·getD-eq-default, length-take-le, take-at, take-append-le, drop-at, drop-append-add, getD-append-add, drop-append-le, take-append-add}
 use Rattle.rules.specs.Bytes.{Bytes}
 use Rattle.expander.specs.Ahead.{countWhile, isOther, plainLength, NextEither}
-use Rattle.expander.proofs.Runs.{count-within, count-front, count-both}
+use Rattle.expander.proofs.Prefixes.{count-within, count-front, count-both}
 use Rattle.expander.proofs.Parts.{part-all, part-size}
 
 module _ (f r : Bytes) where

@@ -1,11 +1,5 @@
 -- Laws of the open calls in buffer 2: what opening, collecting, separating and closing leave.
-use Prim.Native.Nat.{ℕ, suc, _+_, _-_, _*_, _≤_, _<_}
-use mathlib.Core.Path.{_≡_, refl, sym, ap, subst, _∙_}
-use mathlib.Core.Bool.{Bool, true, false}
-use mathlib.Core.List.{List, [], _∷_, _++_, append-assoc, append-nil}
-use native.Mathlib.Omega.{arith}
-use lib.ListN.{length, take, drop, getD, set, length-append, length-set}
-use lib.Seq.{getD-set-same, getD-set-other, getD-at, take-append-seam, take-suc-set, drop-append-add}
+use Rattle.rules.proofs.Base.{_≤_, _+_, ℕ, _-_, _<_, suc, _*_, _∙_, refl, sym, ap, _≡_, subst, true, Bool, false, List, [], _++_, _∷_, append-assoc, append-nil, arith, length, drop, take, getD, length-append, set, length-set, take-suc-set, getD-set-same, getD-set-other, take-append-seam, drop-append-add, getD-at}
 use Rattle.rules.specs.Bytes.{Bytes}
 use Rattle.rules.specs.State.{Call}
 use Rattle.rules.specs.Run.{callsCost}

@@ -1,13 +1,5 @@
 -- Laws of changes to a table and to the strings that it is. Assumes nothing.
-use Prim.Native.Nat.{ℕ, zero, suc, _+_, _*_, _≤_, _<_}
-use native.Mathlib.Omega.{arith}
-use mathlib.Core.Path.{_≡_, refl, sym, ap, subst, _∙_}
-use mathlib.Core.Bool.{Bool, true, false}
-use mathlib.Core.List.{List, [], _∷_, _++_, append-assoc}
-use mathlib.Core.Option.{Option, none, some}
-use lib.Dec.{eqb}
-use lib.ListN.{length, take, drop, getD, set, length-append}
-use borrow.Author.Tests.{eqb-true}
+use Rattle.rules.proofs.Base.{_≤_, _+_, ℕ, _<_, suc, zero, _*_, _∙_, refl, sym, ap, _≡_, subst, true, Bool, false, some, none, Option, List, [], _++_, _∷_, append-assoc, arith, eqb, length, drop, take, getD, length-append, set, eqb-true}
 use Rattle.rules.specs.Bytes.{Bytes, sameBytes}
 use Rattle.rules.specs.Streams.{joined}
 use Rattle.rules.specs.Table.{Meaning, text, predefined, Definition, Table, ownLost, newestPlace, pushed, defined, popped, meaningCost, tableCost}
@@ -18,7 +10,7 @@ use Rattle.expander.specs.declared.packed.Packed.{Packed}
 use Rattle.expander.specs.declared.table.Found.{Found}
 use Rattle.expander.specs.declared.table.Found.the-variants as found
 use Rattle.expander.proofs.Packing.{joined-append, used-is, length-replaced}
-use Rattle.expander.proofs.Owning.{lost-less}
+use Rattle.expander.proofs.MaskLaws.{lost-less}
 use Rattle.expander.proofs.Rows.{blank, length-rows, string-count, newest-in}
 
 -- the strings of a changed list

@@ -1,24 +1,15 @@
 -- Laws of the scan for the end of a comment. Assumes nothing.
-use Prim.Native.Nat.{ℕ, suc, _+_, _≤_, _<_}
-use native.Mathlib.Omega.{arith}
-use native.Mathlib.Numerals.{add-one}
-use mathlib.Core.Path.{_≡_, refl, sym, ap, _∙_}
-use mathlib.Core.List.{[], _∷_}
-use mathlib.Core.Bool.{Bool, true, false}
-use mathlib.Core.Option.{Option, none, some}
-use lib.Dec.{eqb}
-use lib.ListN.{length, drop, getD, drop-of-length-le}
-use lib.Seq.{drop-drop}
-use borrow.Author.Tests.{lt-ltb, le-ltb}
+use Rattle.rules.proofs.Base.{_≤_, _+_, ℕ, _<_, suc, _∙_, refl, sym, ap, _≡_, true, Bool, false, some, none, Option, [], _∷_, add-one, arith, eqb, length, drop, getD, drop-of-length-le, drop-drop, lt-ltb, le-ltb}
 use Rattle.rules.specs.declared.Token.the-variants as token
 use Rattle.rules.specs.declared.Reading.the-variants.{Is, OpenComment}
 use Rattle.rules.specs.Bytes.{Bytes, sameBytes}
 use Rattle.rules.specs.Marks.{newlineMark}
-use Rattle.rules.specs.Tokens.{beginsWith, later, firstPlace, commentToEnd, commentRead}
+use Rattle.rules.specs.Tokens.{beginsWith, firstPlace, commentToEnd, commentRead}
+use Rattle.rules.specs.Places.{plusOne}
 use Rattle.expander.specs.Ahead.{isOther, plainLength, NextEither}
 use Rattle.expander.specs.Tokens.{commentEndingAt, commentFrom}
-use Rattle.expander.proofs.Runs.{skip-plain, other-first}
-use Rattle.expander.proofs.Marks.{begins-short, other-byte}
+use Rattle.expander.proofs.Prefixes.{skip-plain, other-first}
+use Rattle.expander.proofs.MarkPlaces.{begins-short, other-byte}
 
 -- a mark that is a single newline, by its length and its first byte
 pub newline-byte : (m : Bytes) → length m ≡ 1 → eqb (getD m 0 0) 10 ≡ sameBytes m newlineMark
@@ -62,12 +53,12 @@ module _ (end : Bytes) (n : ℕ) where
   end-leaves-open e = sym (ends-beyond n (n + 1) (omega arith)) ∙ rw (e, commentToEnd)
 
 -- a comment in a text of n bytes, a place further on
-comment-later : (m : Bytes) (n i : ℕ) (o : Option ℕ) → commentRead m n i (later o) ≡ commentRead m n (suc i) o
-unfolding commentRead later
+comment-later : (m : Bytes) (n i : ℕ) (o : Option ℕ) → commentRead m n i (plusOne o) ≡ commentRead m n (suc i) o
+unfolding commentRead plusOne
 comment-later m n i none = refl
 comment-later m n i (some k) = let z : i + (suc k + length m) ≡ suc i + (k + length m) = omega arith in ap (λ (e : ℕ). Is (token.Comment e)) z
 
-pub first-later : (m : Bytes) (x : ℕ) (xs : Bytes) → beginsWith m (x ∷ xs) ≡ false → firstPlace m (x ∷ xs) ≡ later (firstPlace m xs)
+pub first-later : (m : Bytes) (x : ℕ) (xs : Bytes) → beginsWith m (x ∷ xs) ≡ false → firstPlace m (x ∷ xs) ≡ plusOne (firstPlace m xs)
 unfolding firstPlace
 first-later m x xs e = rw (e, firstPlace)
 

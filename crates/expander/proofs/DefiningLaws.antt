@@ -1,13 +1,5 @@
 -- define, pushdef, popdef and undefine: a table that is changed once, or in turn by each argument.
-use Prim.Native.Nat.{ℕ, suc, _+_, _≤_, _<_}
-use mathlib.Core.Path.{_≡_, refl, sym, ap, subst, _∙_}
-use mathlib.Core.Bool.{Bool, true, false, not}
-use mathlib.Core.List.{List, [], _∷_, _++_}
-use native.Mathlib.Numerals.{add-one}
-use native.Mathlib.Omega.{arith}
-use borrow.Author.Tests.{not-true, not-false}
-use lib.ListN.{length, drop, drop-of-length-le}
-use lib.Seq.{drop-cons}
+use Rattle.rules.proofs.Base.{_≤_, _+_, ℕ, _<_, suc, _∙_, refl, sym, ap, _≡_, subst, true, Bool, false, not, List, [], _++_, _∷_, add-one, arith, length, drop, drop-of-length-le, drop-cons, not-true, not-false}
 use Rattle.rules.specs.declared.Answer.the-variants as answer
 use Rattle.rules.specs.Answers.{noName, faultAnswer}
 use Rattle.rules.specs.Arguments.{arg}
@@ -17,17 +9,17 @@ use Rattle.rules.specs.Run.{Setting}
 use Rattle.rules.specs.State.{State, Outcome, next, withTable}
 use Rattle.rules.specs.Table.{Meaning, text, Definition, Table, pushed, defined, popped, undefined, inTurn, meaningCost, tableCost}
 use Rattle.expander.specs.declared.machine.Machine.{Machine}
-use Rattle.expander.specs.declared.machine.Turn.{Turn}
-use Rattle.expander.specs.declared.machine.Went.the-variants as went
+use Rattle.expander.specs.declared.machine.Stepped.{Stepped}
+use Rattle.expander.specs.declared.machine.Progress.the-variants as progress
 use Rattle.expander.specs.declared.packed.Packed.{Packed}
 use Rattle.expander.specs.declared.table.Definitions.{Definitions}
-use Rattle.expander.specs.Machine.{Memory, memory, Means, Gives, tableSet, turned}
+use Rattle.expander.specs.Machine.{Memory, memory, Represents, Refines, tableSet, stepped}
 use Rattle.expander.specs.Table.{DefinitionsIn, TableIn}
 use Rattle.expander.proofs.ArgumentLaws.{arg-next}
 use Rattle.expander.proofs.Changing.{cost-used}
 use Rattle.expander.proofs.MachineLaws.{pending-fits, calls-fit, over-table}
 use Rattle.expander.proofs.Parted.{with-table}
-use Rattle.expander.proofs.TurnLaws.{turned-on, turned-refused, turned-full}
+use Rattle.expander.proofs.SteppedLaws.{stepped-on, stepped-refused, stepped-full}
 
 -- ---- a name
 
@@ -71,41 +63,41 @@ naming-is f args s is e {q} i l n =
 module _
     {a : Setting} {text′ pending calls : Bytes} {callEnds stack : List ℕ} {definitions : Bytes} {tableEnds : List ℕ} {streams : Bytes} {owners : List ℕ}
     {wrap errors output : Bytes} {m : Machine} {s : State}
-    (r : Means a (memory text′ pending calls callEnds stack definitions tableEnds streams owners wrap errors output) m s) (args : List Bytes) {t : Turn}
+    (r : Represents a (memory text′ pending calls callEnds stack definitions tableEnds streams owners wrap errors output) m s) (args : List Bytes) {t : Stepped}
   where
     module _ (f : Bytes → Meaning → Table → Table) {o : Outcome} (is : o ≡ naming f args s) {w : Bytes} (e : w ≡ arg 1 args) {q : Bool} (i : q ≡ isName w) where
       pub unnamed :
-          not q ≡ true → t ≡ turned (went.Refused answer.Name) m
-          → Gives a (memory text′ pending calls callEnds stack definitions tableEnds streams owners wrap errors output) o
+          not q ≡ true → t ≡ stepped (progress.Refused answer.Name) m
+          → Refines a (memory text′ pending calls callEnds stack definitions tableEnds streams owners wrap errors output) o
           (memory text′ pending calls callEnds stack definitions tableEnds streams owners wrap errors output) t
       unfolding naming faultAnswer
       unnamed n g =
           let h : isName (arg 1 args) ≡ false = ap isName (sym e) ∙ sym i ∙ not-true q n in
-          turned-refused {m = m} noName (is ∙ rw (h, naming)) g
+          stepped-refused {m = m} noName (is ∙ rw (h, naming)) g
 
       module _ {x : Bytes} (l : x ≡ arg 2 args) (n : not q ≡ false) where
         pub overfilled :
-            length definitions < tableCost ((f w (text x) (s .table)) .definitions) → t ≡ turned (went.Refused (answer.Room 3)) m
-            → Gives a (memory text′ pending calls callEnds stack definitions tableEnds streams owners wrap errors output) o
+            length definitions < tableCost ((f w (text x) (s .table)) .definitions) → t ≡ stepped (progress.Refused (answer.Room 3)) m
+            → Refines a (memory text′ pending calls callEnds stack definitions tableEnds streams owners wrap errors output) o
             (memory text′ pending calls callEnds stack definitions tableEnds streams owners wrap errors output) t
         unfolding withTable
         overfilled h g =
             let u = withTable (f w (text x) (s .table)) s in
-            turned-full u 2 (over-table a u (pending-fits r) (calls-fit r) (omega (arith, h, r .limits .definitions))) (naming-is f args s is e i l n) g
+            stepped-full u 2 (over-table a u (pending-fits r) (calls-fit r) (omega (arith, h, r .limits .definitions))) (naming-is f args s is e i l n) g
 
         pub named :
             {before : Memory} {definitions′ : Bytes} {tableEnds′ : List ℕ} {d : Definitions} {m′ : Machine} → TableIn definitions′ tableEnds′ (d .packed) (d .own) (f w (text x) (s .table))
-            → length definitions′ ≡ length definitions → length tableEnds′ ≡ length tableEnds → m′ ≡ tableSet d m → t ≡ turned went.On m′
-            → Gives a before o (memory text′ pending calls callEnds stack definitions′ tableEnds′ streams owners wrap errors output) t
-        named h j k y g = turned-on (with-table r h j k) (naming-is f args s is e i l n) (g ∙ ap (turned went.On) y)
+            → length definitions′ ≡ length definitions → length tableEnds′ ≡ length tableEnds → m′ ≡ tableSet d m → t ≡ stepped progress.On m′
+            → Refines a before o (memory text′ pending calls callEnds stack definitions′ tableEnds′ streams owners wrap errors output) t
+        named h j k y g = stepped-on (with-table r h j k) (naming-is f args s is e i l n) (g ∙ ap (stepped progress.On) y)
 
     -- each argument's definition has gone in turn
     pub removed :
         (f : Bytes → Table → Table) {o : Outcome} → o ≡ next (withTable (inTurn f args (s .table)) s)
         → {before : Memory} {definitions′ : Bytes} {tableEnds′ : List ℕ} {d : Definitions} {m′ : Machine} → TableIn definitions′ tableEnds′ (d .packed) (d .own) (inTurn f args (s .table))
-        → length definitions′ ≡ length definitions → length tableEnds′ ≡ length tableEnds → m′ ≡ tableSet d m → t ≡ turned went.On m′
-        → Gives a before o (memory text′ pending calls callEnds stack definitions′ tableEnds′ streams owners wrap errors output) t
-    removed f is h j k y g = turned-on (with-table r h j k) is (g ∙ ap (turned went.On) y)
+        → length definitions′ ≡ length definitions → length tableEnds′ ≡ length tableEnds → m′ ≡ tableSet d m → t ≡ stepped progress.On m′
+        → Refines a before o (memory text′ pending calls callEnds stack definitions′ tableEnds′ streams owners wrap errors output) t
+    removed f is h j k y g = stepped-on (with-table r h j k) is (g ∙ ap (stepped progress.On) y)
 
 pub popdef-is : (args : List Bytes) (s : State) → callPopdef args s ≡ next (withTable (inTurn popped args (s .table)) s)
 unfolding callPopdef

@@ -1,12 +1,5 @@
 -- Laws of the result of defn, argument by argument. Assumes nothing.
-use Prim.Native.Nat.{ℕ, _+_, _*_, _^_, _≤_, _<_}
-use native.Mathlib.Numerals.{add-one}
-use native.Mathlib.Omega.{arith}
-use mathlib.Core.Path.{_≡_, refl, sym, ap, subst, _∙_}
-use mathlib.Core.List.{List, [], _∷_, _++_, append-assoc, append-nil}
-use mathlib.Core.Option.{Option, none, some}
-use lib.ListN.{length, take, drop, getD, length-append, drop-of-length-le}
-use lib.Seq.{drop-cons, take-all, length-take-le}
+use Rattle.rules.proofs.Base.{_≤_, _+_, ℕ, _<_, _*_, _^_, _∙_, refl, sym, ap, _≡_, subst, some, none, Option, List, [], _++_, _∷_, append-assoc, append-nil, add-one, arith, length, drop, take, getD, length-append, drop-of-length-le, length-take-le, drop-cons, take-all}
 use Rattle.rules.specs.Bytes.{Bytes}
 use Rattle.rules.specs.Answers.{Fault, noText}
 use Rattle.rules.specs.Marks.{MarkTexts, quoted}
@@ -15,7 +8,7 @@ use Rattle.rules.specs.Arguments.{arg}
 use Rattle.rules.specs.Results.{Result, yields, fails, inFront, defnResult}
 use Rattle.expander.specs.Limits.{macroCount}
 use Rattle.expander.specs.Substitution.{Lays}
-use Rattle.expander.specs.Table.{rows, meaningFor, SoundDefinitions, TableIn, Finds}
+use Rattle.expander.specs.Table.{rows, meaningFor, ValidDefinitions, TableIn, Finds}
 use Rattle.expander.specs.Defn.{measuredAs, namedResult, followedBy, longer}
 use Rattle.expander.specs.declared.packed.Packed.{Packed}
 use Rattle.expander.specs.declared.table.Meaning.{Meaning as Looked}
@@ -213,17 +206,17 @@ module _ (m : MarkTexts) (t : Table) (w : Bytes) {r : Looked} (f : Finds (t .def
   unfolding namedResult meaningFor
   named-undefined e = rw (f .is ∙ ap (meaningFor (rows (t .definitions))) e, namedResult)
 
--- what looking a name up in sound definitions answers
-module _ {bytes : Bytes} {ends : List ℕ} {p : Packed} {own : ℕ} (d : SoundDefinitions bytes ends p) (few : own < 2 ^ macroCount) where
+-- what looking a name up in valid definitions answers
+module _ {bytes : Bytes} {ends : List ℕ} {p : Packed} {own : ℕ} (d : ValidDefinitions bytes ends p) (few : own < 2 ^ macroCount) where
   -- they are those of a table
-  pub sound-table : TableIn bytes ends p own (record { definitions = d .definitions; own = own })
-  sound-table = record { holds = d .holds; own-is = refl; own-few = few }
+  pub valid-table : TableIn bytes ends p own (record { definitions = d .definitions; own = own })
+  valid-table = record { holds = d .holds; own-is = refl; own-few = few }
 
   -- a text that it answers has its place
   pub text-within : (w : Bytes) {r : Looked} {i : ℕ} → ((t : Table) → TableIn bytes ends p own t → Finds (t .definitions) (meaningOf w t) r) → r ≡ looked.Text i → 2 * i + 1 < p .count
   text-within w f e =
       let t : Table = record { definitions = d .definitions; own = own } in
-      finds-within (d .holds) (subst (λ (r : Looked). Finds (t .definitions) (meaningOf w t) r) e (f t sound-table))
+      finds-within (d .holds) (subst (λ (r : Looked). Finds (t .definitions) (meaningOf w t) r) e (f t valid-table))
 
 -- a text that a name gives
 pub same-text : {r : Result} {v w : Bytes} → r ≡ yields v → r ≡ yields w → v ≡ w

@@ -1,16 +1,6 @@
--- Laws of tokens that stand for themselves, and of calls that are opened: what fits, and what is meant then. Assumes nothing.
-use Prim.Native.Nat.{ℕ, zero, suc, _+_, _-_, _≤_, _<_}
-use mathlib.Core.Path.{_≡_, refl, sym, ap, subst, _∙_}
-use mathlib.Core.Bool.{Bool, true, false, _||_, or-true}
-use mathlib.Core.List.{List, [], _∷_, _++_}
-use mathlib.Core.Option.{some}
-use native.Mathlib.Decide.{ℕ-discrete}
-use native.Mathlib.Numerals.{add-one}
-use native.Mathlib.Omega.{arith}
-use borrow.Author.Tests.{ltb-true, ltb-false, le-leb, lt-leb}
-use lib.Dec.{leb, ltb}
-use lib.IntN.{ℤ}
-use lib.ListN.{length, take, drop, getD, set, length-append, length-take, length-drop}
+-- Laws of tokens that stand for themselves, and of calls that are opened: what fits, and what is represented then. Assumes nothing.
+use Rattle.expander.specs.Limits.{mostLent}
+use Rattle.rules.proofs.Base.{_*_, _≤_, _+_, ℕ, _-_, _<_, suc, zero, _∙_, refl, sym, ap, _≡_, subst, true, Bool, false, _||_, or-true, some, List, [], _++_, _∷_, add-one, ℕ-discrete, arith, leb, ltb, ℤ, length, drop, take, getD, length-append, length-drop, set, length-take, le-leb, lt-leb, ltb-true, ltb-false}
 use Rattle.rules.specs.declared.Answer.the-variants as answer
 use Rattle.rules.specs.Bytes.{Bytes}
 use Rattle.rules.specs.Answers.{deep, faultAnswer}
@@ -22,24 +12,24 @@ use Rattle.rules.specs.Run.{Setting, lengths, callsCost, held, overfull}
 use Rattle.rules.specs.Step.{delivered, collecting, argumentCount, openCall, opened, nextArgument, commaMet}
 use Rattle.expander.specs.declared.calls.Calls.{Calls}
 use Rattle.expander.specs.declared.machine.Machine.{Machine}
-use Rattle.expander.specs.declared.machine.Turn.{Turn}
-use Rattle.expander.specs.declared.machine.Went.the-variants as went
+use Rattle.expander.specs.declared.machine.Stepped.{Stepped}
+use Rattle.expander.specs.declared.machine.Progress.the-variants as progress
 use Rattle.expander.specs.declared.sinks.Sinks.{Sinks}
 use Rattle.expander.specs.declared.source.Position.{Position}
 use Rattle.expander.specs.Source.{SourceIn}
 use Rattle.expander.specs.Calls.{CallsIn, CallRoom}
 use Rattle.expander.specs.Streams.{IsStream, extended}
 use Rattle.expander.specs.Sinks.{SinksIn, fullBuffer}
-use Rattle.expander.specs.Machine.{Memory, Means, Reach, Gives, turned, sourceSet, callsSet, sinksSet, callsAt, sinksAt}
+use Rattle.expander.specs.Machine.{Memory, Represents, Reach, Refines, stepped, sourceSet, callsSet, sinksSet, callsAt, sinksAt}
 use Rattle.expander.proofs.SourceLaws.{ahead-long, lentAhead, ahead-lent}
 use Rattle.expander.proofs.CallsLaws.{calls-held, calls-counted}
 use Rattle.expander.proofs.Totals.{used-is}
-use Rattle.expander.proofs.Moved.{placed-to, placed-out}
+use Rattle.expander.proofs.StreamMoves.{placed-to, placed-out}
 use Rattle.expander.proofs.SinksLaws.{full-output, free-output, free-lost, full-stream, free-stream}
-use Rattle.expander.proofs.MachineLaws.{front-long, pending-fits, calls-fit, table-fits, streams-fit, wrap-fits, errors-fit, over-calls, over-streams, over-output, gives-next, gives-room, no-calls, some-call}
+use Rattle.expander.proofs.MachineLaws.{front-long, pending-fits, calls-fit, table-fits, streams-fit, wrap-fits, errors-fit, over-calls, over-streams, over-output, refines-next, refines-room, no-calls, some-call}
 use Rattle.expander.proofs.Parted.{with-source, with-calls, with-sinks}
 use Rattle.expander.proofs.ArgumentLaws.{bits-plain}
-use Rattle.expander.proofs.TurnLaws.{turned-refused}
+use Rattle.expander.proofs.SteppedLaws.{stepped-refused}
 use Rattle.expander.proofs.Parts.{part-size}
 
 -- ---- the text ahead
@@ -98,10 +88,10 @@ pub record Overfull (a : Setting) (t : State) (full : ℕ) : Type 0 where
   pub is : full ≡ buffer + 1
   pub over : overfull (held t) (lengths a) ≡ some buffer
 
-gives-overfull : {a : Setting} {b : Memory} {m : Machine} {t : State} {full : ℕ} → Overfull a t full → Gives a b (next t) b (turned (went.Refused (answer.Room full)) m)
-gives-overfull {t = t} f = rw (f .is) (gives-room t (f .buffer) (f .over))
+refines-overfull : {a : Setting} {b : Memory} {m : Machine} {t : State} {full : ℕ} → Overfull a t full → Refines a b (next t) b (stepped (progress.Refused (answer.Room full)) m)
+refines-overfull {t = t} f = rw (f .is) (refines-room t (f .buffer) (f .over))
 
-module _ {a : Setting} {b : Memory} {m : Machine} {s : State} (r : Means a b m s) (x : Source) (px : length (x .pending) ≤ a .pending) where
+module _ {a : Setting} {b : Memory} {m : Machine} {s : State} (r : Represents a b m s) (x : Source) (px : length (x .pending) ≤ a .pending) where
   pub streams-over : (y : Streams) → a .streams < totalLength (y .waiting) → overfull (held (withStreams y (withSource x s))) (lengths a) ≡ some 3
   unfolding withSource withStreams
   streams-over y h = over-streams a (withStreams y (withSource x s)) px (calls-fit r) (table-fits r) h
@@ -164,10 +154,10 @@ module _ {a : Setting} {b : Memory} {m : Machine} {s : State} (r : Means a b m s
       go (yes e) = out (ltb free n) refl e
       go (no e) = other (ltb 9 c) refl e
 
--- ---- the bounds that the meaning gives
+-- ---- the bounds that `Represents` gives
 
-module _ {a : Setting} {b : Memory} {m : Machine} {s : State} (r : Means a b m s) {start n width : ℕ} (h : Reach (b .text) (b .pending) (m .source) start n width) where
-  pub reach-advances : (m .source .from ≤ length (b .pending)) × (length (b .pending) ≤ 65536) × (m .source .taken ≤ 65536) × (width ≤ 131072)
+module _ {a : Setting} {b : Memory} {m : Machine} {s : State} (r : Represents a b m s) {start n width : ℕ} (h : Reach (b .text) (b .pending) (m .source) start n width) where
+  pub reach-advances : (m .source .from ≤ length (b .pending)) × (length (b .pending) ≤ mostLent) × (m .source .taken ≤ mostLent) × (width ≤ 2 * mostLent)
   reach-advances = (
     r .source .from-in,
     r .limits .pending-most,
@@ -192,24 +182,24 @@ pub reach-name : {text pending : Bytes} {p : Position} {n : ℕ} → Reach text 
 reach-name h = record { some = h .some; whole = omega (arith, h .whole) }
 
 pub reach-first :
-    {a : Setting} {b : Memory} {m : Machine} {s : State} (r : Means a b m s) {n width : ℕ} → Reach (b .text) (b .pending) (m .source) 0 n width
+    {a : Setting} {b : Memory} {m : Machine} {s : State} (r : Represents a b m s) {n width : ℕ} → Reach (b .text) (b .pending) (m .source) 0 n width
     → n ≤ length (take (length (b .pending) - m .source .from) (drop (m .source .from) (b .pending))) + length (take (length (b .text) - m .source .taken) (drop (m .source .taken) (b .text)))
 reach-first r h = omega (arith, reach-lent r h)
 
-module _ {a : Setting} {b : Memory} {m : Machine} {s : State} (r : Means a b m s) where
+module _ {a : Setting} {b : Memory} {m : Machine} {s : State} (r : Represents a b m s) where
   -- n bytes more fit behind the strings of the open calls
   pub call-room : (n : ℕ) → m .calls .strings .used + n ≤ length (b .calls) → CallRoom (b .calls) (b .callEnds) (b .stack) (m .calls) n
   call-room n h = record { calls = s .calls; are = r .calls; short = r .limits .calls-most; links = record { ends-long = r .limits .call-ends; stack-long = r .limits .stack }; fits = h }
 
   -- a token goes to the current stream, or is collected
-  module _ {b′ : Memory} {t : Turn} (w : Bytes) (u : State) where
-    pub delivers-out : m .calls .opens ≡ 0 → Gives a b (next (emitting w u)) b′ t → Gives a b (next (delivered w (s .calls) u)) b′ t
+  module _ {b′ : Memory} {t : Stepped} (w : Bytes) (u : State) where
+    pub delivers-out : m .calls .opens ≡ 0 → Refines a b (next (emitting w u)) b′ t → Refines a b (next (delivered w (s .calls) u)) b′ t
     unfolding delivered
     delivers-out e g = rw (no-calls r e) g
 
     pub delivers-in :
-        (m .calls .opens ≡ 0 → ⊥) → ((c : Call) (cs : List Call) → s .calls ≡ c ∷ cs → Gives a b (next (withCalls (collecting w (c .depth) c ∷ cs) u)) b′ t)
-        → Gives a b (next (delivered w (s .calls) u)) b′ t
+        (m .calls .opens ≡ 0 → ⊥) → ((c : Call) (cs : List Call) → s .calls ≡ c ∷ cs → Refines a b (next (withCalls (collecting w (c .depth) c ∷ cs) u)) b′ t)
+        → Refines a b (next (delivered w (s .calls) u)) b′ t
     unfolding delivered
     delivers-in f g = let i = some-call r f in rw (i .is) (g (i .call) (i .others) (i .is))
 
@@ -218,15 +208,15 @@ module _ {a : Setting} {b : Memory} {m : Machine} {s : State} (r : Means a b m s
 
   pub token-full :
       (w : Bytes) (n width full : ℕ) → length w ≡ n → full ≡ fullBuffer (m .sinks .current) n (length (b .streams) - m .sinks .waiting) (length (b .output) - m .sinks .output)
-      → (full ≡ 0 → ⊥) → Gives a b (next (emitting w (taking width s))) b (turned (went.Refused (answer.Room full)) m)
+      → (full ≡ 0 → ⊥) → Refines a b (next (emitting w (taking width s))) b (stepped (progress.Refused (answer.Room full)) m)
   unfolding taking
-  token-full w n width full en ef nz = gives-overfull (emit-over r (advance width (s .source)) (after width) w n full en ef nz)
+  token-full w n width full en ef nz = refines-overfull (emit-over r (advance width (s .source)) (after width) w n full en ef nz)
 
   pub byte-full :
       (z full : ℕ) → full ≡ fullBuffer (m .sinks .current) 1 (length (b .streams) - m .sinks .waiting) (length (b .output) - m .sinks .output)
-      → (full ≡ 0 → ⊥) → Gives a b (next (emitting (z ∷ []) s)) b (turned (went.Refused (answer.Room full)) m)
+      → (full ≡ 0 → ⊥) → Refines a b (next (emitting (z ∷ []) s)) b (stepped (progress.Refused (answer.Room full)) m)
   unfolding withSource
-  byte-full z full ef nz = gives-overfull (emit-over r (s .source) (pending-fits r) (z ∷ []) 1 full refl ef nz)
+  byte-full z full ef nz = refines-overfull (emit-over r (s .source) (pending-fits r) (z ∷ []) 1 full refl ef nz)
 
   -- they are placed
   module _
@@ -237,39 +227,39 @@ module _ {a : Setting} {b : Memory} {m : Machine} {s : State} (r : Means a b m s
           {p : Position} (start n width : ℕ)
           → SinksIn streams′ owners′ output′ k (placed (s .streams .current) (take n (drop start (lentAhead (b .text) (b .pending) (m .source)))) (s .streams))
           → SourceIn (b .text) (b .pending) p (advance width (s .source))
-          → Gives a b (next (emitting (take n (drop start (ahead (s .source)))) (taking width s))) (sinksAt streams′ owners′ output′ b) (turned went.On (sinksSet k (sourceSet p m)))
+          → Refines a b (next (emitting (take n (drop start (ahead (s .source)))) (taking width s))) (sinksAt streams′ owners′ output′ b) (stepped progress.On (sinksSet k (sourceSet p m)))
       unfolding emitting changing changedInTurn changed taking withSource
       token-emitted {p} start n width h q =
           let g : SinksIn streams′ owners′ output′ k (placed (s .streams .current) (take n (drop start (ahead (s .source)))) (s .streams)) =
           subst (λ (l : Bytes). SinksIn streams′ owners′ output′ k (placed (s .streams .current) (take n (drop start l)) (s .streams))) (ahead-lent (r .source)) h in
-          gives-next (with-sinks (with-source r q refl) g e-streams e-owners e-output)
+          refines-next (with-sinks (with-source r q refl) g e-streams e-owners e-output)
 
       pub byte-emitted :
           (z : ℕ) → SinksIn streams′ owners′ output′ k (placed (s .streams .current) (z ∷ []) (s .streams))
-          → Gives a b (next (emitting (z ∷ []) s)) (sinksAt streams′ owners′ output′ b) (turned went.On (sinksSet k m))
+          → Refines a b (next (emitting (z ∷ []) s)) (sinksAt streams′ owners′ output′ b) (stepped progress.On (sinksSet k m))
       unfolding emitting changing changedInTurn changed
-      byte-emitted z h = gives-next (with-sinks r h e-streams e-owners e-output)
+      byte-emitted z h = refines-next (with-sinks r h e-streams e-owners e-output)
 
   -- ---- bytes that a call collects
 
   collect-over :
       (x : Source) → length (x .pending) ≤ a .pending → (w : Bytes) (n d : ℕ) (c : Call) (cs : List Call) → s .calls ≡ c ∷ cs → length w ≡ n
       → length (b .calls) - m .calls .strings .used < n
-      → Gives a b (next (withCalls (collecting w d c ∷ cs) (withSource x s))) b (turned (went.Refused (answer.Room 2)) m)
+      → Refines a b (next (withCalls (collecting w d c ∷ cs) (withSource x s))) b (stepped (progress.Refused (answer.Room 2)) m)
   collect-over x px w n d c cs e en h =
-      gives-room (withCalls (collecting w d c ∷ cs) (withSource x s)) 1
+      refines-room (withCalls (collecting w d c ∷ cs) (withSource x s)) 1
       (calls-over r x px (collecting w d c ∷ cs)
       (omega (arith, cost-collected w d c cs, ap callsCost e, calls-held (r .calls), r .calls .strings .used-in, r .limits .calls)))
 
   pub collect-full :
       (w : Bytes) (n d width : ℕ) (c : Call) (cs : List Call) → s .calls ≡ c ∷ cs → length w ≡ n → length (b .calls) - m .calls .strings .used < n
-      → Gives a b (next (withCalls (collecting w d c ∷ cs) (taking width s))) b (turned (went.Refused (answer.Room 2)) m)
+      → Refines a b (next (withCalls (collecting w d c ∷ cs) (taking width s))) b (stepped (progress.Refused (answer.Room 2)) m)
   unfolding taking
   collect-full w n d width c cs e en h = collect-over (advance width (s .source)) (after width) w n d c cs e en h
 
   pub collect-one-full :
       (z d : ℕ) (c : Call) (cs : List Call) → s .calls ≡ c ∷ cs → length (b .calls) ≤ m .calls .strings .used
-      → Gives a b (next (withCalls (collecting (z ∷ []) d c ∷ cs) s)) b (turned (went.Refused (answer.Room 2)) m)
+      → Refines a b (next (withCalls (collecting (z ∷ []) d c ∷ cs) s)) b (stepped (progress.Refused (answer.Room 2)) m)
   unfolding withSource
   collect-one-full z d c cs e h = collect-over (s .source) (pending-fits r) (z ∷ []) 1 d c cs e refl (omega arith)
 
@@ -277,21 +267,21 @@ module _ {a : Setting} {b : Memory} {m : Machine} {s : State} (r : Means a b m s
       {calls′ : Bytes} {ends′ stack′ : List ℕ} {k : Calls} (e-calls : length calls′ ≡ length (b .calls)) (e-ends : length ends′ ≡ length (b .callEnds))
       (e-stack : length stack′ ≡ length (b .stack))
     where
-      pub calls-changed : (cs : List Call) → CallsIn calls′ ends′ stack′ k cs → Gives a b (next (withCalls cs s)) (callsAt calls′ ends′ stack′ b) (turned went.On (callsSet k m))
-      calls-changed cs h = gives-next (with-calls r h e-calls e-ends e-stack)
+      pub calls-changed : (cs : List Call) → CallsIn calls′ ends′ stack′ k cs → Refines a b (next (withCalls cs s)) (callsAt calls′ ends′ stack′ b) (stepped progress.On (callsSet k m))
+      calls-changed cs h = refines-next (with-calls r h e-calls e-ends e-stack)
 
       both-changed :
           {p : Position} (cs : List Call) (width : ℕ) → CallsIn calls′ ends′ stack′ k cs → SourceIn (b .text) (b .pending) p (advance width (s .source))
-          → Gives a b (next (withCalls cs (taking width s))) (callsAt calls′ ends′ stack′ b) (turned went.On (callsSet k (sourceSet p m)))
+          → Refines a b (next (withCalls cs (taking width s))) (callsAt calls′ ends′ stack′ b) (stepped progress.On (callsSet k (sourceSet p m)))
       unfolding taking
-      both-changed cs width h q = gives-next (with-calls (with-source r q refl) h e-calls e-ends e-stack)
+      both-changed cs width h q = refines-next (with-calls (with-source r q refl) h e-calls e-ends e-stack)
 
       pub token-collected :
           {p : Position} (start n width : ℕ) (c : Call) (cs : List Call)
           → CallsIn calls′ ends′ stack′ k (collecting (take n (drop start (lentAhead (b .text) (b .pending) (m .source)))) (c .depth) c ∷ cs)
           → SourceIn (b .text) (b .pending) p (advance width (s .source))
-          → Gives a b (next (withCalls (collecting (take n (drop start (ahead (s .source)))) (c .depth) c ∷ cs) (taking width s))) (callsAt calls′ ends′ stack′ b)
-          (turned went.On (callsSet k (sourceSet p m)))
+          → Refines a b (next (withCalls (collecting (take n (drop start (ahead (s .source)))) (c .depth) c ∷ cs) (taking width s))) (callsAt calls′ ends′ stack′ b)
+          (stepped progress.On (callsSet k (sourceSet p m)))
       token-collected start n width c cs h q =
           let g : CallsIn calls′ ends′ stack′ k (collecting (take n (drop start (ahead (s .source)))) (c .depth) c ∷ cs) =
           subst (λ (l : Bytes). CallsIn calls′ ends′ stack′ k (collecting (take n (drop start l)) (c .depth) c ∷ cs)) (ahead-lent (r .source)) h in
@@ -299,16 +289,16 @@ module _ {a : Setting} {b : Memory} {m : Machine} {s : State} (r : Means a b m s
 
   -- ---- a call is opened
 
-  refuses-deep : {o : Outcome} → o ≡ refused deep → Gives a b o b (turned (went.Refused answer.Deep) m)
+  refuses-deep : {o : Outcome} → o ≡ refused deep → Refines a b o b (stepped (progress.Refused answer.Deep) m)
   unfolding faultAnswer
-  refuses-deep e = turned-refused deep e refl
+  refuses-deep e = stepped-refused deep e refl
 
-  pub open-deep : (name : Bytes) (width : ℕ) → 64 ≤ m .calls .opens → Gives a b (opened name (taking width s)) b (turned (went.Refused answer.Deep) m)
+  pub open-deep : (name : Bytes) (width : ℕ) → 64 ≤ m .calls .opens → Refines a b (opened name (taking width s)) b (stepped (progress.Refused answer.Deep) m)
   unfolding taking withSource
   open-deep name width h = refuses-deep (opened-deep name (taking width s) (rw (le-leb 64 (length (s .calls)) (omega (arith, r .calls .open-is)))))
 
   pub open-many :
-      (name : Bytes) (width : ℕ) → 256 ≤ m .calls .strings .count - m .calls .opens → Gives a b (opened name (taking width s)) b (turned (went.Refused answer.Deep) m)
+      (name : Bytes) (width : ℕ) → 256 ≤ m .calls .strings .count - m .calls .opens → Refines a b (opened name (taking width s)) b (stepped (progress.Refused answer.Deep) m)
   unfolding taking withSource
   open-many name width h =
       refuses-deep
@@ -324,11 +314,11 @@ module _ {a : Setting} {b : Memory} {m : Machine} {s : State} (r : Means a b m s
 
   pub open-full :
       (name : Bytes) (n width : ℕ) → m .calls .opens < 64 → m .calls .strings .count - m .calls .opens < 256 → length name ≡ n
-      → length (b .calls) - m .calls .strings .used < n → Gives a b (opened name (taking width s)) b (turned (went.Refused (answer.Room 2)) m)
+      → length (b .calls) - m .calls .strings .used < n → Refines a b (opened name (taking width s)) b (stepped (progress.Refused (answer.Room 2)) m)
   unfolding taking
   open-full name n width h k en l =
       rw (open-free name width h k)
-      (gives-room (withCalls (openCall name ∷ s .calls) (taking width s)) 1
+      (refines-room (withCalls (openCall name ∷ s .calls) (taking width s)) 1
       (calls-over r (advance width (s .source)) (after width) (openCall name ∷ s .calls)
       (omega (arith, cost-opened name (s .calls), calls-held (r .calls), r .calls .strings .used-in, r .limits .calls))))
 
@@ -337,7 +327,7 @@ module _ {a : Setting} {b : Memory} {m : Machine} {s : State} (r : Means a b m s
       → length stack′ ≡ length (b .stack) → (n : ℕ) → m .calls .opens < 64 → m .calls .strings .count - m .calls .opens < 256
       → CallsIn calls′ ends′ stack′ k (openCall (take n (lentAhead (b .text) (b .pending) (m .source))) ∷ s .calls)
       → SourceIn (b .text) (b .pending) p (advance (n + 1) (s .source))
-      → Gives a b (opened (take n (ahead (s .source))) (taking (suc n) s)) (callsAt calls′ ends′ stack′ b) (turned went.On (callsSet k (sourceSet p m)))
+      → Refines a b (opened (take n (ahead (s .source))) (taking (suc n) s)) (callsAt calls′ ends′ stack′ b) (stepped progress.On (callsSet k (sourceSet p m)))
   call-opened {calls′} {ends′} {stack′} {k} e-calls e-ends e-stack n l f h q =
       let g : CallsIn calls′ ends′ stack′ k (openCall (take n (ahead (s .source))) ∷ s .calls) =
       subst (λ (t : Bytes). CallsIn calls′ ends′ stack′ k (openCall (take n t) ∷ s .calls)) (ahead-lent (r .source)) h in
@@ -347,12 +337,12 @@ module _ {a : Setting} {b : Memory} {m : Machine} {s : State} (r : Means a b m s
   -- ---- a comma
 
   pub comma-many :
-      (c : Call) (cs : List Call) → s .calls ≡ c ∷ cs → 256 ≤ m .calls .strings .count - m .calls .opens → Gives a b (commaMet c cs s) b (turned (went.Refused answer.Deep) m)
+      (c : Call) (cs : List Call) → s .calls ≡ c ∷ cs → 256 ≤ m .calls .strings .count - m .calls .opens → Refines a b (commaMet c cs s) b (stepped (progress.Refused answer.Deep) m)
   comma-many c cs e h = refuses-deep (comma-deep c cs s (omega (arith, calls-counted (r .calls), ap argumentCount e)))
 
   pub comma-next :
       {ends′ stack′ : List ℕ} {k : Calls} (c : Call) (cs : List Call) → s .calls ≡ c ∷ cs → m .calls .strings .count - m .calls .opens < 256
       → CallsIn (b .calls) ends′ stack′ k (nextArgument c ∷ cs) → length ends′ ≡ length (b .callEnds) → length stack′ ≡ length (b .stack)
-      → Gives a b (commaMet c cs s) (callsAt (b .calls) ends′ stack′ b) (turned went.On (callsSet k m))
+      → Refines a b (commaMet c cs s) (callsAt (b .calls) ends′ stack′ b) (stepped progress.On (callsSet k m))
   comma-next c cs e h i e-ends e-stack =
       rw (comma-free c cs s (omega (arith, calls-counted (r .calls), ap argumentCount e))) (calls-changed refl e-ends e-stack (nextArgument c ∷ cs) i)

@@ -1,18 +1,6 @@
 -- Laws of the macros that change the streams, and of the end of the run. Assumes nothing.
-use Prim.Native.Nat.{ℕ, zero, suc, _+_, _-_, _≤_, _<_}
-use mathlib.Core.Path.{_≡_, refl, sym, ap, ap₂, subst, subst₂, _∙_}
-use mathlib.Core.Logic.{_⊎_, inl, inr, ⊎-elim}
-use mathlib.Core.Bool.{Bool, true, false}
-use mathlib.Core.List.{List, [], _∷_, _++_, append-nil}
-use mathlib.Core.Option.{none, some}
-use native.Mathlib.Decide.{ℕ-discrete}
-use native.Mathlib.Omega.{arith}
+use Rattle.rules.proofs.Base.{_≤_, _+_, ℕ, _-_, _<_, suc, zero, _∙_, refl, sym, ap, _≡_, subst, ap₂, subst₂, true, Bool, false, _⊎_, inl, inr, ⊎-elim, some, none, List, [], _++_, _∷_, append-nil, ℕ-discrete, arith, leb, pos, ℤ, negsuc, length, drop, take, getD, length-append, length-drop, set, length-set, replicate, length-replicate, getD-replicate, getD-drop, getD-set-same, getD-set-other, leb-true, leb-false, lt-ltb}
 use borrow.Rule.Slice.PartMut.{putMid}
-use borrow.Author.Tests.{leb-true, leb-false, lt-ltb}
-use lib.Dec.{leb}
-use lib.IntN.{ℤ, pos, negsuc}
-use lib.ListN.{length, take, drop, getD, set, replicate, length-append, length-drop, length-set, length-replicate, getD-replicate}
-use lib.Seq.{getD-drop, getD-set-same, getD-set-other}
 use Rattle.numerals.specs.declared.Decimal.the-variants as decimal
 use Rattle.numerals.specs.Answers.{decimalOf}
 use Rattle.rules.specs.declared.Answer.the-variants as answer
@@ -27,25 +15,25 @@ use Rattle.rules.specs.Run.{Setting}
 use Rattle.rules.proofs.Changes.{moves-in-turn}
 use Rattle.expander.specs.declared.sinks.Sinks.{Sinks}
 use Rattle.expander.specs.declared.machine.Machine.{Machine}
-use Rattle.expander.specs.declared.machine.Went.the-variants as went
+use Rattle.expander.specs.declared.machine.Progress.the-variants as progress
 use Rattle.expander.specs.Streams.{IsStream, StreamsIn, ownedBy, ownedCount, behindStream, discards}
 use Rattle.expander.specs.Sinks.{SinksIn}
 use Rattle.expander.specs.Filled.{Filled}
 use Rattle.expander.specs.Front.{Front}
 use Rattle.expander.specs.Diverting.{allNamed, turns, Idle, Seen}
-use Rattle.expander.specs.Machine.{Memory, Means, Gives, turned, sinksSet, sinksAt}
+use Rattle.expander.specs.Machine.{Memory, Represents, Refines, stepped, sinksSet, sinksAt}
 use Rattle.expander.proofs.ArgumentLaws.{number-or-bits, decimal-none, decimal-some, bits-plain}
 use Rattle.expander.proofs.CallsLaws.{joined-total}
 use Rattle.expander.proofs.Waiting.{none-held, text-of, length-of, nothing-out, nothing-moved}
 use Rattle.expander.proofs.FilledLaws.{filled-long, part-fills, front-more}
 use Rattle.expander.proofs.SinksLaws.{lost-is}
-use Rattle.expander.proofs.Moved.{moved-same, moved-to, moved-out, moved-lost, moved-current, turn-on, turns-end}
+use Rattle.expander.proofs.StreamMoves.{moved-same, moved-to, moved-out, moved-lost, moved-current, turn-on, turns-end}
 use Rattle.expander.proofs.Parted.{with-sinks}
 use Rattle.expander.proofs.Totals.{used-is}
-use Rattle.expander.proofs.Turns.{undivert-named, undivert-unnamed, turn-each}
-use Rattle.expander.proofs.MachineLaws.{front-long, pending-fits, streams-fit, gives-next, gives-stop, gives-room, gives-stop-room}
+use Rattle.expander.proofs.UndivertOrder.{undivert-named, undivert-unnamed, turn-each}
+use Rattle.expander.proofs.MachineLaws.{front-long, pending-fits, streams-fit, refines-next, refines-stop, refines-room, refines-stop-room}
 use Rattle.expander.proofs.DeliveringLaws.{total-set, output-over}
-use Rattle.expander.proofs.TurnLaws.{turned-on, turned-refused}
+use Rattle.expander.proofs.SteppedLaws.{stepped-on, stepped-refused}
 
 -- ---- what a move makes of the streams, by the current one
 
@@ -305,18 +293,18 @@ module _ (args : List Bytes) (s : State) where
   unfolding callDivert changing changedInTurn changed
   divert-some z e = rw (e, callDivert)
 
-module _ {a : Setting} {b : Memory} {m : Machine} {s : State} (r : Means a b m s) (args : List Bytes) where
-  pub divert-unread : decimalOf (numberOr (pos 0) 1 args) ≡ decimal.NoNumber → Gives a b (callDivert args s) b (turned (went.Refused answer.Number) m)
+module _ {a : Setting} {b : Memory} {m : Machine} {s : State} (r : Represents a b m s) (args : List Bytes) where
+  pub divert-unread : decimalOf (numberOr (pos 0) 1 args) ≡ decimal.NoNumber → Refines a b (callDivert args s) b (stepped (progress.Refused answer.Number) m)
   unfolding faultAnswer
-  divert-unread e = turned-refused noNumber (divert-none args s (decimal-none refl e)) refl
+  divert-unread e = stepped-refused noNumber (divert-none args s (decimal-none refl e)) refl
 
   pub divert-read :
       (bits : ℕ) → decimalOf (numberOr (pos 0) 1 args) ≡ decimal.Number bits
-      → Gives a b (callDivert args s) b (turned went.On (sinksSet (record { current = bits; waiting = m .sinks .waiting; output = m .sinks .output }) m))
+      → Refines a b (callDivert args s) b (stepped progress.On (sinksSet (record { current = bits; waiting = m .sinks .waiting; output = m .sinks .output }) m))
   unfolding diverted
   divert-read bits e =
       let v = decimal-some refl bits e in
-      turned-on
+      stepped-on
       (with-sinks r
       (record {
         waiting = r .sinks .waiting;
@@ -337,47 +325,47 @@ module _ (args : List Bytes) (s : State) where
   unfolding callUndivert changing
   undivert-some e = rw (undivert-named args e, callUndivert) (ap (λ (u : Streams). next (withStreams u s)) (moves-in-turn (turns args) (s .streams)))
 
-module _ {a : Setting} {b : Memory} {m : Machine} {s : State} (r : Means a b m s) (args : List Bytes) where
-  pub undivert-bad : allNamed args ≡ false → Gives a b (callUndivert args s) b (turned (went.Refused answer.Number) m)
+module _ {a : Setting} {b : Memory} {m : Machine} {s : State} (r : Represents a b m s) (args : List Bytes) where
+  pub undivert-bad : allNamed args ≡ false → Refines a b (callUndivert args s) b (stepped (progress.Refused answer.Number) m)
   unfolding faultAnswer
-  undivert-bad e = turned-refused noNumber (undivert-none args s e) refl
+  undivert-bad e = stepped-refused noNumber (undivert-none args s e) refl
 
   module _ (e : allNamed args ≡ true) where
-    pub undivert-full : leb (length (movedInTurn (turns args) (s .streams) .output)) (length (b .output)) ≡ false → Gives a b (callUndivert args s) b (turned (went.Refused (answer.Room 7)) m)
+    pub undivert-full : leb (length (movedInTurn (turns args) (s .streams) .output)) (length (b .output)) ≡ false → Refines a b (callUndivert args s) b (stepped (progress.Refused (answer.Room 7)) m)
     unfolding withSource
     undivert-full l =
         let w = turns-sum (turns args) (turn-each args e) (s .streams) (r .sinks .waiting .nine) in
         rw (undivert-some args s e)
-        (gives-room (withStreams (movedInTurn (turns args) (s .streams)) s) 6
+        (refines-room (withStreams (movedInTurn (turns args) (s .streams)) s) 6
         (output-over r (s .source) (pending-fits r) (movedInTurn (turns args) (s .streams)) (omega (arith, w .0, w .1, streams-fit r)) (omega (arith, leb-false (length (movedInTurn (turns args) (s .streams) .output)) (length (b .output)) l, r .limits .output))))
 
     pub undivert-on :
         {streams′ : Bytes} {owners′ : List ℕ} {output′ : Bytes} {k : Sinks} → SinksIn streams′ owners′ output′ k (movedInTurn (turns args) (s .streams))
         → length streams′ ≡ length (b .streams) → length owners′ ≡ length (b .owners) → length output′ ≡ length (b .output)
-        → Gives a b (callUndivert args s) (sinksAt streams′ owners′ output′ b) (turned went.On (sinksSet k m))
-    undivert-on g e-streams e-owners e-output = rw (undivert-some args s e) (gives-next (with-sinks r g e-streams e-owners e-output))
+        → Refines a b (callUndivert args s) (sinksAt streams′ owners′ output′ b) (stepped progress.On (sinksSet k m))
+    undivert-on g e-streams e-owners e-output = rw (undivert-some args s e) (refines-next (with-sinks r g e-streams e-owners e-output))
 
 -- ---- the end
 
-module _ {a : Setting} {b : Memory} {m : Machine} {s : State} (r : Means a b m s) where
+module _ {a : Setting} {b : Memory} {m : Machine} {s : State} (r : Represents a b m s) where
   finished-long : length (finishedStreams (s .streams) .output) ≡ m .sinks .output + m .sinks .waiting
   unfolding finishedStreams
   finished-long =
       omega (arith, length-append (s .streams .output) (joined (s .streams .waiting)), front-long (r .sinks .written), joined-total (s .streams .waiting), used-is (r .sinks .waiting))
 
-  pub finish-full : length (b .output) - m .sinks .output < m .sinks .waiting → Gives a b (stop done (withStreams (finishedStreams (s .streams)) s)) b (turned (went.Refused (answer.Room 7)) m)
+  pub finish-full : length (b .output) - m .sinks .output < m .sinks .waiting → Refines a b (stop done (withStreams (finishedStreams (s .streams)) s)) b (stepped (progress.Refused (answer.Room 7)) m)
   unfolding finishedStreams totalLength withSource
   finish-full h =
-      gives-stop-room done (withStreams (finishedStreams (s .streams)) s) 6
+      refines-stop-room done (withStreams (finishedStreams (s .streams)) s) 6
       (output-over r (s .source) (pending-fits r) (finishedStreams (s .streams)) (omega arith) (omega (arith, finished-long, r .sinks .written .inside, r .limits .output)))
 
   pub finish-ends :
       (w : Bytes) → w ≡ joined (s .streams .waiting) → m .sinks .waiting ≤ length (b .output) - m .sinks .output
-      → Gives a b (stop done (withStreams (finishedStreams (s .streams)) s))
+      → Refines a b (stop done (withStreams (finishedStreams (s .streams)) s))
       (sinksAt (b .streams) (b .owners) (putMid (m .sinks .output) (m .sinks .output + m .sinks .waiting - m .sinks .output) (b .output) w) b)
-      (turned (went.Ended answer.Done) (sinksSet (record { current = m .sinks .current; waiting = 0; output = m .sinks .output + m .sinks .waiting }) m))
+      (stepped (progress.Ended answer.Done) (sinksSet (record { current = m .sinks .current; waiting = 0; output = m .sinks .output + m .sinks .waiting }) m))
   unfolding finishedStreams endingAnswer
   finish-ends w e h =
       let l : length w ≡ m .sinks .waiting = ap length e ∙ joined-total (s .streams .waiting) ∙ used-is (r .sinks .waiting) in
       let f = written-more (r .sinks .written) w (joined (s .streams .waiting)) (m .sinks .waiting) e l h in
-      gives-stop done (with-sinks r (record { waiting = none-held (b .streams) (b .owners); written = f .0; current = r .sinks .current }) refl refl (f .1))
+      refines-stop done (with-sinks r (record { waiting = none-held (b .streams) (b .owners); written = f .0; current = r .sinks .current }) refl refl (f .1))

@@ -1,11 +1,5 @@
 -- What the token ahead calls for, by what the code goes by: the role of a byte in a call, a name's meaning, the token. Assumes nothing.
-use Prim.Native.Nat.{ℕ, _-_, _≤_, _<_}
-use mathlib.Core.Path.{_≡_, sym, ap, subst, _∙_}
-use mathlib.Core.Bool.{Bool, true, false}
-use mathlib.Core.List.{List, [], _∷_}
-use mathlib.Core.Option.{Option}
-use lib.Dec.{eqb}
-use lib.ListN.{take, getD}
+use Rattle.rules.proofs.Base.{_≤_, ℕ, _-_, _<_, _∙_, sym, ap, _≡_, subst, true, Bool, false, Option, List, [], _∷_, eqb, take, getD}
 use Rattle.rules.specs.declared.Token.{Token}
 use Rattle.rules.specs.declared.Token.the-variants as token
 use Rattle.rules.specs.Bytes.{Bytes}
@@ -28,7 +22,7 @@ use Rattle.expander.specs.declared.table.Meaning.{Meaning as Looked}
 use Rattle.expander.specs.declared.table.Meaning.the-variants as looked
 use Rattle.expander.specs.Calls.{CallsIn, bit}
 use Rattle.expander.specs.Events.{PlainWithin, SpecialWithin, EventWithin, PlainIs, SpecialIs, EventIs, NameFound}
-use Rattle.expander.specs.Machine.{Memory, Means, aheadOf}
+use Rattle.expander.specs.Machine.{Memory, Represents, aheadOf}
 use Rattle.expander.specs.Step.{byRole, HasRole, TokenWithin}
 use Rattle.expander.specs.Table.{Finds, plainUnopened}
 use Rattle.expander.proofs.CallsLaws.{depth-in}
@@ -61,7 +55,7 @@ role-within text pending m x (role.Collected depth) o h = (h, o)
 role-within text pending m x role.Closes o h = (h, o)
 role-within text pending m x role.Separates o h = (h, o)
 
-module _ {a : Setting} {b : Memory} {m : Machine} {s : State} (r : Means a b m s) (x : ℕ) (e : step s ≡ act (token.Byte x) s) where
+module _ {a : Setting} {b : Memory} {m : Machine} {s : State} (r : Represents a b m s) (x : ℕ) (e : step s ≡ act (token.Byte x) s) where
   -- no call is open
   pub emit-is : m .calls .opens ≡ 0 → EventIs s (event.Plain (plain.Emit x))
   unfolding EventIs PlainIs act taking withSource

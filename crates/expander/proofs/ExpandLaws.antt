@@ -1,14 +1,6 @@
 -- What a call of the expander makes of the run: what is lent, what is copied out, and what the five working buffers hold then.
-use Prim.Native.Nat.{ℕ, zero, suc, _≤_}
-use mathlib.Core.Path.{_≡_, refl, sym, ap, _∙_}
-use mathlib.Core.Bool.{Bool, true, false, true≢false}
-use mathlib.Core.List.{List, [], _∷_, _++_}
-use mathlib.Core.Option.{Option, none, some}
-use native.Mathlib.Omega.{arith}
-use borrow.Author.Tests.{leb-true}
-use lib.Dec.{eqb, leb}
-use lib.ListN.{length, take, drop, replicate, length-append, length-drop}
-use lib.Seq.{length-take-le, take-append-le}
+use Rattle.expander.specs.Limits.{mostLent}
+use Rattle.rules.proofs.Base.{_≤_, ℕ, suc, zero, _∙_, refl, sym, ap, _≡_, true, Bool, false, true≢false, some, none, Option, List, [], _++_, _∷_, arith, eqb, leb, length, drop, take, length-append, length-drop, replicate, length-take-le, take-append-le, leb-true}
 use Rattle.rules.specs.declared.Answer.the-variants as answer
 use Rattle.rules.specs.declared.Report.{Report}
 use Rattle.rules.specs.Bytes.{Bytes}
@@ -26,12 +18,12 @@ use Rattle.expander.specs.Run.{Ran, Wrote, Lent, LinkLengths, Zeroed}
 -- ---- what is lent
 
 -- none of the eight lengths is above 65,536
-lend-head : (l : ℕ) (ls : List ℕ) → true ≡ allLendable (l ∷ ls) → (l ≤ 65536) × (true ≡ allLendable ls)
+lend-head : (l : ℕ) (ls : List ℕ) → true ≡ allLendable (l ∷ ls) → (l ≤ mostLent) × (true ≡ allLendable ls)
 unfolding allLendable
-lend-head l ls e = go (leb l 65536) refl e
+lend-head l ls e = go (leb l mostLent) refl e
   where
-    go : (b : Bool) → leb l 65536 ≡ b → true ≡ elim b [ true ↦ allLendable ls | false ↦ false ] → (l ≤ 65536) × (true ≡ allLendable ls)
-    go true h q = (leb-true l 65536 h, q)
+    go : (b : Bool) → leb l mostLent ≡ b → true ≡ elim b [ true ↦ allLendable ls | false ↦ false ] → (l ≤ mostLent) × (true ≡ allLendable ls)
+    go true h q = (leb-true l mostLent h, q)
     go false h q = absurd (true≢false q)
 
 pub all-lent : (t p c d s w e o : ℕ) → true ≡ allLendable (t ∷ p ∷ c ∷ d ∷ s ∷ w ∷ e ∷ o ∷ []) → Lent t p c d s w e o
@@ -50,7 +42,7 @@ all-lent t p c d s w e o q =
 pub lent-limits :
     (text pending calls definitions streams wrap errors output errorText outputText : Bytes) (ends stack tableEnds owners : List ℕ) (budget : ℕ)
     → Lent (length text) (length pending) (length calls) (length definitions) (length streams) (length wrap) (length errors) (length output)
-    → LinkLengths ends stack tableEnds owners → length errorText ≡ 65536 → length outputText ≡ 65536
+    → LinkLengths ends stack tableEnds owners → length errorText ≡ mostLent → length outputText ≡ mostLent
     → Limits (settingOf (record { pending = pending; calls = calls; definitions = definitions; streams = streams; wrap = wrap; errors = errors; output = output }) budget)
     (memory text pending calls ends stack definitions tableEnds streams owners wrap (take (length errors) errorText) (take (length output) outputText))
 unfolding settingOf
@@ -83,10 +75,6 @@ lent-limits text pending calls definitions streams wrap errors output errorText 
 
 pub part-size : (n : ℕ) (buffer : Bytes) → n ≤ length buffer → n ≡ length (take n buffer)
 part-size n buffer h = sym (length-take-le n buffer h)
-
--- a part that kept its length, put back into its buffer
-pub put-back : (n : ℕ) (buffer part : Bytes) → n ≤ length buffer → length part ≡ length (take n buffer) → length (part ++ drop n buffer) ≡ length buffer
-put-back n buffer part h e = omega (arith, length-append part (drop n buffer), length-drop n buffer, length-take-le n buffer h, e)
 
 -- a text at the front of a buffer is at the front of a longer one
 front-longer : {buffer : Bytes} {n : ℕ} {w : Bytes} (more : Bytes) → Front buffer n w → Front (buffer ++ more) n w

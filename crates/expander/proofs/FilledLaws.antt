@@ -1,19 +1,12 @@
 -- A text written into a buffer at a place.
-use Prim.Native.Nat.{ℕ, _+_, _-_, _≤_}
-use mathlib.Core.Path.{_≡_, sym, ap, subst, _∙_}
-use mathlib.Core.List.{List, [], _∷_, _++_, append-assoc}
-use native.Mathlib.Omega.{arith}
-use lib.ListN.{length, take, drop, set, length-append, length-take, take-append-drop, replicate, length-replicate}
-use lib.Seq.{length-take-le, drop-drop, set-split, drop-at}
+use Rattle.rules.proofs.Base.{_≤_, _+_, ℕ, _-_, _∙_, sym, ap, _≡_, subst, Bool, List, [], _++_, _∷_, append-assoc, add-one, arith, length, drop, take, length-append, set, length-take, replicate, take-append-drop, length-replicate, length-take-le, drop-drop, drop-at, set-split}
 use borrow.Rule.Slice.PartMut.{putMid}
-use native.Mathlib.Numerals.{add-one}
 use Rattle.rules.specs.Bytes.{Bytes}
-use mathlib.Core.Bool.{Bool}
 use Rattle.ascii.specs.Copied.{Copied}
 use Rattle.expander.specs.Filled.{Filled}
 use Rattle.expander.specs.Packed.{overlaid}
 use Rattle.expander.specs.Front.{Front}
-use Rattle.expander.proofs.Moving.{drop-overlaid, take-overlaid, length-overlaid}
+use Rattle.expander.proofs.Overwriting.{drop-overlaid, take-overlaid, length-overlaid}
 use Rattle.expander.proofs.Parts.{copied-whole, part-long}
 
 module _ {before : Bytes} {at : ℕ} {w after : Bytes} (f : Filled before at w after) where

@@ -1,15 +1,5 @@
 -- Laws of what undivert would add to the output, counted before anything is moved. Assumes nothing.
-use Prim.Native.Nat.{ℕ, zero, suc, _+_, _-_, _≤_, _<_}
-use mathlib.Core.Path.{_≡_, refl, sym, ap, _∙_}
-use mathlib.Core.Bool.{Bool, true, false}
-use mathlib.Core.List.{List, [], _∷_}
-use native.Mathlib.Decide.{ℕ-discrete}
-use native.Mathlib.Omega.{arith}
-use borrow.Author.Tests.{le-leb, lt-leb, leb-true, leb-false}
-use lib.Dec.{leb}
-use lib.IntN.{pos}
-use lib.ListN.{length, take, drop, getD, set, length-append, length-set}
-use lib.Seq.{getD-set-same, getD-set-other, length-take-le}
+use Rattle.rules.proofs.Base.{_≤_, _+_, ℕ, _-_, _<_, suc, zero, _∙_, refl, sym, ap, _≡_, true, Bool, false, List, [], _∷_, ℕ-discrete, arith, leb, pos, length, drop, take, getD, length-append, set, length-set, length-take-le, getD-set-same, getD-set-other, le-leb, leb-true, lt-leb, leb-false}
 use Rattle.rules.specs.Bytes.{Bytes}
 use Rattle.rules.specs.Streams.{Streams, moved, movedInTurn}
 use Rattle.expander.specs.declared.sinks.Sinks.{Sinks}
@@ -17,10 +7,10 @@ use Rattle.expander.specs.Streams.{IsStream, ownedCount, Ten, discards}
 use Rattle.expander.specs.Sinks.{SinksIn}
 use Rattle.expander.specs.Diverting.{Leaving}
 use Rattle.expander.proofs.ArgumentLaws.{bits-plain}
-use Rattle.expander.proofs.Owned.{owned-within}
+use Rattle.expander.proofs.OwnedBytes.{owned-within}
 use Rattle.expander.proofs.Waiting.{length-of}
 use Rattle.expander.proofs.SinksLaws.{lost-is}
-use Rattle.expander.proofs.Moved.{moved-out, moved-current, turn-on, turns-end}
+use Rattle.expander.proofs.StreamMoves.{moved-out, moved-current, turn-on, turns-end}
 use Rattle.expander.proofs.Totals.{used-is}
 use Rattle.expander.proofs.MachineLaws.{front-long}
 use Rattle.expander.proofs.DivertingLaws.{moved-any, moved-nine, turns-sum, is-out}

@@ -1,11 +1,5 @@
 -- Results in front of the text ahead: refused where buffer 1 lacks room, else written just before the pending text.
-use Prim.Native.Nat.{ℕ, _+_, _-_, _≤_, _<_}
-use mathlib.Core.Path.{_≡_, refl, sym, ap, subst, _∙_}
-use mathlib.Core.Bool.{Bool, true}
-use mathlib.Core.List.{List, [], _++_}
-use native.Mathlib.Omega.{arith}
-use lib.ListN.{length, take, drop, getD, length-append}
-use borrow.Author.Tests.{eq-eqb}
+use Rattle.rules.proofs.Base.{_≤_, _+_, ℕ, _-_, _<_, _∙_, refl, sym, ap, _≡_, subst, true, Bool, List, [], _++_, arith, length, drop, take, getD, length-append, eq-eqb}
 use borrow.Rule.Slice.PartMut.{putMid}
 use Rattle.rules.specs.declared.Answer.the-variants as answer
 use Rattle.rules.specs.Bytes.{Bytes}
@@ -26,42 +20,42 @@ use Rattle.numerals.specs.declared.Length.the-variants as measured
 use Rattle.matching.specs.Partners.{partnerTable, replaced}
 use Rattle.matching.proofs.Partners.{table-puts}
 use Rattle.expander.specs.declared.arguments.Arguments.{Arguments}
-use Rattle.expander.specs.declared.cuts.Cut.{Cut}
-use Rattle.expander.specs.declared.cuts.Cut.the-variants as cut
+use Rattle.expander.specs.declared.part_results.PartResult.{PartResult}
+use Rattle.expander.specs.declared.part_results.PartResult.the-variants as part-result
 use Rattle.expander.specs.declared.defn.DefnLength.the-variants as defnLength
-use Rattle.expander.specs.declared.figures.Figure.{Figure}
-use Rattle.expander.specs.declared.figures.Figure.the-variants as figure
-use Rattle.expander.specs.declared.giving.Given.the-variants as given
+use Rattle.expander.specs.declared.number_results.NumberResult.{NumberResult}
+use Rattle.expander.specs.declared.number_results.NumberResult.the-variants as number-result
+use Rattle.expander.specs.declared.giving.Pushed.the-variants as pushed
 use Rattle.expander.specs.declared.machine.Machine.{Machine}
-use Rattle.expander.specs.declared.machine.Turn.{Turn}
+use Rattle.expander.specs.declared.machine.Stepped.{Stepped}
 use Rattle.expander.specs.declared.packed.Packed.{Packed}
 use Rattle.expander.specs.Limits.{mostLent}
 use Rattle.expander.specs.Arguments.{ArgumentsIn}
 use Rattle.expander.specs.Defn.{measuredAs}
 use Rattle.expander.specs.Filled.{Filled}
-use Rattle.expander.specs.Giving.{givenTurn}
-use Rattle.expander.specs.Machine.{Memory, memory, Means, Gives}
-use Rattle.expander.specs.Results.{figureResult, FigureRadix, Shows, cutResult, CutInside, Cuts}
+use Rattle.expander.specs.Giving.{pushedStep}
+use Rattle.expander.specs.Machine.{Memory, memory, Represents, Refines}
+use Rattle.expander.specs.Results.{resultOfNumber, GoodRadix, Shows, resultOfPart, PartInside, ShowsPart}
 use Rattle.expander.specs.Table.{rows, DefinitionsIn}
 use Rattle.expander.proofs.ArgumentLaws.{argument-bytes}
 use Rattle.expander.proofs.FilledLaws.{filled-long, filled-from, part-fills}
-use Rattle.expander.proofs.MachineLaws.{over-pending, gives-next, gives-room}
+use Rattle.expander.proofs.MachineLaws.{over-pending, refines-next, refines-room}
 use Rattle.expander.proofs.Packing.{string-fits}
 use Rattle.expander.proofs.Parted.{with-source}
 use Rattle.expander.proofs.Parts.{part-long}
 use Rattle.expander.proofs.SourceLaws.{pending-long, pushed-back}
-use Rattle.expander.proofs.TurnLaws.{gives-by, turned-refused}
+use Rattle.expander.proofs.SteppedLaws.{refines-by, stepped-refused}
 
 -- ---- what a machine makes of what is given
 
--- by the turn that it is
-pub gives-given : {a : Setting} {o : Outcome} {before b : Memory} {t t′ : Turn} → t ≡ t′ → Gives a before o b t′ → Gives a before o b t
-gives-given e g = gives-by refl e g
+-- by what the code hands back
+pub refines-given : {a : Setting} {o : Outcome} {before b : Memory} {t t′ : Stepped} → t ≡ t′ → Refines a before o b t′ → Refines a before o b t
+refines-given e g = refines-by refl e g
 
 -- it is refused
-pub giving-refused : {a : Setting} {o : Outcome} {b : Memory} {m : Machine} {s : State} → Means a b m s → (f : Fault) → o ≡ refused f → Gives a b o b (givenTurn m (given.Refused (faultAnswer f)))
-unfolding givenTurn
-giving-refused r f e = turned-refused f e refl
+pub giving-refused : {a : Setting} {o : Outcome} {b : Memory} {m : Machine} {s : State} → Represents a b m s → (f : Fault) → o ≡ refused f → Refines a b o b (pushedStep m (pushed.Refused (faultAnswer f)))
+unfolding pushedStep
+giving-refused r f e = stepped-refused f e refl
 
 -- ---- a text of n bytes in front of the text ahead
 
@@ -72,7 +66,7 @@ gap-long d from n h k = omega (arith, part-long d (from - n) from k)
 module _
     {a : Setting} {text pending calls : Bytes} {callEnds stack : List ℕ} {definitions : Bytes} {tableEnds : List ℕ} {streams : Bytes} {owners : List ℕ}
     {wrap errors output : Bytes} {m : Machine} {s : State}
-    (r : Means a (memory text pending calls callEnds stack definitions tableEnds streams owners wrap errors output) m s)
+    (r : Represents a (memory text pending calls callEnds stack definitions tableEnds streams owners wrap errors output) m s)
     (w : Bytes) (n : ℕ) (e : length w ≡ n)
   where
     resulting-long : length ((resulting w s) .source .pending) ≡ n + (length pending - m .source .from)
@@ -82,26 +76,26 @@ module _
     -- there is no room for it
     pub giving-room :
         m .source .from < n
-        → Gives a (memory text pending calls callEnds stack definitions tableEnds streams owners wrap errors output) (next (resulting w s))
-        (memory text pending calls callEnds stack definitions tableEnds streams owners wrap errors output) (givenTurn m (given.Refused (answer.Room 1)))
-    unfolding givenTurn
+        → Refines a (memory text pending calls callEnds stack definitions tableEnds streams owners wrap errors output) (next (resulting w s))
+        (memory text pending calls callEnds stack definitions tableEnds streams owners wrap errors output) (pushedStep m (pushed.Refused (answer.Room 1)))
+    unfolding pushedStep
     giving-room h =
-        gives-room (resulting w s) 0 (over-pending a (resulting w s) (omega (arith, resulting-long, r .limits .pending, r .source .from-in)))
+        refines-room (resulting w s) 0 (over-pending a (resulting w s) (omega (arith, resulting-long, r .limits .pending, r .source .from-in)))
 
     module _ (fits : n ≤ m .source .from) where
       -- it stands there
       pub giving-front :
           {before : Memory} {pending′ : Bytes} {at : ℕ} → at ≡ m .source .from - n → length pending′ ≡ length pending → drop at pending′ ≡ w ++ drop (m .source .from) pending
-          → Gives a before (next (resulting w s)) (memory text pending′ calls callEnds stack definitions tableEnds streams owners wrap errors output)
-          (givenTurn m (given.At at))
-      unfolding resulting givenTurn
-      giving-front {at = at} i l k = gives-next (with-source r (pushed-back w at (r .source) (omega (arith, r .source .from-in)) k) l)
+          → Refines a before (next (resulting w s)) (memory text pending′ calls callEnds stack definitions tableEnds streams owners wrap errors output)
+          (pushedStep m (pushed.At at))
+      unfolding resulting pushedStep
+      giving-front {at = at} i l k = refines-next (with-source r (pushed-back w at (r .source) (omega (arith, r .source .from-in)) k) l)
 
       -- it was written there, into the buffer
       pub giving-filled :
           {before : Memory} {pending′ : Bytes} → Filled pending (m .source .from - n) w pending′
-          → Gives a before (next (resulting w s)) (memory text pending′ calls callEnds stack definitions tableEnds streams owners wrap errors output)
-          (givenTurn m (given.At (m .source .from - n)))
+          → Refines a before (next (resulting w s)) (memory text pending′ calls callEnds stack definitions tableEnds streams owners wrap errors output)
+          (pushedStep m (pushed.At (m .source .from - n)))
       giving-filled f =
           let k : m .source .from - n + length w ≡ m .source .from = omega arith in
           giving-front refl (filled-long f) (filled-from f ∙ ap (λ (i : ℕ). w ++ drop i pending) k)
@@ -109,9 +103,9 @@ module _
       -- or into the part of it that ends before the pending text
       pub giving-part :
           {before : Memory} {y : Bytes} → y ≡ w
-          → Gives a before (next (resulting w s))
+          → Refines a before (next (resulting w s))
           (memory text (putMid (m .source .from - n) (m .source .from - (m .source .from - n)) pending y) calls callEnds stack definitions tableEnds streams owners wrap errors output)
-          (givenTurn m (given.At (m .source .from - n)))
+          (pushedStep m (pushed.At (m .source .from - n)))
       giving-part {y = y} f =
           giving-filled (rw f (part-fills pending w (m .source .from - n) (m .source .from) (omega arith) (r .source .from-in)))
 
@@ -144,30 +138,30 @@ pub number-written : {good r : Bool} {w before after : Bytes} → Written good w
 number-written {w} {before} k g l = rw (g, eq-eqb (length w) (length before) l) at (k .written)
 
 -- the result that it stands for
-pub figure-fails : {v : Result} {f g : Figure} {x : Fault} → Shows v f → f ≡ g → figureResult g ≡ fails x → v ≡ fails x
-figure-fails h e k = h .is ∙ ap figureResult e ∙ k
+pub number-result-fails : {v : Result} {f g : NumberResult} {x : Fault} → Shows v f → f ≡ g → resultOfNumber g ≡ fails x → v ≡ fails x
+number-result-fails h e k = h .is ∙ ap resultOfNumber e ∙ k
 
-pub figure-yields : {v : Result} {f : Figure} {bits radix least : ℕ} → Shows v f → f ≡ figure.Number bits radix least → v ≡ yields (writtenIn radix least (signedValue bits))
-unfolding figureResult
-figure-yields h e = h .is ∙ ap figureResult e
+pub number-result-yields : {v : Result} {f : NumberResult} {bits radix least : ℕ} → Shows v f → f ≡ number-result.Number bits radix least → v ≡ yields (writtenIn radix least (signedValue bits))
+unfolding resultOfNumber
+number-result-yields h e = h .is ∙ ap resultOfNumber e
 
-pub figure-radix : {v : Result} {f : Figure} {bits radix least : ℕ} → Shows v f → f ≡ figure.Number bits radix least → isRadix radix ≡ true
-unfolding FigureRadix
-figure-radix h e = rw e at (h .radix)
+pub number-result-radix : {v : Result} {f : NumberResult} {bits radix least : ℕ} → Shows v f → f ≡ number-result.Number bits radix least → isRadix radix ≡ true
+unfolding GoodRadix
+number-result-radix h e = rw e at (h .radix)
 
 -- ---- a part of a buffer
 
-pub cut-inside : (bytes : Bytes) {c : Cut} {start end : ℕ} → CutInside bytes c → c ≡ cut.Part start end → (start ≤ end) × (end ≤ length bytes)
-unfolding CutInside
-cut-inside bytes h e = rw e at h
+pub part-result-inside : (bytes : Bytes) {c : PartResult} {start end : ℕ} → PartInside bytes c → c ≡ part-result.Part start end → (start ≤ end) × (end ≤ length bytes)
+unfolding PartInside
+part-result-inside bytes h e = rw e at h
 
-pub cut-yields : {bytes : Bytes} {v : Result} {c : Cut} {start end : ℕ} → Cuts bytes v c → c ≡ cut.Part start end → v ≡ yields (take (end - start) (drop start bytes))
-unfolding cutResult
-cut-yields {bytes} h e = h .is ∙ ap (cutResult bytes) e
+pub part-result-yields : {bytes : Bytes} {v : Result} {c : PartResult} {start end : ℕ} → ShowsPart bytes v c → c ≡ part-result.Part start end → v ≡ yields (take (end - start) (drop start bytes))
+unfolding resultOfPart
+part-result-yields {bytes} h e = h .is ∙ ap (resultOfPart bytes) e
 
-pub cut-fails : {bytes : Bytes} {v : Result} {c : Cut} → Cuts bytes v c → c ≡ cut.NoNumber → v ≡ fails noNumber
-unfolding cutResult
-cut-fails {bytes} h e = h .is ∙ ap (cutResult bytes) e
+pub part-result-fails : {bytes : Bytes} {v : Result} {c : PartResult} → ShowsPart bytes v c → c ≡ part-result.NoNumber → v ≡ fails noNumber
+unfolding resultOfPart
+part-result-fails {bytes} h e = h .is ∙ ap (resultOfPart bytes) e
 
 -- ---- the macros
 
@@ -179,22 +173,22 @@ table-is h b {y} {z} {t} e f g w =
     ∙ table-puts y z (λ i. subst (λ (v : Bytes). getD v i 0 < 256) (sym e) (argument-bytes h b 2 (omega arith) i)) (λ i. subst (λ (v : Bytes). getD v i 0 < 256) (sym f) (argument-bytes h b 3 (omega arith) i)) w
 
 module _ (s : State) (args : List Bytes) where
-  pub translit-gives : {x y z : Bytes} → x ≡ arg 1 args → y ≡ arg 2 args → z ≡ arg 3 args → callTranslit args s ≡ next (resulting (transliterated y z x) s)
+  pub translit-refines : {x y z : Bytes} → x ≡ arg 1 args → y ≡ arg 2 args → z ≡ arg 3 args → callTranslit args s ≡ next (resulting (transliterated y z x) s)
   unfolding callTranslit translitResult giving
-  translit-gives e f g = rw (e, f, g) refl
+  translit-refines e f g = rw (e, f, g) refl
 
   module _ {k : MarkTexts} (e : s .marks ≡ k) where
-    pub shift-gives : callShift args s ≡ next (resulting (commas (quotedEach k (drop 1 args))) s)
+    pub shift-refines : callShift args s ≡ next (resulting (commas (quotedEach k (drop 1 args))) s)
     unfolding callShift shiftResult giving
-    shift-gives = rw e refl
+    shift-refines = rw e refl
 
-    pub text-gives : (name : Bytes) {x y : Bytes} → y ≡ x → giving (yields (substituted name args (s .marks) x)) s ≡ next (resulting (substituted name args k y) s)
+    pub text-refines : (name : Bytes) {x y : Bytes} → y ≡ x → giving (yields (substituted name args (s .marks) x)) s ≡ next (resulting (substituted name args k y) s)
     unfolding giving
-    text-gives name f = rw (e, f) refl
+    text-refines name f = rw (e, f) refl
 
-    pub defn-gives : {w : Bytes} → defnResult k (s .table) args ≡ yields w → callDefn args s ≡ next (resulting w s)
+    pub defn-refines : {w : Bytes} → defnResult k (s .table) args ≡ yields w → callDefn args s ≡ next (resulting w s)
     unfolding callDefn
-    defn-gives h = giving-yields s (ap (λ (x : MarkTexts). defnResult x (s .table) args) e ∙ h)
+    defn-refines h = giving-yields s (ap (λ (x : MarkTexts). defnResult x (s .table) args) e ∙ h)
 
     pub defn-refused : defnResult k (s .table) args ≡ fails noText → callDefn args s ≡ refused noText
     unfolding callDefn

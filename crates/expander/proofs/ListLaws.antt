@@ -1,12 +1,5 @@
 -- Laws of arguments joined by a byte, each between quote marks: how long they are, and how they are written one behind the other. Assumes nothing.
-use Prim.Native.Nat.{ℕ, suc, _+_, _-_, _*_, _≤_, _<_}
-use native.Mathlib.Nat.{add-mul, mul-le-mul}
-use native.Mathlib.Numerals.{add-one}
-use native.Mathlib.Omega.{arith}
-use mathlib.Core.Path.{_≡_, refl, sym, ap, subst, _∙_}
-use mathlib.Core.List.{List, [], _∷_, _++_, append-assoc, append-nil}
-use lib.ListN.{length, take, drop, set, length-append, length-drop, take-append-drop, drop-of-length-le}
-use lib.Seq.{drop-cons, drop-drop}
+use Rattle.rules.proofs.Base.{_≤_, _+_, ℕ, _-_, _<_, suc, _*_, _∙_, refl, sym, ap, _≡_, subst, List, [], _++_, _∷_, append-assoc, append-nil, add-mul, mul-le-mul, add-one, arith, length, drop, take, length-append, length-drop, set, drop-of-length-le, take-append-drop, drop-cons, drop-drop}
 use Rattle.rules.specs.Bytes.{Bytes}
 use Rattle.rules.specs.declared.Marks.{Marks}
 use Rattle.rules.specs.Marks.{MarkTexts, markText, markTexts, quoted}
@@ -19,7 +12,7 @@ use Rattle.expander.specs.Packed.{startOf}
 use Rattle.expander.specs.Arguments.{ArgumentsIn, ShortQuotes}
 use Rattle.expander.proofs.ArgumentLaws.{arg-next, arguments-counted}
 use Rattle.expander.proofs.FilledLaws.{filled-long, filled-nothing, filled-then, filled-next, byte-fills}
-use Rattle.expander.proofs.Marks.{mark-length}
+use Rattle.expander.proofs.MarkPlaces.{mark-length}
 use Rattle.expander.proofs.Packing.{joined-append, used-is, start-is, start-in}
 
 -- marks of no bytes
@@ -151,16 +144,16 @@ unfoldable pub leftFrom : MarkTexts → ℕ → ℕ → List Bytes → Bytes
 leftFrom m gap k args = preceded gap (quotedEach m (drop k args))
 
 module _ (m : MarkTexts) (gap : ℕ) (args : List Bytes) (k : ℕ) where
-  cut : k < length args → drop k args ≡ arg (k + 1) args ∷ drop (k + 1) args
-  cut lt = rw (arg-next k args, add-one k) (drop-cons args k [] lt)
+  part-result : k < length args → drop k args ≡ arg (k + 1) args ∷ drop (k + 1) args
+  part-result lt = rw (arg-next k args, add-one k) (drop-cons args k [] lt)
 
   list-first : k < length args → separated gap (quotedEach m (drop k args)) ≡ quoted m (arg (k + 1) args) ++ leftFrom m gap (k + 1) args
   unfolding quotedEach leftFrom
-  list-first lt = rw (cut lt) (first-then gap (quoted m (arg (k + 1) args)) (quotedEach m (drop (k + 1) args)))
+  list-first lt = rw (part-result lt) (first-then gap (quoted m (arg (k + 1) args)) (quotedEach m (drop (k + 1) args)))
 
   left-next : k < length args → leftFrom m gap k args ≡ (gap ∷ quoted m (arg (k + 1) args)) ++ leftFrom m gap (k + 1) args
   unfolding quotedEach leftFrom preceded
-  left-next lt = rw (cut lt)
+  left-next lt = rw (part-result lt)
 
   pub left-none : length args ≤ k → leftFrom m gap k args ≡ []
   unfolding quotedEach leftFrom preceded

@@ -1,23 +1,17 @@
--- What the memory and the machine mean: which calls are open, that it fits its buffers, which buffer a step would overfill, and what a step gives. Assumes nothing.
-use Prim.Native.Nat.{ℕ, _+_, _≤_, _<_}
-use mathlib.Core.Path.{_≡_, refl, sym, ap, _∙_}
-use mathlib.Core.List.{List, [], _∷_}
-use mathlib.Core.Option.{none, some}
-use native.Mathlib.Omega.{arith}
-use lib.ListN.{length}
-use lib.Seq.{length-take-le}
+-- What the memory and the machine represent: which calls are open, that it fits its buffers, which buffer a step would overfill, and what a step gives. Assumes nothing.
+use Rattle.rules.proofs.Base.{_≤_, _+_, ℕ, _<_, _∙_, refl, sym, ap, _≡_, some, none, List, [], _∷_, arith, length, length-take-le}
 use Rattle.rules.specs.declared.Answer.the-variants as answer
 use Rattle.rules.specs.Bytes.{Bytes}
 use Rattle.rules.specs.Answers.{Ending, endingAnswer, Fault, faultAnswer}
 use Rattle.rules.specs.Streams.{totalLength}
 use Rattle.rules.specs.Table.{tableCost}
 use Rattle.rules.specs.State.{State, next, stop, refused, Call}
-use Rattle.rules.specs.Tokens.{later}
+use Rattle.rules.specs.Places.{plusOne}
 use Rattle.rules.specs.Run.{Setting, lengths, callsCost, held, overfull}
 use Rattle.expander.specs.declared.machine.Machine.{Machine}
-use Rattle.expander.specs.declared.machine.Went.the-variants as went
+use Rattle.expander.specs.declared.machine.Progress.the-variants as progress
 use Rattle.expander.specs.Front.{Front}
-use Rattle.expander.specs.Machine.{Memory, Means, Came, Gives}
+use Rattle.expander.specs.Machine.{Memory, Represents, Follows, Refines}
 use Rattle.expander.specs.Calls.{CallsIn}
 use Rattle.expander.proofs.SourceLaws.{pending-long}
 use Rattle.expander.proofs.CallsLaws.{calls-held}
@@ -31,7 +25,7 @@ front-long {buffer} {n} f = sym (ap length (f .text-is)) ∙ length-take-le n bu
 
 -- ---- what each buffer holds
 
-module _ {a : Setting} {b : Memory} {m : Machine} {s : State} (r : Means a b m s) where
+module _ {a : Setting} {b : Memory} {m : Machine} {s : State} (r : Represents a b m s) where
   pub pending-fits : length (s .source .pending) ≤ a .pending
   pending-fits = omega (arith, pending-long (r .source), r .limits .pending)
 
@@ -65,7 +59,7 @@ innermost : (cs : List Call) → (length cs ≡ 0 → ⊥) → Innermost cs
 innermost [] f = absurd (f refl)
 innermost (c ∷ cs) f = record { call = c; others = cs; is = refl }
 
-module _ {a : Setting} {b : Memory} {m : Machine} {s : State} (r : Means a b m s) where
+module _ {a : Setting} {b : Memory} {m : Machine} {s : State} (r : Represents a b m s) where
   pub no-calls : m .calls .opens ≡ 0 → s .calls ≡ []
   no-calls e = empty-of (s .calls) (r .calls .open-is ∙ e)
 
@@ -86,7 +80,7 @@ module _ (a : Setting) (t : State) where
       length (t .source .pending) ≤ a .pending → callsCost (t .calls) ≤ a .calls → tableCost (t .table .definitions) ≤ a .definitions
       → totalLength (t .streams .waiting) ≤ a .streams → length (t .wrap) ≤ a .wrap → length (t .errors) ≤ a .errors
       → length (t .streams .output) ≤ a .output → overfull (held t) (lengths a) ≡ none
-  unfolding held lengths later
+  unfolding held lengths plusOne
   all-fit p c d s w e o =
       fits-then _ _ _ _ none p (fits-then _ _ _ _ none c (fits-then _ _ _ _ none d (fits-then _ _ _ _ none s (fits-then _ _ _ _ none w
       (fits-then _ _ _ _ none e (fits-then _ _ _ _ none o nothing-over))))))
@@ -97,69 +91,69 @@ module _ (a : Setting) (t : State) where
 
   module _ (p : length (t .source .pending) ≤ a .pending) where
     pub over-calls : a .calls < callsCost (t .calls) → overfull (held t) (lengths a) ≡ some 1
-    unfolding held lengths later
+    unfolding held lengths plusOne
     over-calls h = fits-then _ _ _ _ (some 0) p (overflows _ _ _ _ h)
 
     module _ (c : callsCost (t .calls) ≤ a .calls) where
       pub over-table : a .definitions < tableCost (t .table .definitions) → overfull (held t) (lengths a) ≡ some 2
-      unfolding held lengths later
+      unfolding held lengths plusOne
       over-table h = fits-then _ _ _ _ (some 1) p (fits-then _ _ _ _ (some 0) c (overflows _ _ _ _ h))
 
       module _ (d : tableCost (t .table .definitions) ≤ a .definitions) where
         pub over-streams : a .streams < totalLength (t .streams .waiting) → overfull (held t) (lengths a) ≡ some 3
-        unfolding held lengths later
+        unfolding held lengths plusOne
         over-streams h = fits-then _ _ _ _ (some 2) p (fits-then _ _ _ _ (some 1) c (fits-then _ _ _ _ (some 0) d (overflows _ _ _ _ h)))
 
         module _ (s : totalLength (t .streams .waiting) ≤ a .streams) where
           pub over-wrap : a .wrap < length (t .wrap) → overfull (held t) (lengths a) ≡ some 4
-          unfolding held lengths later
+          unfolding held lengths plusOne
           over-wrap h =
               fits-then _ _ _ _ (some 3) p
               (fits-then _ _ _ _ (some 2) c (fits-then _ _ _ _ (some 1) d (fits-then _ _ _ _ (some 0) s (overflows _ _ _ _ h))))
 
           module _ (w : length (t .wrap) ≤ a .wrap) where
             pub over-errors : a .errors < length (t .errors) → overfull (held t) (lengths a) ≡ some 5
-            unfolding held lengths later
+            unfolding held lengths plusOne
             over-errors h =
                 fits-then _ _ _ _ (some 4) p
                 (fits-then _ _ _ _ (some 3) c
                 (fits-then _ _ _ _ (some 2) d (fits-then _ _ _ _ (some 1) s (fits-then _ _ _ _ (some 0) w (overflows _ _ _ _ h)))))
 
             pub over-output : length (t .errors) ≤ a .errors → a .output < length (t .streams .output) → overfull (held t) (lengths a) ≡ some 6
-            unfolding held lengths later
+            unfolding held lengths plusOne
             over-output e h =
                 fits-then _ _ _ _ (some 5) p
                 (fits-then _ _ _ _ (some 4) c
                 (fits-then _ _ _ _ (some 3) d
                 (fits-then _ _ _ _ (some 2) s (fits-then _ _ _ _ (some 1) w (fits-then _ _ _ _ (some 0) e (overflows _ _ _ _ h))))))
 
--- what is meant fits
-pub means-fits : {a : Setting} {b : Memory} {m : Machine} {s : State} → Means a b m s → overfull (held s) (lengths a) ≡ none
-means-fits {a} {s} r =
+-- what is represented fits
+pub represents-fits : {a : Setting} {b : Memory} {m : Machine} {s : State} → Represents a b m s → overfull (held s) (lengths a) ≡ none
+represents-fits {a} {s} r =
     all-fit a s (pending-fits r) (calls-fit r) (table-fits r) (streams-fit r) (wrap-fits r) (errors-fit r) (output-fits r)
 
 -- ---- what a step gives
 
 module _ {a : Setting} {b : Memory} where
-  -- the run goes on from what the memory and the machine mean now
-  pub gives-next : {m : Machine} {t : State} {before : Memory} → Means a b m t → Gives a before (next t) b (record { went = went.On; machine = m })
-  unfolding Came
-  gives-next {m} {t} r = record { came = rw (verdict-next (lengths a) t (means-fits r)) (refl, r) }
+  -- the run goes on from what the memory and the machine represent now
+  pub refines-next : {m : Machine} {t : State} {before : Memory} → Represents a b m t → Refines a before (next t) b (record { progress = progress.On; machine = m })
+  unfolding Follows
+  refines-next {m} {t} r = record { follows = rw (verdict-next (lengths a) t (represents-fits r)) (refl, r) }
 
-  pub gives-stop : {m : Machine} {t : State} {before : Memory} (e : Ending) → Means a b m t → Gives a before (stop e t) b (record { went = went.Ended (endingAnswer e); machine = m })
-  unfolding Came
-  gives-stop {m} {t} e r = record { came = rw (verdict-stop (lengths a) e t (means-fits r)) (refl, r) }
+  pub refines-stop : {m : Machine} {t : State} {before : Memory} (e : Ending) → Represents a b m t → Refines a before (stop e t) b (record { progress = progress.Ended (endingAnswer e); machine = m })
+  unfolding Follows
+  refines-stop {m} {t} e r = record { follows = rw (verdict-stop (lengths a) e t (represents-fits r)) (refl, r) }
 
-  pub gives-refused : {m : Machine} (f : Fault) → Gives a b (refused f) b (record { went = went.Refused (faultAnswer f); machine = m })
-  unfolding Came
-  gives-refused f = record { came = rw (verdict-refused (lengths a) f) (refl, refl) }
+  pub refines-refused : {m : Machine} (f : Fault) → Refines a b (refused f) b (record { progress = progress.Refused (faultAnswer f); machine = m })
+  unfolding Follows
+  refines-refused f = record { follows = rw (verdict-refused (lengths a) f) (refl, refl) }
 
-  pub gives-room :
-      {m : Machine} (t : State) (k : ℕ) → overfull (held t) (lengths a) ≡ some k → Gives a b (next t) b (record { went = went.Refused (answer.Room (k + 1)); machine = m })
-  unfolding Came
-  gives-room t k e = record { came = rw (verdict-room (lengths a) t k e) (ap (λ (n : ℕ). went.Refused (answer.Room n)) (omega arith), refl) }
+  pub refines-room :
+      {m : Machine} (t : State) (k : ℕ) → overfull (held t) (lengths a) ≡ some k → Refines a b (next t) b (record { progress = progress.Refused (answer.Room (k + 1)); machine = m })
+  unfolding Follows
+  refines-room t k e = record { follows = rw (verdict-room (lengths a) t k e) (ap (λ (n : ℕ). progress.Refused (answer.Room n)) (omega arith), refl) }
 
-  pub gives-stop-room :
-      {m : Machine} (e : Ending) (t : State) (k : ℕ) → overfull (held t) (lengths a) ≡ some k → Gives a b (stop e t) b (record { went = went.Refused (answer.Room (k + 1)); machine = m })
-  unfolding Came
-  gives-stop-room e t k q = record { came = rw (verdict-stop-room (lengths a) e t k q) (ap (λ (n : ℕ). went.Refused (answer.Room n)) (omega arith), refl) }
+  pub refines-stop-room :
+      {m : Machine} (e : Ending) (t : State) (k : ℕ) → overfull (held t) (lengths a) ≡ some k → Refines a b (stop e t) b (record { progress = progress.Refused (answer.Room (k + 1)); machine = m })
+  unfolding Follows
+  refines-stop-room e t k q = record { follows = rw (verdict-stop-room (lengths a) e t k q) (ap (λ (n : ℕ). progress.Refused (answer.Room n)) (omega arith), refl) }

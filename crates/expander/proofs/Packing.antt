@@ -1,12 +1,5 @@
 -- Laws of packed strings. Assumes nothing.
-use Prim.Native.Nat.{ℕ, zero, suc, _+_, _-_, _≤_, _<_}
-use native.Mathlib.Nat.{add-zero, add-assoc, le-of-suc-le-suc, not-suc-le-zero}
-use native.Mathlib.Numerals.{add-one}
-use native.Mathlib.Omega.{arith}
-use mathlib.Core.Path.{_≡_, refl, sym, ap, _∙_}
-use mathlib.Core.List.{List, [], _∷_, _++_, append-assoc, append-nil}
-use lib.ListN.{length, take, drop, getD, set, length-append, length-take, length-set, take-append-drop}
-use lib.Seq.{take-append-seam, take-at, drop-at, length-take-le, take-suc, take-suc-set, take-set-lt, split-at, set-split, getD-take, take-take}
+use Rattle.rules.proofs.Base.{_≤_, _+_, ℕ, _-_, _<_, suc, zero, _∙_, refl, sym, ap, _≡_, List, [], _++_, _∷_, append-assoc, append-nil, add-zero, not-suc-le-zero, le-of-suc-le-suc, add-assoc, add-one, arith, length, drop, take, getD, length-append, set, length-set, length-take, take-append-drop, length-take-le, getD-take, take-suc-set, take-suc, take-at, drop-at, take-append-seam, set-split, take-take, take-set-lt, split-at}
 use Rattle.rules.specs.Bytes.{Bytes, sameBytes}
 use Rattle.rules.specs.Streams.{joined}
 use Rattle.expander.specs.Packed.{endsFrom, Packs, Formed, startOf, lastMore}

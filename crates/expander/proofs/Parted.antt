@@ -1,9 +1,5 @@
--- The meaning with one part of it changed: its buffers keep their lengths, and the other parts are as they were.
-use Prim.Native.Nat.{ℕ}
-use mathlib.Core.Path.{_≡_, refl, sym, _∙_}
-use mathlib.Core.List.{List}
-use native.Mathlib.Omega.{arith}
-use lib.ListN.{length}
+-- What memory and machine represent, with one part of it changed: its buffers keep their lengths, and the other parts are as they were.
+use Rattle.rules.proofs.Base.{ℕ, _∙_, refl, sym, _≡_, List, arith, length}
 use Rattle.rules.specs.declared.Marks.{Marks}
 use Rattle.rules.specs.Bytes.{Bytes}
 use Rattle.rules.specs.Marks.{markTexts}
@@ -23,7 +19,7 @@ use Rattle.expander.specs.Table.{TableIn}
 use Rattle.expander.specs.Tokens.{GoodMarks}
 use Rattle.expander.specs.Sinks.{SinksIn}
 use Rattle.expander.specs.Front.{Front}
-use Rattle.expander.specs.Machine.{Memory, memory, Limits, Means, sourceSet, marksSet, callsSet, tableSet, sinksSet, wrapSet, errorsSet}
+use Rattle.expander.specs.Machine.{Memory, memory, Limits, Represents, sourceSet, marksSet, callsSet, tableSet, sinksSet, wrapSet, errorsSet}
 
 -- buffers of the same lengths are within the same limits
 same-limits :
@@ -57,15 +53,15 @@ same-limits q text pending calls callEnds stack definitions tableEnds streams ow
 module _
     {a : Setting} {text pending calls : Bytes} {callEnds stack : List ℕ} {definitions : Bytes} {tableEnds : List ℕ} {streams : Bytes} {owners : List ℕ}
     {wrap errors output : Bytes} {m : Machine} {s : State}
-    (r : Means a (memory text pending calls callEnds stack definitions tableEnds streams owners wrap errors output) m s)
+    (r : Represents a (memory text pending calls callEnds stack definitions tableEnds streams owners wrap errors output) m s)
   where
-    pub with-marks : {x : Marks} → GoodMarks x → Means a (memory text pending calls callEnds stack definitions tableEnds streams owners wrap errors output) (marksSet x m) (withMarks (markTexts x) s)
+    pub with-marks : {x : Marks} → GoodMarks x → Represents a (memory text pending calls callEnds stack definitions tableEnds streams owners wrap errors output) (marksSet x m) (withMarks (markTexts x) s)
     unfolding withMarks
     with-marks g = record { source = r .source; marks = refl; marks-good = g; calls = r .calls; table = r .table; sinks = r .sinks; wrap = r .wrap; errors = r .errors; limits = r .limits }
 
     pub with-source :
         {pending′ : Bytes} {x : Position} {y : Source} → SourceIn text pending′ x y → length pending′ ≡ length pending
-        → Means a (memory text pending′ calls callEnds stack definitions tableEnds streams owners wrap errors output) (sourceSet x m) (withSource y s)
+        → Represents a (memory text pending′ calls callEnds stack definitions tableEnds streams owners wrap errors output) (sourceSet x m) (withSource y s)
     unfolding withSource
     with-source h e-pending =
         record {
@@ -82,7 +78,7 @@ module _
 
     pub with-calls :
         {calls′ : Bytes} {callEnds′ : List ℕ} {stack′ : List ℕ} {x : Calls} {y : List Call} → CallsIn calls′ callEnds′ stack′ x y → length calls′ ≡ length calls → length callEnds′ ≡ length callEnds → length stack′ ≡ length stack
-        → Means a (memory text pending calls′ callEnds′ stack′ definitions tableEnds streams owners wrap errors output) (callsSet x m) (withCalls y s)
+        → Represents a (memory text pending calls′ callEnds′ stack′ definitions tableEnds streams owners wrap errors output) (callsSet x m) (withCalls y s)
     unfolding withCalls
     with-calls h e-calls e-callEnds e-stack =
         record {
@@ -99,7 +95,7 @@ module _
 
     pub with-table :
         {definitions′ : Bytes} {tableEnds′ : List ℕ} {x : Definitions} {y : Table} → TableIn definitions′ tableEnds′ (x .packed) (x .own) y → length definitions′ ≡ length definitions → length tableEnds′ ≡ length tableEnds
-        → Means a (memory text pending calls callEnds stack definitions′ tableEnds′ streams owners wrap errors output) (tableSet x m) (withTable y s)
+        → Represents a (memory text pending calls callEnds stack definitions′ tableEnds′ streams owners wrap errors output) (tableSet x m) (withTable y s)
     unfolding withTable
     with-table h e-definitions e-tableEnds =
         record {
@@ -116,7 +112,7 @@ module _
 
     pub with-sinks :
         {streams′ : Bytes} {owners′ : List ℕ} {output′ : Bytes} {x : Sinks} {y : Streams} → SinksIn streams′ owners′ output′ x y → length streams′ ≡ length streams → length owners′ ≡ length owners → length output′ ≡ length output
-        → Means a (memory text pending calls callEnds stack definitions tableEnds streams′ owners′ wrap errors output′) (sinksSet x m) (withStreams y s)
+        → Represents a (memory text pending calls callEnds stack definitions tableEnds streams′ owners′ wrap errors output′) (sinksSet x m) (withStreams y s)
     unfolding withStreams
     with-sinks h e-streams e-owners e-output =
         record {
@@ -133,7 +129,7 @@ module _
 
     pub with-wrap :
         {wrap′ : Bytes} {x : ℕ} {y : Bytes} → Front wrap′ x y → length wrap′ ≡ length wrap
-        → Means a (memory text pending calls callEnds stack definitions tableEnds streams owners wrap′ errors output) (wrapSet x m) (withWrap y s)
+        → Represents a (memory text pending calls callEnds stack definitions tableEnds streams owners wrap′ errors output) (wrapSet x m) (withWrap y s)
     unfolding withWrap
     with-wrap h e-wrap =
         record {
@@ -150,7 +146,7 @@ module _
 
     pub with-errors :
         {errors′ : Bytes} {x : ℕ} {y : Bytes} → Front errors′ x y → length errors′ ≡ length errors
-        → Means a (memory text pending calls callEnds stack definitions tableEnds streams owners wrap errors′ output) (errorsSet x m) (withErrors y s)
+        → Represents a (memory text pending calls callEnds stack definitions tableEnds streams owners wrap errors′ output) (errorsSet x m) (withErrors y s)
     unfolding withErrors
     with-errors h e-errors =
         record {

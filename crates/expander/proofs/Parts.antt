@@ -1,12 +1,5 @@
 -- Laws of lists and of their parts, as slices are lent. Assumes nothing.
-use Prim.Native.Nat.{ℕ, _-_, _≤_, zero, suc}
-use native.Mathlib.Omega.{arith}
-use mathlib.Core.Path.{_≡_, ap, ap₂, _∙_, sym, refl}
-use mathlib.Core.Bool.{Bool}
-use mathlib.Core.List.{List, _++_, append-nil, [], _∷_}
-use lib.ListN.{length, take, drop, replicate, length-take, length-drop, drop-of-length-le}
-use lib.Seq.{drop-length, take-all, take-nil}
-use borrow.Author.Tests.{eq-eqb}
+use Rattle.rules.proofs.Base.{_≤_, ℕ, _-_, suc, zero, _∙_, refl, sym, ap, _≡_, ap₂, Bool, List, [], _++_, _∷_, append-nil, arith, length, drop, take, length-drop, drop-of-length-le, length-take, replicate, take-all, drop-length, take-nil, eq-eqb}
 use Rattle.ascii.specs.Copied.{Copied}
 use Rattle.matching.specs.Partners.{Fitted}
 

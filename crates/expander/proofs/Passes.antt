@@ -1,15 +1,7 @@
 -- Laws of the passes over owners and bytes: a turn, and what is known when the pass ends. Assumes nothing.
-use Prim.Native.Nat.{ℕ, suc, _+_, _-_, _≤_, _<_}
-use native.Mathlib.Nat.{add-zero}
-use native.Mathlib.Numerals.{add-one}
-use native.Mathlib.Decide.{ℕ-discrete, decLt}
-use native.Mathlib.Omega.{arith}
-use mathlib.Core.Path.{_≡_, refl, sym, ap, ap₂, _∙_}
-use mathlib.Core.List.{List, [], _∷_, _++_, append-assoc, append-nil}
-use lib.ListN.{length, take, drop, getD, set, replicate, length-append, length-take, length-set, length-replicate, getD-replicate, drop-of-length-le}
-use lib.Seq.{paste, paste-suc, drop-cons, drop-drop, drop-set-lt, take-set-le, take-suc-set, take-all, length-take-le, getD-drop, getD-take}
+use Rattle.rules.proofs.Base.{_≤_, _+_, ℕ, _-_, _<_, suc, _∙_, refl, sym, ap, _≡_, ap₂, List, [], _++_, _∷_, append-assoc, append-nil, add-zero, add-one, ℕ-discrete, decLt, arith, length, drop, take, getD, length-append, set, drop-of-length-le, length-set, length-take, replicate, length-replicate, getD-replicate, length-take-le, drop-cons, drop-drop, getD-take, take-all, getD-drop, take-suc-set, paste, drop-set-lt, paste-suc, take-set-le}
 use Rattle.expander.specs.Streams.{ownedBy, ownsOne, ownedCount}
-use Rattle.expander.proofs.Owned.{notOwned, mine-counted, other-counted, mine-owned, other-owned, mine-out, other-kept, owned-none, count-first, owned-length, kept-length}
+use Rattle.expander.proofs.OwnedBytes.{notOwned, mine-counted, other-counted, mine-owned, other-owned, mine-out, other-kept, owned-none, count-first, owned-length, kept-length}
 
 -- writing a run of i: k of n are there
 pub runs-on : (d₀ d : List ℕ) (at n i k : ℕ) → d ≡ paste d₀ at (replicate n i) k → at + n ≤ length d₀ → k < n → set d (at + k) i ≡ paste d₀ at (replicate n i) (k + 1)

@@ -1,17 +1,9 @@
 -- Laws of the two passes that put the streams in order: a tally of each, where each begins, and each byte in its place. Assumes nothing.
-use Prim.Native.Nat.{ℕ, zero, suc, _+_, _-_, _≤_, _<_}
-use native.Mathlib.Nat.{zero-add, add-zero, add-suc, suc-add, add-assoc}
-use native.Mathlib.Numerals.{add-one}
-use native.Mathlib.Decide.{ℕ-discrete, decLt}
-use native.Mathlib.Omega.{arith}
-use mathlib.Core.Path.{_≡_, refl, sym, ap, ap₂, _∙_}
-use mathlib.Core.List.{List, [], _∷_, _++_, append-assoc, append-nil}
-use lib.ListN.{length, take, drop, getD, set, replicate, length-take, length-drop, length-set, getD-replicate, take-append-drop, drop-of-length-le}
-use lib.Seq.{drop-drop, drop-set-lt, drop-set-add, take-set-le, take-suc, take-suc-set, take-all, getD-take, getD-set-same, getD-set-other, length-take-le}
+use Rattle.rules.proofs.Base.{_≤_, _+_, ℕ, _-_, _<_, suc, zero, _∙_, refl, sym, ap, _≡_, ap₂, List, [], _++_, _∷_, append-assoc, append-nil, add-zero, zero-add, add-suc, suc-add, add-assoc, add-one, ℕ-discrete, decLt, arith, length, drop, take, getD, length-drop, set, drop-of-length-le, length-set, length-take, replicate, take-append-drop, getD-replicate, length-take-le, drop-drop, getD-take, take-all, take-suc-set, getD-set-same, getD-set-other, take-suc, drop-set-lt, take-set-le, drop-set-add}
 use Rattle.rules.specs.Bytes.{Bytes}
 use Rattle.rules.specs.Streams.{joined}
 use Rattle.expander.specs.Streams.{ownedBy, ownsOne, ownedCount, ownedBelow, sumBelow, Ten, Owned, StreamsIn}
-use Rattle.expander.proofs.Owned.{mine-counted, other-counted, mine-owned, other-owned, owned-none, owned-append, owned-within}
+use Rattle.expander.proofs.OwnedBytes.{mine-counted, other-counted, mine-owned, other-owned, owned-none, owned-append, owned-within}
 use Rattle.expander.proofs.Passes.{counts-on, counts-end}
 use Rattle.expander.proofs.Waiting.{parts-long, part-numbered}
 use Rattle.expander.proofs.Totals.{ownedFrom, below-next, none-below, all-below, waiting-from}

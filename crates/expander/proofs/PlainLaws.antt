@@ -1,12 +1,5 @@
 -- Plain steps: what an event says by its variant, a byte that was taken, and that no plain step ends a run.
-use Prim.Native.Nat.{ℕ, _≤_, _<_}
-use mathlib.Core.Path.{_≡_, refl, sym, ap, subst, _∙_}
-use mathlib.Core.Bool.{Bool, true, false, _||_}
-use mathlib.Core.List.{List, _∷_}
-use mathlib.Core.Option.{Option, none, some}
-use native.Mathlib.Omega.{arith}
-use lib.Dec.{leb}
-use lib.ListN.{length}
+use Rattle.rules.proofs.Base.{_≤_, ℕ, _<_, _∙_, refl, sym, ap, _≡_, subst, true, Bool, false, _||_, some, none, Option, List, _∷_, arith, leb, length}
 use Rattle.rules.specs.declared.Answer.{Answer}
 use Rattle.rules.specs.Answers.{deep}
 use Rattle.rules.specs.Bytes.{Bytes}
@@ -19,15 +12,15 @@ use Rattle.expander.specs.declared.events.Plain.{Plain}
 use Rattle.expander.specs.declared.events.Plain.the-variants as plain
 use Rattle.expander.specs.declared.events.Special.{Special}
 use Rattle.expander.specs.declared.machine.Machine.{Machine}
-use Rattle.expander.specs.declared.machine.Turn.{Turn}
-use Rattle.expander.specs.declared.machine.Went.the-variants as went
+use Rattle.expander.specs.declared.machine.Stepped.{Stepped}
+use Rattle.expander.specs.declared.machine.Progress.the-variants as progress
 use Rattle.expander.specs.declared.source.Position.{Position}
 use Rattle.expander.specs.Events.{PlainWithin, PlainIs, SpecialWithin, SpecialIs, EventWithin, EventIs}
-use Rattle.expander.specs.Machine.{Memory, Means, Sound, Came, Gives, aheadOf, sourceSet}
+use Rattle.expander.specs.Machine.{Memory, Represents, Valid, Follows, Refines, aheadOf, sourceSet}
 use Rattle.expander.specs.Source.{SourceIn}
 use Rattle.expander.specs.Verdict.{Verdict, going, over, denied, roomed, verdict}
 use Rattle.expander.proofs.Parted.{with-source}
-use Rattle.expander.proofs.RunLaws.{wentKind}
+use Rattle.expander.proofs.RunLaws.{progressKind}
 use Rattle.expander.proofs.SourceLaws.{ahead-long}
 use Rattle.expander.proofs.StepLaws.{some-calls}
 
@@ -52,20 +45,20 @@ special-within text pending m e h = subst (SpecialWithin text pending m) e h
 
 -- a byte was taken
 pub one-taken :
-    {a : Setting} {b : Memory} {m m′ : Machine} {s : State} {to : Position} → Means a b m s → 1 ≤ aheadOf (b .text) (b .pending) (m .source)
+    {a : Setting} {b : Memory} {m m′ : Machine} {s : State} {to : Position} → Represents a b m s → 1 ≤ aheadOf (b .text) (b .pending) (m .source)
     → ((text : Bytes) (y : Source) → SourceIn text (b .pending) (m .source) y → 1 ≤ length (ahead y) → SourceIn text (b .pending) to (advance 1 y))
-    → m′ ≡ sourceSet to m → Means a b m′ (taking 1 s)
+    → m′ ≡ sourceSet to m → Represents a b m′ (taking 1 s)
 unfolding taking
 one-taken {a} {b} {m} {s} r w f g =
     let l : 1 ≤ length (ahead (s .source)) = omega (arith, w, ahead-long (r .source)) in
-    subst (λ (k : Machine). Means a b k (taking 1 s)) (sym g) (with-source r (f (b .text) (s .source) (r .source) l) refl)
+    subst (λ (k : Machine). Represents a b k (taking 1 s)) (sym g) (with-source r (f (b .text) (s .source) (r .source) l) refl)
 
 -- and what a function asks holds behind it
-pub taken-sound :
-    {lent : Memory → Memory} {m m′ : Machine} {to : Position} (p : Sound lent m) → 1 ≤ aheadOf (lent (p .others) .text) (lent (p .others) .pending) (m .source)
+pub taken-valid :
+    {lent : Memory → Memory} {m m′ : Machine} {to : Position} (p : Valid lent m) → 1 ≤ aheadOf (lent (p .others) .text) (lent (p .others) .pending) (m .source)
     → ((text : Bytes) (y : Source) → SourceIn text (lent (p .others) .pending) (m .source) y → 1 ≤ length (ahead y) → SourceIn text (lent (p .others) .pending) to (advance 1 y))
-    → m′ ≡ sourceSet to m → Sound lent m′
-taken-sound p w f g = record { others = p .others; setting = p .setting; state = taking 1 (p .state); means = one-taken (p .means) w f g }
+    → m′ ≡ sourceSet to m → Valid lent m′
+taken-valid p w f g = record { others = p .others; setting = p .setting; state = taking 1 (p .state); represents = one-taken (p .represents) w f g }
 
 pub taken-open : (m : Machine) {m′ : Machine} {to : Position} → m′ ≡ sourceSet to m → 0 < m .calls .opens → 0 < m′ .calls .opens
 taken-open m g h = subst (λ (k : Machine). 0 < k .calls .opens) (sym g) h
@@ -85,7 +78,7 @@ chosen-goes false u = tt
 goes-as : {o p : Outcome} → o ≡ p → Goes-on p → Goes-on o
 goes-as e h = subst Goes-on (sym e) h
 
-module _ {a : Setting} {b : Memory} {m : Machine} {s : State} (r : Means a b m s) where
+module _ {a : Setting} {b : Memory} {m : Machine} {s : State} (r : Represents a b m s) where
   pub plain-goes : (p : Plain) → PlainWithin (b .text) (b .pending) m p → PlainIs s p → Goes-on (step s)
   unfolding PlainWithin PlainIs Goes-on opened commaMet
   plain-goes (plain.Deliver start n width) w h = goes-as h tt
@@ -115,11 +108,11 @@ not-over ls (next t) h = room-not-over (overfull (held t) ls) t
 not-over ls (stop e t) h = absurd h
 not-over ls (refused f) h = tt
 
-came-not-ended : (a : Setting) (before b : Memory) (t : Turn) (x : Answer) (v : Verdict) → t .went ≡ went.Ended x → Not-over v → Came a before b t v → ⊥
-unfolding Not-over Came wentKind
-came-not-ended a before b t x (going u) e n c = let k : _≡_ {A = ℕ} 1 0 = ap wentKind (sym e ∙ c .0) in omega arith
-came-not-ended a before b t x (over y u) e n c = n
-came-not-ended a before b t x (denied y) e n c = let k : _≡_ {A = ℕ} 1 2 = ap wentKind (sym e ∙ c .0) in omega arith
+follows-not-ended : (a : Setting) (before b : Memory) (t : Stepped) (x : Answer) (v : Verdict) → t .progress ≡ progress.Ended x → Not-over v → Follows a before b t v → ⊥
+unfolding Not-over Follows progressKind
+follows-not-ended a before b t x (going u) e n c = let k : _≡_ {A = ℕ} 1 0 = ap progressKind (sym e ∙ c .0) in omega arith
+follows-not-ended a before b t x (over y u) e n c = n
+follows-not-ended a before b t x (denied y) e n c = let k : _≡_ {A = ℕ} 1 2 = ap progressKind (sym e ∙ c .0) in omega arith
 
-pub not-ended : {a : Setting} {o : Outcome} {before b : Memory} {t : Turn} → Goes-on o → Gives a before o b t → (x : Answer) → t .went ≡ went.Ended x → ⊥
-not-ended {a} {o} {before} {b} {t} h g x e = came-not-ended a before b t x (verdict (lengths a) o) e (not-over (lengths a) o h) (g .came)
+pub not-ended : {a : Setting} {o : Outcome} {before b : Memory} {t : Stepped} → Goes-on o → Refines a before o b t → (x : Answer) → t .progress ≡ progress.Ended x → ⊥
+not-ended {a} {o} {before} {b} {t} h g x e = follows-not-ended a before b t x (verdict (lengths a) o) e (not-over (lengths a) o h) (g .follows)

@@ -1,29 +1,22 @@
 -- Laws of the scan for the end of a quoted text. Assumes nothing.
-use Prim.Native.Nat.{ℕ, zero, suc, pred, _+_, _-_, _≤_}
-use native.Mathlib.Omega.{arith}
-use native.Mathlib.Numerals.{add-one}
-use mathlib.Core.Path.{_≡_, refl, sym, ap, _∙_}
-use mathlib.Core.List.{[], _∷_}
-use mathlib.Core.Bool.{Bool, true, false, true≢false}
-use lib.ListN.{length, drop, getD, drop-of-length-le}
-use lib.Seq.{drop-drop}
+use Rattle.rules.proofs.Base.{_≤_, _+_, ℕ, _-_, suc, zero, pred, _∙_, refl, sym, ap, _≡_, true, Bool, false, true≢false, [], _∷_, add-one, arith, length, drop, getD, drop-of-length-le, drop-drop}
 use Rattle.rules.specs.declared.Mark.{Mark}
 use Rattle.rules.specs.declared.Token.the-variants as token
 use Rattle.rules.specs.declared.Reading.{Reading}
 use Rattle.rules.specs.declared.Reading.the-variants.{Is, OpenQuote}
 use Rattle.rules.specs.Bytes.{Bytes}
 use Rattle.rules.specs.Marks.{markText}
-use Rattle.rules.specs.Tokens.{beginsWith, atMark, QuoteEnd, closesAt, leftOpen, oneOn, quoteEnd}
+use Rattle.rules.specs.Tokens.{beginsWith, atMark, QuoteEnd, closesAt, leftOpen, endPlusOne, quoteEnd}
 use Rattle.expander.specs.Ahead.{isOther, plainLength, NextEither}
 use Rattle.expander.specs.Tokens.{closedFrom, quotedFrom, metAt, Inside, Passed}
 use Rattle.expander.specs.declared.tokens.Met.the-variants.{First, Second, Neither}
-use Rattle.expander.proofs.Runs.{skip-plain, other-first, other-second}
-use Rattle.expander.proofs.Marks.{begins-short, at-begins, other-byte, full-mark, mark-room, met-tests}
+use Rattle.expander.proofs.Prefixes.{skip-plain, other-first, other-second}
+use Rattle.expander.proofs.MarkPlaces.{begins-short, at-begins, other-byte, full-mark, mark-room, met-tests}
 
 -- a quoted text whose marks have b and e bytes, a place further on
 module _ (begin end : Bytes) (b e : ℕ) where
-  closed-later : (i : ℕ) (q : QuoteEnd) → closedFrom b e i (oneOn q) ≡ closedFrom b e (suc i) q
-  unfolding closedFrom oneOn
+  closed-later : (i : ℕ) (q : QuoteEnd) → closedFrom b e i (endPlusOne q) ≡ closedFrom b e (suc i) q
+  unfolding closedFrom endPlusOne
   closed-later i (leftOpen d) = refl
   closed-later i (closesAt n) =
       let y : i + suc n ≡ suc i + n = omega arith in
@@ -42,7 +35,7 @@ module _ (begin end : Bytes) (b e : ℕ) where
       ∙ ap (λ (n : ℕ). closedFrom b e n (quoteEnd begin end d 0 (drop k xs))) z
 
   closed-mark : (m : Bytes) → 1 ≤ length m → (d i x : ℕ) (xs : Bytes)
-      → closedFrom b e i (oneOn (quoteEnd begin end d (pred (length m)) xs)) ≡ closedFrom b e (i + length m) (quoteEnd begin end d 0 (drop (length m) (x ∷ xs)))
+      → closedFrom b e i (endPlusOne (quoteEnd begin end d (pred (length m)) xs)) ≡ closedFrom b e (i + length m) (quoteEnd begin end d 0 (drop (length m) (x ∷ xs)))
   unfolding quoteEnd
   closed-mark [] h d i x xs = absurd (omega arith)
   closed-mark (y ∷ ys) h d i x xs = closed-skip d (suc (length ys)) i (x ∷ xs)
@@ -53,16 +46,16 @@ module _ (begin end : Bytes) (x : ℕ) (xs : Bytes) where
   unfolding quoteEnd
   quote-closes e = rw (e, quoteEnd)
 
-  pub quote-less : (d : ℕ) → beginsWith end (x ∷ xs) ≡ true → quoteEnd begin end (suc d) 0 (x ∷ xs) ≡ oneOn (quoteEnd begin end d (pred (length end)) xs)
+  pub quote-less : (d : ℕ) → beginsWith end (x ∷ xs) ≡ true → quoteEnd begin end (suc d) 0 (x ∷ xs) ≡ endPlusOne (quoteEnd begin end d (pred (length end)) xs)
   unfolding quoteEnd
   quote-less d e = rw (e, quoteEnd)
 
   module _ (d : ℕ) (n : beginsWith end (x ∷ xs) ≡ false) where
-    pub quote-more : beginsWith begin (x ∷ xs) ≡ true → quoteEnd begin end d 0 (x ∷ xs) ≡ oneOn (quoteEnd begin end (suc d) (pred (length begin)) xs)
+    pub quote-more : beginsWith begin (x ∷ xs) ≡ true → quoteEnd begin end d 0 (x ∷ xs) ≡ endPlusOne (quoteEnd begin end (suc d) (pred (length begin)) xs)
     unfolding quoteEnd
     quote-more e = rw (n, e, quoteEnd)
 
-    pub quote-same : beginsWith begin (x ∷ xs) ≡ false → quoteEnd begin end d 0 (x ∷ xs) ≡ oneOn (quoteEnd begin end d 0 xs)
+    pub quote-same : beginsWith begin (x ∷ xs) ≡ false → quoteEnd begin end d 0 (x ∷ xs) ≡ endPlusOne (quoteEnd begin end d 0 xs)
     unfolding quoteEnd
     quote-same e = rw (n, e, quoteEnd)
 

@@ -1,10 +1,5 @@
 -- Laws of a token, by what stands ahead. Assumes nothing.
-use Prim.Native.Nat.{ℕ, _≤_}
-use native.Mathlib.Omega.{arith}
-use mathlib.Core.Path.{_≡_, refl, sym, ap, _∙_}
-use mathlib.Core.List.{[], _∷_}
-use mathlib.Core.Bool.{true, false}
-use lib.ListN.{length, drop, getD}
+use Rattle.rules.proofs.Base.{_≤_, ℕ, _∙_, refl, sym, ap, _≡_, true, false, [], _∷_, arith, length, drop, getD}
 use Rattle.rules.specs.declared.Token.the-variants as token
 use Rattle.rules.specs.declared.Reading.the-variants.{Is}
 use Rattle.rules.specs.Bytes.{Bytes, beginsName, nameLength}
@@ -12,7 +7,7 @@ use Rattle.rules.specs.Marks.{MarkTexts}
 use Rattle.rules.specs.Tokens.{QuoteEnd, closesAt, leftOpen, quoteEnd, quoteRead, readComment, readQuoted, readToken}
 use Rattle.expander.specs.declared.tokens.Met.the-variants.{First, Second, Neither}
 use Rattle.expander.specs.Tokens.{metAt, commentFrom, closedFrom, quotedFrom, plainRead}
-use Rattle.expander.proofs.Marks.{met-tests}
+use Rattle.expander.proofs.MarkPlaces.{met-tests}
 
 -- a name or a single byte, which begins with x
 module _ (text : Bytes) (x : ℕ) (e : x ≡ getD text 0 0) where

@@ -1,20 +1,11 @@
 -- Laws of definitions and of the strings that they are. Assumes nothing.
-use Prim.Native.Nat.{ℕ, zero, suc, _+_, _-_, _*_, _/_, _≤_, _<_}
-use native.Mathlib.Nat.{le-of-suc-le-suc, not-suc-le-zero}
-use native.Mathlib.Omega.{arith}
-use mathlib.Core.Path.{_≡_, refl, sym, ap, _∙_}
-use mathlib.Core.Bool.{Bool, true, false}
-use mathlib.Core.List.{List, [], _∷_, _++_}
-use mathlib.Core.Option.{Option, none, some}
-use lib.Dec.{lit<}
-use lib.ListN.{length, take, getD, length-take}
-use lib.Seq.{take-all, take-suc}
+use Rattle.rules.proofs.Base.{_≤_, _+_, ℕ, _-_, _<_, suc, zero, _*_, _/_, _∙_, refl, sym, ap, _≡_, true, Bool, false, some, none, Option, List, [], _++_, _∷_, not-suc-le-zero, le-of-suc-le-suc, arith, lit<, length, take, getD, length-take, take-all, take-suc}
 use Rattle.rules.specs.Bytes.{Bytes, sameBytes}
 use Rattle.rules.specs.Streams.{joined}
 use Rattle.rules.specs.Table.{Meaning, text, Definition, Table, predefinedNames, freshTable, ownMeaning, newestPlace, meaningAt, meaningOf}
 use Rattle.expander.specs.Limits.{mostLent, allOwn, tableEndsLength}
 use Rattle.expander.specs.Packed.{endsFrom}
-use Rattle.expander.specs.Table.{meaningText, rows, Plain, DefinitionsIn, SoundDefinitions, TableIn, placeOf, meaningFor, textEnd, Finds}
+use Rattle.expander.specs.Table.{meaningText, rows, Plain, DefinitionsIn, ValidDefinitions, TableIn, placeOf, meaningFor, textEnd, Finds}
 use Rattle.expander.specs.declared.packed.Packed.{Packed}
 use Rattle.expander.specs.declared.table.Found.the-variants as found
 use Rattle.expander.specs.declared.table.Meaning.{Meaning as Looked}
@@ -49,12 +40,12 @@ text-at (d ∷ ds) (suc i) =
 -- every definition has a name and a text
 pub record PlainAt (d : Definition) : Type 0 where
   pub named : 0 < length (d .name)
-  pub means : d .meaning ≡ text (meaningText (d .meaning))
+  pub represents : d .meaning ≡ text (meaningText (d .meaning))
 
 pub plain-at : (ds : List Definition) (i : ℕ) → Plain ds → i < length ds → PlainAt (getD ds i blank)
 unfolding Plain
 plain-at [] i p h = absurd (not-suc-le-zero h)
-plain-at (d ∷ ds) zero p h = record { named = p .0; means = p .1 }
+plain-at (d ∷ ds) zero p h = record { named = p .0; represents = p .1 }
 plain-at (d ∷ ds) (suc i) p h = plain-at ds i (p .2) (le-of-suc-le-suc h)
 
 pub meaning-at : (ds : List Definition) (i : ℕ) → i < length ds → meaningAt i ds ≡ some ((getD ds i blank) .meaning)
@@ -103,8 +94,8 @@ module _ (w : Bytes) where
       ∙ ap (λ (n : ℕ). elim (sameBytes w ((getD ds i blank) .name)) as (λ _. Option ℕ) [ true ↦ some n | false ↦ newestPlace w (take i ds) ]) (omega (arith, length-take i ds))
 
 module _ {bytes : Bytes} {ends : List ℕ} {p : Packed} {ds : List Definition} (h : DefinitionsIn bytes ends p ds) where
-  pub sound : SoundDefinitions bytes ends p
-  sound = record { definitions = ds; holds = h }
+  pub valid : ValidDefinitions bytes ends p
+  valid = record { definitions = ds; holds = h }
 
   pub string-count : 2 * length ds ≡ p .count
   string-count = sym (length-rows ds) ∙ count-is (h .packs)
@@ -133,20 +124,20 @@ module _ {bytes : Bytes} {ends : List ℕ} {p : Packed} {ds : List Definition} (
 
 -- what a name means, from where its newest definition is
 module _ {bytes : Bytes} {ends : List ℕ} {p : Packed} {own : ℕ} {t : Table} (h : TableIn bytes ends p own t) (w : Bytes) where
-  pub means-text : (i : ℕ) → newestPlace w (t .definitions) ≡ placeOf (found.At i) → Finds (t .definitions) (meaningOf w t) (looked.Text i)
+  pub represents-text : (i : ℕ) → newestPlace w (t .definitions) ≡ placeOf (found.At i) → Finds (t .definitions) (meaningOf w t) (looked.Text i)
   unfolding placeOf meaningOf meaningFor textEnd
-  means-text i e =
+  represents-text i e =
       let ds = t .definitions in
       let lt = newest-in w ds i e in
       record {
-        is = rw (e, meaningOf) (meaning-at ds i lt ∙ ap some (plain-at ds i (h .holds .plain) lt .means ∙ ap text (sym (text-at ds i))));
+        is = rw (e, meaningOf) (meaning-at ds i lt ∙ ap some (plain-at ds i (h .holds .plain) lt .represents ∙ ap text (sym (text-at ds i))));
         within = omega (arith, length-rows ds);
       }
 
-  pub means-own : {r : Looked} → newestPlace w (t .definitions) ≡ placeOf found.Nowhere → ((ds : List Definition) → Finds ds (ownMeaning w own) r)
+  pub represents-own : {r : Looked} → newestPlace w (t .definitions) ≡ placeOf found.Nowhere → ((ds : List Definition) → Finds ds (ownMeaning w own) r)
       → Finds (t .definitions) (meaningOf w t) r
   unfolding placeOf meaningOf
-  means-own e f =
+  represents-own e f =
       let g = f (t .definitions) in
       record { is = rw (e, meaningOf, h .own-is) (g .is); within = g .within }
 

@@ -1,12 +1,5 @@
 -- Laws of a pass over the definitions that drops those of a name. Assumes nothing.
-use Prim.Native.Nat.{ℕ, suc, _+_, _-_, _≤_, _<_}
-use native.Mathlib.Numerals.{add-one}
-use native.Mathlib.Omega.{arith}
-use mathlib.Core.Path.{_≡_, refl, sym, ap, _∙_}
-use mathlib.Core.Bool.{Bool, true, false}
-use mathlib.Core.List.{List, [], _∷_, _++_, append-assoc, append-nil}
-use lib.ListN.{length, take, drop, getD, set, length-append, length-drop, length-set}
-use lib.Seq.{take-add, take-append-seam, drop-append-seam, drop-drop, take-suc-set, drop-set-lt, getD-drop}
+use Rattle.rules.proofs.Base.{_≤_, _+_, ℕ, _-_, _<_, suc, _∙_, refl, sym, ap, _≡_, true, Bool, false, List, [], _++_, _∷_, append-assoc, append-nil, add-one, arith, length, drop, take, getD, length-append, length-drop, set, length-set, drop-drop, getD-drop, take-suc-set, drop-set-lt, take-append-seam, take-add, drop-append-seam}
 use Rattle.rules.specs.Bytes.{Bytes, sameBytes}
 use Rattle.rules.specs.Streams.{joined}
 use Rattle.rules.specs.Table.{Definition, Table, ownLost, without, undefined}
@@ -14,10 +7,10 @@ use Rattle.expander.specs.Packed.{endsFrom, Packs, overlaid}
 use Rattle.expander.specs.Table.{meaningText, rows, Plain, DefinitionsIn, TableIn, unlessNamed, Sifted}
 use Rattle.expander.specs.declared.packed.Packed.{Packed}
 use Rattle.expander.proofs.Packing.{joined-append, ends-append, used-is, bytes-split, ends-split}
-use Rattle.expander.proofs.Moving.{part-length, length-overlaid, take-overlaid, drop-overlaid}
+use Rattle.expander.proofs.Overwriting.{part-length, length-overlaid, take-overlaid, drop-overlaid}
 use Rattle.expander.proofs.Rows.{string-count, length-rows}
 use Rattle.expander.proofs.Changing.{rows-append, holds-others}
-use Rattle.expander.proofs.Owning.{lost-less}
+use Rattle.expander.proofs.MaskLaws.{lost-less}
 use Rattle.expander.proofs.Parts.{drop-take, part-long}
 
 -- two parts one after the other

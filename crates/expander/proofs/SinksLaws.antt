@@ -1,13 +1,5 @@
 -- Laws of the output and the streams: what fits, and what placing bytes leaves.
-use Prim.Native.Nat.{ℕ, _+_, _-_, _≤_, _<_}
-use mathlib.Core.Path.{_≡_, refl, sym, ap, subst, _∙_}
-use mathlib.Core.Bool.{Bool, true, false, cond}
-use mathlib.Core.List.{List, _++_}
-use native.Mathlib.Omega.{arith}
-use borrow.Author.Tests.{eq-eqb, ne-eqb, lt-ltb, le-ltb, ltb-true, ltb-false}
-use lib.Dec.{ltb}
-use lib.IntN.{ℤ, pos, negsuc}
-use lib.ListN.{length, take, drop, replicate, length-take, length-drop, length-append}
+use Rattle.rules.proofs.Base.{_≤_, _+_, ℕ, _-_, _<_, _∙_, refl, sym, ap, _≡_, subst, true, Bool, false, cond, List, _++_, arith, ltb, pos, ℤ, negsuc, length, drop, take, length-append, length-drop, length-take, replicate, eq-eqb, ne-eqb, ltb-true, ltb-false, lt-ltb, le-ltb}
 use Rattle.rules.specs.Bytes.{Bytes}
 use Rattle.rules.specs.Words.{signedValue}
 use Rattle.rules.specs.Streams.{Streams, placed}
@@ -17,7 +9,7 @@ use Rattle.expander.specs.Sinks.{SinksIn, Fits, fullBuffer}
 use Rattle.expander.specs.Filled.{Filled}
 use Rattle.expander.proofs.FilledLaws.{front-more}
 use Rattle.expander.proofs.Waiting.{appended-at}
-use Rattle.expander.proofs.Moved.{placed-to, placed-out, placed-lost}
+use Rattle.expander.proofs.StreamMoves.{placed-to, placed-out, placed-lost}
 use Rattle.expander.proofs.ArgumentLaws.{bits-plain}
 
 -- ---- which buffer is full

@@ -1,10 +1,5 @@
 -- Laws of the text ahead in its two buffers.
-use Prim.Native.Nat.{ℕ, _+_, _-_, _≤_, _<_}
-use mathlib.Core.Path.{_≡_, sym, ap, ap₂, _∙_}
-use mathlib.Core.List.{_++_}
-use native.Mathlib.Omega.{arith}
-use lib.ListN.{length, drop, length-append, length-drop, drop-of-length-le, take}
-use lib.Seq.{drop-drop}
+use Rattle.rules.proofs.Base.{_≤_, _+_, ℕ, _-_, _<_, _∙_, sym, ap, _≡_, ap₂, _++_, arith, length, drop, take, length-append, length-drop, drop-of-length-le, drop-drop}
 use Rattle.rules.specs.Bytes.{Bytes}
 use Rattle.rules.specs.Source.{Source, ahead, advance, pushBack}
 use Rattle.expander.specs.declared.source.Position.{Position}

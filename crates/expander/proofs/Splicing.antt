@@ -1,11 +1,5 @@
 -- Laws of packed strings some of which give way to others in their place. Assumes nothing.
-use Prim.Native.Nat.{ℕ, suc, _+_, _-_, _^_, _≤_, _<_}
-use native.Mathlib.Numerals.{add-one}
-use native.Mathlib.Omega.{arith}
-use mathlib.Core.Path.{_≡_, refl, sym, ap, _∙_}
-use mathlib.Core.List.{List, [], _∷_, _++_, map, append-assoc}
-use lib.ListN.{length, take, drop, getD, set, length-append, length-take, length-drop, take-append-drop}
-use lib.Seq.{drop-at, take-take, drop-cons, drop-append-le, take-append-le, length-take-le, getD-take, set-split}
+use Rattle.rules.proofs.Base.{_≤_, _+_, ℕ, _-_, _<_, suc, _^_, _∙_, refl, sym, ap, _≡_, List, [], _++_, _∷_, append-assoc, map, add-one, arith, length, drop, take, getD, length-append, length-drop, set, length-take, take-append-drop, length-take-le, drop-cons, getD-take, take-append-le, drop-at, set-split, take-take, drop-append-le}
 use Rattle.rules.specs.Bytes.{Bytes}
 use Rattle.rules.specs.Streams.{joined}
 use Rattle.expander.specs.Packed.{endsFrom, Packs, startOf, overlaid, rebased}

@@ -1,14 +1,5 @@
 -- One step by what the code goes by: the open calls, a byte in a call, a name's meaning, the end, and the token ahead. Assumes nothing.
-use Prim.Native.Nat.{ℕ, zero, suc, _+_, _-_, _≤_, _<_}
-use mathlib.Core.Path.{_≡_, refl, sym, ap, subst, _∙_}
-use mathlib.Core.Bool.{Bool, true, false, cond}
-use mathlib.Core.Logic.{_⊎_, inl, inr}
-use mathlib.Core.List.{List, [], _∷_, _++_}
-use mathlib.Core.Option.{Option, some, Option·none-ne-some, Option·some-injective}
-use native.Mathlib.Omega.{arith}
-use borrow.Author.Tests.{ne-eqb, eqb-true}
-use lib.Dec.{eqb}
-use lib.ListN.{length, take, drop, getD, length-append}
+use Rattle.rules.proofs.Base.{_≤_, _+_, ℕ, _-_, _<_, suc, zero, _∙_, refl, sym, ap, _≡_, subst, true, Bool, false, cond, _⊎_, inl, inr, some, Option, Option·none-ne-some, Option·some-injective, List, [], _++_, _∷_, arith, eqb, length, drop, take, getD, length-append, ne-eqb, eqb-true}
 use Rattle.rules.specs.declared.Answer.the-variants as answer
 use Rattle.rules.specs.declared.Reading.{Reading}
 use Rattle.rules.specs.declared.Reading.the-variants.{Is, OpenQuote, OpenComment}
@@ -20,13 +11,12 @@ use Rattle.rules.specs.Marks.{MarkTexts, markTexts}
 use Rattle.rules.specs.Source.{Source, ahead, pushBack}
 use Rattle.rules.specs.Streams.{finishedStreams, changed, changedInTurn}
 use Rattle.rules.specs.Table.{Meaning, Definition}
-use Rattle.rules.specs.State.{Call, State, Outcome, next, stop, refused, withCalls, withSource, withStreams, withWrap, resulting, changing, emitting}
+use Rattle.rules.specs.State.{Call, State, next, stop, refused, withCalls, withSource, withStreams, withWrap, resulting, changing, emitting}
 use Rattle.rules.specs.Tokens.{readToken}
 use Rattle.rules.specs.Run.{Setting, callsCost}
-use Rattle.rules.specs.Step.{plain, opening, bare, unopened, usedWith, atEnd, collecting, commaAt, rightMet, otherMet, inCall, singleByte, act, reacted, step}
+use Rattle.rules.specs.Step.{plain, opening, bare, unopened, usedWith, atEnd, collecting, commaAtDepth, rightMet, otherMet, inCall, singleByte, act, reacted, step}
 use Rattle.expander.specs.declared.machine.Machine.{Machine}
-use Rattle.expander.specs.declared.machine.Turn.{Turn}
-use Rattle.expander.specs.declared.machine.Went.the-variants as went
+use Rattle.expander.specs.declared.machine.Progress.the-variants as progress
 use Rattle.expander.specs.declared.source.Position.{Position}
 use Rattle.expander.specs.declared.events.Role.{Role}
 use Rattle.expander.specs.declared.events.Role.the-variants as role
@@ -34,29 +24,24 @@ use Rattle.expander.specs.declared.table.Meaning.{Meaning as Looked}
 use Rattle.expander.specs.declared.table.Meaning.the-variants as looked
 use Rattle.expander.specs.Calls.{CallsIn, bit}
 use Rattle.expander.specs.Front.{Front}
-use Rattle.expander.specs.Machine.{Memory, Means, Sound, Gives, Reach, aheadOf, pendingAt, sourceSet, wrapSet, turned}
+use Rattle.expander.specs.Machine.{Memory, Represents, Valid, Refines, Reach, aheadOf, pendingAt, sourceSet, wrapSet, stepped}
 use Rattle.expander.specs.Source.{SourceIn}
 use Rattle.expander.specs.Step.{byRole, deepAt, HasRole, TokenWithin}
 use Rattle.expander.specs.Table.{Finds, meaningFor, plainUnopened}
 use Rattle.expander.specs.Tokens.{Within}
 use Rattle.expander.proofs.Parts.{part-all}
 use Rattle.expander.proofs.CallsLaws.{calls-held, depth-in}
-use Rattle.expander.proofs.MachineLaws.{front-long, over-pending, gives-next, gives-refused, gives-room}
+use Rattle.expander.proofs.MachineLaws.{front-long, over-pending, refines-next, refines-refused, refines-room}
 use Rattle.expander.proofs.Parted.{with-source, with-wrap}
+use Rattle.expander.proofs.SteppedLaws.{refines-as}
 use Rattle.expander.proofs.SourceLaws.{ahead-is, ahead-long, pushed-back}
 
 -- ---- promises handed on
 
--- what a callee is lent is sound, where it belongs to what the caller is lent
-pub lends : {lent part : Memory → Memory} {m : Machine} (p : Sound lent m) → part (lent (p .others)) ≡ lent (p .others) → Sound part m
+-- what a callee is lent is valid, where it belongs to what the caller is lent
+pub lends : {lent part : Memory → Memory} {m : Machine} (p : Valid lent m) → part (lent (p .others)) ≡ lent (p .others) → Valid part m
 lends {lent} {m} p e =
-    record { others = lent (p .others); setting = p .setting; state = p .state; means = subst (λ (b : Memory). Means (p .setting) b m (p .state)) (sym e) (p .means) }
-
-pub by : {a : Setting} {o o′ : Outcome} {before b : Memory} {t : Turn} → o′ ≡ o → Gives a before o b t → Gives a before o′ b t
-by {a} {before = before} {b} {t} e g = subst (λ (x : Outcome). Gives a before x b t) (sym e) g
-
-pub turns : {a : Setting} {o : Outcome} {before b : Memory} {t t′ : Turn} → t′ ≡ t → Gives a before o b t → Gives a before o b t′
-turns {a} {o} {before} {b} e g = subst (λ (x : Turn). Gives a before o b x) (sym e) g
+    record { others = lent (p .others); setting = p .setting; state = p .state; represents = subst (λ (b : Memory). Represents (p .setting) b m (p .state)) (sym e) (p .represents) }
 
 -- ---- whether a call is open
 
@@ -73,7 +58,7 @@ some-of : (cs : List Call) → 0 < length cs → Innermost cs
 some-of [] h = absurd (omega arith)
 some-of (c ∷ cs) h = record { top = c; rest = cs; is = refl }
 
-module _ {a : Setting} {b : Memory} {m : Machine} {s : State} (r : Means a b m s) where
+module _ {a : Setting} {b : Memory} {m : Machine} {s : State} (r : Represents a b m s) where
   pub no-calls : m .calls .opens ≡ 0 → s .calls ≡ []
   no-calls e = none-of (s .calls) (r .calls .open-is ∙ e)
 
@@ -93,8 +78,8 @@ module _ {a : Setting} {b : Memory} {m : Machine} {s : State} (r : Means a b m s
 
 -- ---- a byte in a call
 
-comma-deep : (d : ℕ) (c : Call) (cs : List Call) (s : State) → (d ≡ 0 → ⊥) → commaAt d c cs s ≡ next (withCalls (collecting (44 ∷ []) d c ∷ cs) s)
-unfolding commaAt
+comma-deep : (d : ℕ) (c : Call) (cs : List Call) (s : State) → (d ≡ 0 → ⊥) → commaAtDepth d c cs s ≡ next (withCalls (collecting (44 ∷ []) d c ∷ cs) s)
+unfolding commaAtDepth
 comma-deep zero c cs s f = absurd (f refl)
 comma-deep (suc d) c cs s f = refl
 
@@ -132,13 +117,13 @@ module _ (x d k : ℕ) where
       record { is = λ c cs s ed ek. rw e (ap (λ (n : ℕ). rightMet n c cs s) ed ∙ right-deep d c cs s f); deep = omega arith }
 
   pub role-separates : x ≡ 44 → d ≡ 0 → HasRole x d k role.Separates
-  unfolding inCall byRole deepAt commaAt
-  role-separates e z = record { is = λ c cs s ed ek. rw e (ap (λ (n : ℕ). commaAt n c cs s) (ed ∙ z)); deep = omega arith }
+  unfolding inCall byRole deepAt commaAtDepth
+  role-separates e z = record { is = λ c cs s ed ek. rw e (ap (λ (n : ℕ). commaAtDepth n c cs s) (ed ∙ z)); deep = omega arith }
 
   pub role-comma : x ≡ 44 → (d ≡ 0 → ⊥) → HasRole x d k (role.Collected d)
   unfolding inCall byRole deepAt
   role-comma e f =
-      record { is = λ c cs s ed ek. rw e (ap (λ (n : ℕ). commaAt n c cs s) ed ∙ comma-deep d c cs s f); deep = omega arith }
+      record { is = λ c cs s ed ek. rw e (ap (λ (n : ℕ). commaAtDepth n c cs s) ed ∙ comma-deep d c cs s f); deep = omega arith }
 
   module _ (e0 : x ≡ 40 → ⊥) (e1 : x ≡ 41 → ⊥) (e2 : x ≡ 44 → ⊥) where
     other-in : (c : Call) (cs : List Call) (s : State) → inCall x c cs s ≡ otherMet x c cs s
@@ -277,13 +262,13 @@ unfolding atEnd changing changedInTurn changed
 end-done [] s e = refl
 end-done (x ∷ xs) s e = absurd (omega arith)
 
-module _ {a : Setting} {b : Memory} {m : Machine} {s : State} (r : Means a b m s) where
+module _ {a : Setting} {b : Memory} {m : Machine} {s : State} (r : Represents a b m s) where
   -- a call is open
-  pub end-refused : (m .calls .opens ≡ 0 → ⊥) → Gives a b (atEnd (s .calls) (s .wrap) s) b (turned (went.Refused (answer.Unclosed 3)) m)
+  pub end-refused : (m .calls .opens ≡ 0 → ⊥) → Refines a b (atEnd (s .calls) (s .wrap) s) b (stepped (progress.Refused (answer.Unclosed 3)) m)
   unfolding faultAnswer
   end-refused f =
       let i = some-calls r (omega (arith, f)) in
-      by (ap (λ (cs : List Call). atEnd cs (s .wrap) s) (i .is) ∙ end-open (i .top) (i .rest) (s .wrap) s) (gives-refused unclosedCall)
+      refines-as (ap (λ (cs : List Call). atEnd cs (s .wrap) s) (i .is) ∙ end-open (i .top) (i .rest) (s .wrap) s) (refines-refused unclosedCall)
 
   module _ (e : m .calls .opens ≡ 0) where
     -- no wrap text waits
@@ -296,25 +281,25 @@ module _ {a : Setting} {b : Memory} {m : Machine} {s : State} (r : Means a b m s
           ap (λ (cs : List Call). atEnd cs (s .wrap) s) (no-calls r e) ∙ end-wrapped (s .wrap) s (omega (arith, f, front-long (r .wrap)))
 
       -- it doesn't fit the buffer
-      pub end-full : length (b .pending) < m .wrap → Gives a b (atEnd (s .calls) (s .wrap) s) b (turned (went.Refused (answer.Room 1)) m)
+      pub end-full : length (b .pending) < m .wrap → Refines a b (atEnd (s .calls) (s .wrap) s) b (stepped (progress.Refused (answer.Room 1)) m)
       unfolding resulting withWrap withSource pushBack
       end-full h =
           let t = resulting (s .wrap) (withWrap [] s) in
           let l : a .pending < length (t .source .pending) =
           omega (arith, r .limits .pending, front-long (r .wrap), length-append (s .wrap) (s .source .pending)) in
-          by end-pushes (gives-room t 0 (over-pending a t l))
+          refines-as end-pushes (refines-room t 0 (over-pending a t l))
 
       -- it becomes pending
       pub end-pending :
           (pending : Bytes) (from : ℕ) → length pending ≡ length (b .pending) → from ≤ length pending
           → drop from pending ≡ take (m .wrap) (b .wrap) ++ drop (m .source .from) (b .pending)
-          → Gives a b (atEnd (s .calls) (s .wrap) s) (pendingAt pending b)
-          (turned went.On (wrapSet 0 (sourceSet (record { from = from; taken = m .source .taken }) m)))
+          → Refines a b (atEnd (s .calls) (s .wrap) s) (pendingAt pending b)
+          (stepped progress.On (wrapSet 0 (sourceSet (record { from = from; taken = m .source .taken }) m)))
       unfolding resulting withWrap withSource
       end-pending pending from l h d =
           let w : Front (b .wrap) 0 [] = record { text-is = refl; inside = omega arith } in
-          by end-pushes
-          (gives-next
+          refines-as end-pushes
+          (refines-next
           (with-source (with-wrap r w refl)
           (pushed-back (s .wrap) from (r .source) h (d ∙ ap (λ (x : Bytes). x ++ drop (m .source .from) (b .pending)) (r .wrap .text-is))) l))
 
@@ -346,7 +331,7 @@ pub quoted-order : (text pending : Bytes) (p : Position) {t : Token} {i j n : �
 unfolding TokenWithin
 quoted-order text pending p e w = subst (TokenWithin text pending p) e w .0
 
-module _ {a : Setting} {b : Memory} {m : Machine} {s : State} (r : Means a b m s) where
+module _ {a : Setting} {b : Memory} {m : Machine} {s : State} (r : Represents a b m s) where
   abbrev parts : Bytes
   parts = take (length (b .pending) - m .source .from) (drop (m .source .from) (b .pending)) ++ take (length (b .text) - m .source .taken) (drop (m .source .taken) (b .text))
 

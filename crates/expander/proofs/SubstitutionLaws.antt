@@ -1,17 +1,6 @@
 -- Laws of a defined text that arguments are put into, from a place of it on. Assumes nothing.
-use Prim.Native.Nat.{ℕ, zero, suc, _+_, _-_, _/_, _%_, _≤_, _<_}
-use native.Mathlib.Numerals.{add-one}
-use native.Mathlib.Omega.{arith}
-use mathlib.Core.Path.{_≡_, refl, sym, ap, subst, _∙_}
-use mathlib.Core.Bool.{Bool, true, false}
-use mathlib.Core.List.{List, [], _∷_, _++_, append-assoc, append-nil}
-use mathlib.Core.Option.{Option, none, some}
-use borrow.Author.Tests.{eq-eqb, ne-eqb}
+use Rattle.rules.proofs.Base.{_≤_, _+_, ℕ, _-_, _<_, suc, zero, _/_, _%_, _∙_, refl, sym, ap, _≡_, subst, true, Bool, false, some, none, Option, List, [], _++_, _∷_, append-assoc, append-nil, add-one, arith, ltb, pos, ℤ, length, drop, take, getD, length-append, length-drop, set, drop-of-length-le, length-take, replicate, length-take-le, drop-cons, drop-drop, take-all, eq-eqb, ne-eqb}
 use borrow.Rule.Slice.PartMut.{putMid}
-use lib.Dec.{ltb}
-use lib.IntN.{ℤ, pos}
-use lib.ListN.{length, take, drop, getD, set, replicate, length-append, length-take, length-drop, drop-of-length-le}
-use lib.Seq.{drop-cons, drop-drop, take-all, length-take-le}
 use Rattle.rules.specs.Bytes.{Bytes, isDigit}
 use Rattle.rules.specs.Marks.{MarkTexts}
 use Rattle.rules.specs.Words.{signedValue}

@@ -1,16 +1,9 @@
 -- Laws of how much the streams own: of one, of those below one, of all. Assumes nothing.
-use Prim.Native.Nat.{ℕ, zero, suc, _+_, _≤_, _<_}
-use native.Mathlib.Nat.{zero-add, suc-add, add-zero, add-suc}
-use native.Mathlib.Decide.{ℕ-discrete}
-use native.Mathlib.Omega.{arith}
-use mathlib.Core.Path.{_≡_, refl, sym, ap, _∙_}
-use mathlib.Core.List.{List, [], _∷_}
-use lib.ListN.{length, take, getD}
-use lib.Seq.{length-take-le, ext-getD}
+use Rattle.rules.proofs.Base.{_≤_, _+_, ℕ, _<_, suc, zero, _∙_, refl, sym, ap, _≡_, List, [], _∷_, add-zero, zero-add, add-suc, suc-add, ℕ-discrete, arith, length, take, getD, length-take-le, ext-getD}
 use Rattle.rules.specs.Bytes.{Bytes}
 use Rattle.rules.specs.Streams.{totalLength}
 use Rattle.expander.specs.Streams.{ownedBy, ownedCount, ownedBelow, sumBelow, Ten, Owned, StreamsIn}
-use Rattle.expander.proofs.Owned.{mine-counted, other-counted, count-first, owned-length}
+use Rattle.expander.proofs.OwnedBytes.{mine-counted, other-counted, count-first, owned-length}
 use Rattle.expander.proofs.Waiting.{parts-long, part-numbered}
 
 -- n streams from i on

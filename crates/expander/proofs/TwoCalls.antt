@@ -1,7 +1,6 @@
 -- Demand 3 of `expand` itself: room never shapes text. It is stated over `Learnt`, which is what a caller learns of a call from the proved
 -- contract of `expand`: a weaker contract breaks it.
-use Prim.Native.Nat.{ℕ}
-use mathlib.Core.Path.{_≡_, subst}
+use Rattle.rules.proofs.Base.{ℕ, _≡_, subst}
 use borrow.Fn.World.{ArgsD, ResD}
 use borrow.Fn.Kinds.{endedOf}
 use contract.Lifetimes.{Lfts}
@@ -50,11 +49,11 @@ of-expand κs a r x h = h
 
 -- the letter's three sentences, as one statement about two calls of `expand` on one text, whatever their buffers held: in the second
 -- nothing is smaller, and none of its lengths is above 65,536 bytes
-pub room-never-shapes-calls :
+pub calls-monotone-in-room :
     (κs κs′ : Lfts 8) (a : Arguments κs) (a′ : Arguments κs′) (r : ResD signature κs) (r′ : ResD signature κs′) (x : Lasting κs) (x′ : Lasting κs′)
     → Learnt κs a r x → Learnt κs′ a′ r′ x′ → textOf κs′ a′ ≡ textOf κs a → Lendable (settingOf (lentTo κs′ a′) (budgetOf κs′ a′))
     → NowhereSmaller (settingOf (lentTo κs a) (budgetOf κs a)) (settingOf (lentTo κs′ a′) (budgetOf κs′ a′))
     → Agree (settingOf (lentTo κs a) (budgetOf κs a)) (settingOf (lentTo κs′ a′) (budgetOf κs′ a′)) r r′ (leftFrom κs x) (leftFrom κs′ x′)
-room-never-shapes-calls κs κs′ a a′ r r′ x x′ first second same lendable wider =
+calls-monotone-in-room κs κs′ a a′ r r′ x x′ first second same lendable wider =
     calls-agree (textOf κs a) (budgetOf κs a) (budgetOf κs′ a′) (lentTo κs a) (leftFrom κs x) (lentTo κs′ a′) (leftFrom κs′ x′) r r′ lendable wider (of-expand κs a r x first)
     (subst (λ (t : Bytes). Expanded t (budgetOf κs′ a′) (lentTo κs′ a′) (leftFrom κs′ x′) r′) same (of-expand κs′ a′ r′ x′ second))

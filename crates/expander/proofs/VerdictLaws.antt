@@ -1,14 +1,10 @@
 -- A run follows the verdicts on its steps.
-use Prim.Native.Nat.{ℕ, suc, _≤_, _<_}
-use mathlib.Core.Path.{_≡_, refl, ap}
-use mathlib.Core.List.{List, _∷_}
-use mathlib.Core.Option.{Option, none, some}
-use borrow.Author.Tests.{le-leb, lt-leb}
+use Rattle.rules.proofs.Base.{_≤_, ℕ, _<_, suc, refl, ap, _≡_, some, none, Option, List, _∷_, le-leb, lt-leb}
 use Rattle.rules.specs.declared.Answer.the-variants as answer
 use Rattle.rules.specs.Answers.{Ending, endingAnswer, Fault, faultAnswer}
 use Rattle.rules.specs.State.{State, Outcome, next, stop, refused}
 use Rattle.rules.specs.Step.{step}
-use Rattle.rules.specs.Tokens.{later}
+use Rattle.rules.specs.Places.{plusOne}
 use Rattle.rules.specs.Run.{held, overfull, Ended, endedWith, judged, continued, runFrom}
 use Rattle.expander.specs.Verdict.{Verdict, going, over, denied, roomed, verdict, followed}
 
@@ -48,9 +44,9 @@ unfolding verdict
 verdict-refused ls f = refl
 
 -- the first buffer that is overfull, found from the front
-pub fits-then : (h : ℕ) (hs : List ℕ) (l : ℕ) (ls : List ℕ) (o : Option ℕ) → h ≤ l → overfull hs ls ≡ o → overfull (h ∷ hs) (l ∷ ls) ≡ later o
+pub fits-then : (h : ℕ) (hs : List ℕ) (l : ℕ) (ls : List ℕ) (o : Option ℕ) → h ≤ l → overfull hs ls ≡ o → overfull (h ∷ hs) (l ∷ ls) ≡ plusOne o
 unfolding overfull
-fits-then h hs l ls o p e = rw (le-leb h l p, overfull) (ap later e)
+fits-then h hs l ls o p e = rw (le-leb h l p, overfull) (ap plusOne e)
 
 pub overflows : (h : ℕ) (hs : List ℕ) (l : ℕ) (ls : List ℕ) → l < h → overfull (h ∷ hs) (l ∷ ls) ≡ some 0
 unfolding overfull

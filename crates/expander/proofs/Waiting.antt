@@ -1,16 +1,10 @@
 -- Laws of the texts that the streams of a buffer hold. Assumes nothing.
-use Prim.Native.Nat.{ℕ, zero, suc, _+_, _-_, _≤_, _<_}
-use native.Mathlib.Decide.{ℕ-discrete}
-use native.Mathlib.Omega.{arith}
-use mathlib.Core.Path.{_≡_, refl, sym, ap, ap₂, subst, subst₂, _∙_}
-use mathlib.Core.List.{List, [], _∷_, _++_, append-nil}
-use lib.ListN.{length, take, getD, set, replicate, length-take, length-set, length-replicate, getD-replicate}
-use lib.Seq.{length-take-le, getD-take, getD-set-same, getD-set-other, set-getD}
+use Rattle.rules.proofs.Base.{_≤_, _+_, ℕ, _-_, _<_, suc, zero, _∙_, refl, sym, ap, _≡_, subst, ap₂, subst₂, List, [], _++_, _∷_, append-nil, ℕ-discrete, arith, length, take, getD, set, length-set, length-take, replicate, length-replicate, getD-replicate, length-take-le, getD-take, getD-set-same, getD-set-other, set-getD}
 use Rattle.rules.specs.Bytes.{Bytes}
 use Rattle.rules.specs.Streams.{nineEmpty}
 use Rattle.expander.specs.Streams.{ownedBy, ownedCount, IsStream, Owned, StreamsIn, extended, behindStream}
 use Rattle.expander.specs.Filled.{Filled}
-use Rattle.expander.proofs.Owned.{notOwned, owned-append, run-mine, run-other, owned-length, kept-all, kept-gone, kept-others}
+use Rattle.expander.proofs.OwnedBytes.{notOwned, owned-append, run-mine, run-other, owned-length, kept-all, kept-gone, kept-others}
 use Rattle.expander.proofs.FilledLaws.{filled-front, filled-long}
 use Rattle.expander.proofs.Parts.{empty-of}
 

@@ -1,23 +1,18 @@
 -- The places of a token lie in the text ahead. Assumes nothing.
-use Prim.Native.Nat.{ℕ, zero, suc, _+_, _-_, _≤_}
-use native.Mathlib.Omega.{arith}
-use mathlib.Core.Path.{_≡_, refl, sym, subst}
-use mathlib.Core.List.{[], _∷_}
-use mathlib.Core.Bool.{Bool, true, false}
-use mathlib.Core.Option.{Option, none, some}
-use lib.ListN.{length, drop, getD, length-drop}
+use Rattle.rules.proofs.Base.{_≤_, _+_, ℕ, _-_, suc, zero, refl, sym, _≡_, subst, true, Bool, false, some, none, Option, [], _∷_, arith, length, drop, getD, length-drop}
 use Rattle.rules.specs.declared.Token.{Token}
 use Rattle.rules.specs.declared.Token.the-variants as token
 use Rattle.rules.specs.declared.Reading.{Reading}
 use Rattle.rules.specs.declared.Reading.the-variants.{Is, OpenQuote, OpenComment}
 use Rattle.rules.specs.Bytes.{Bytes, sameBytes, beginsName, nameLength}
 use Rattle.rules.specs.Marks.{MarkTexts, newlineMark}
-use Rattle.rules.specs.Tokens.{beginsWith, later, firstPlace, QuoteEnd, closesAt, leftOpen, oneOn, quoteEnd, commentToEnd, commentRead, readToken}
+use Rattle.rules.specs.Tokens.{beginsWith, firstPlace, QuoteEnd, closesAt, leftOpen, endPlusOne, quoteEnd, commentToEnd, commentRead, readToken}
+use Rattle.rules.specs.Places.{plusOne}
 use Rattle.expander.specs.declared.tokens.Met.{Met}
 use Rattle.expander.specs.declared.tokens.Met.the-variants.{First, Second, Neither}
 use Rattle.expander.specs.Tokens.{metAt, commentFrom, closedFrom, quotedFrom, plainRead, Within}
-use Rattle.expander.proofs.Runs.{name-within, name-some}
-use Rattle.expander.proofs.Marks.{begins-long, at-long, met-tests}
+use Rattle.expander.proofs.Prefixes.{name-within, name-some}
+use Rattle.expander.proofs.MarkPlaces.{begins-long, at-long, met-tests}
 use Rattle.expander.proofs.Comments.{first-here, first-later, first-none}
 use Rattle.expander.proofs.Quotes.{quote-closes, quote-less, quote-more, quote-same}
 use Rattle.expander.proofs.Reading.{token-end, token-comment, token-quoted, token-plain, plain-name, plain-byte}
@@ -50,10 +45,10 @@ abbrev PlaceIn : ℕ → ℕ → Option ℕ → Type 0
 PlaceIn n l none = Unit {0}
 PlaceIn n l (some k) = k + n ≤ l
 
-later-in : (n l : ℕ) (o : Option ℕ) → PlaceIn n l o → PlaceIn n (suc l) (later o)
-unfolding later
-later-in n l none h = tt
-later-in n l (some k) h = omega arith
+plus-one-in : (n l : ℕ) (o : Option ℕ) → PlaceIn n l o → PlaceIn n (suc l) (plusOne o)
+unfolding plusOne
+plus-one-in n l none h = tt
+plus-one-in n l (some k) h = omega arith
 
 first-in : (m s : Bytes) → PlaceIn (length m) (length s) (firstPlace m s)
 first-in m [] = go (beginsWith m []) refl
@@ -65,7 +60,7 @@ first-in m (x ∷ xs) = go (beginsWith m (x ∷ xs)) refl (first-in m xs)
   where
     go : (t : Bool) → beginsWith m (x ∷ xs) ≡ t → PlaceIn (length m) (length xs) (firstPlace m xs) → PlaceIn (length m) (suc (length xs)) (firstPlace m (x ∷ xs))
     go true e h = rw (first-here m (x ∷ xs) e) (omega (arith, begins-long m (x ∷ xs) e))
-    go false e h = rw (first-later m x xs e) (later-in (length m) (length xs) (firstPlace m xs) h)
+    go false e h = rw (first-later m x xs e) (plus-one-in (length m) (length xs) (firstPlace m xs) h)
 
 pub first-within : (m s : Bytes) (n : ℕ) → firstPlace m s ≡ some n → n + length m ≤ length s
 first-within m s n e = subst (PlaceIn (length m) (length s)) e (first-in m s)
@@ -74,8 +69,8 @@ abbrev EndIn : ℕ → ℕ → QuoteEnd → Type 0
 EndIn n l (leftOpen d) = Unit {0}
 EndIn n l (closesAt k) = k + n ≤ l
 
-on-in : (n l : ℕ) (q : QuoteEnd) → EndIn n l q → EndIn n (suc l) (oneOn q)
-unfolding oneOn
+on-in : (n l : ℕ) (q : QuoteEnd) → EndIn n l q → EndIn n (suc l) (endPlusOne q)
+unfolding endPlusOne
 on-in n l (leftOpen d) h = tt
 on-in n l (closesAt k) h = omega arith
 
@@ -86,7 +81,7 @@ quote-in begin end d (suc k) (x ∷ xs) = on-in (length end) (length xs) (quoteE
 quote-in begin end d zero (x ∷ xs) = go d (beginsWith end (x ∷ xs)) refl (beginsWith begin (x ∷ xs)) refl (λ i j. on-in (length end) (length xs) (quoteEnd begin end i j xs) (quote-in begin end i j xs))
   where
     go : (d : ℕ) (t : Bool) → beginsWith end (x ∷ xs) ≡ t → (u : Bool) → beginsWith begin (x ∷ xs) ≡ u
-        → ((i j : ℕ) → EndIn (length end) (suc (length xs)) (oneOn (quoteEnd begin end i j xs))) → EndIn (length end) (suc (length xs)) (quoteEnd begin end d 0 (x ∷ xs))
+        → ((i j : ℕ) → EndIn (length end) (suc (length xs)) (endPlusOne (quoteEnd begin end i j xs))) → EndIn (length end) (suc (length xs)) (quoteEnd begin end d 0 (x ∷ xs))
     go zero true e u f h = rw (quote-closes begin end x xs e) (omega (arith, begins-long end (x ∷ xs) e))
     go (suc d) true e u f h = rw (quote-less begin end x xs d e) (h d _)
     go d false e true f h = rw (quote-more begin end x xs d e f) (h (suc d) _)

@@ -17,7 +17,7 @@ use Rattle.expander.specs.declared.events.Plain.the-variants as plain
 use Rattle.expander.specs.declared.events.Special.{Special}
 use Rattle.expander.specs.declared.events.Special.the-variants as special
 use Rattle.expander.specs.declared.machine.Machine.{Machine}
-use Rattle.expander.specs.Machine.{Memory, Sound, Reach, aheadOf}
+use Rattle.expander.specs.Machine.{Memory, Valid, Reach, aheadOf}
 use Rattle.expander.specs.declared.table.Meaning.{Meaning}
 use Rattle.expander.specs.Table.{Finds}
 
@@ -71,12 +71,12 @@ unfoldable pub EventIs : State → Event → Type 0
 EventIs s (event.Plain p) = PlainIs s p
 EventIs s (event.Special e) = SpecialIs s e
 
--- some state is meant, whatever the parts of the memory hold that are not lent, and the name of n bytes ahead was looked up in it
-pub record SoundName (lent : Memory → Memory) (m : Machine) (n : ℕ) (meaning : Meaning) : Type 0 where
-  pub sound : Sound lent m
-  pub found : NameFound (sound .state) n meaning
+-- some state is represented, for some content of the parts of the memory that are not lent, and the name of n bytes ahead was looked up in it
+pub record ValidName (lent : Memory → Memory) (m : Machine) (n : ℕ) (meaning : Meaning) : Type 0 where
+  pub valid : Valid lent m
+  pub found : NameFound (valid .state) n meaning
 
--- some state is meant, and its step comes to this
-pub record SoundSpecial (lent : Memory → Memory) (m : Machine) (e : Special) : Type 0 where
-  pub sound : Sound lent m
-  pub is : SpecialIs (sound .state) e
+-- some state is represented, and its step comes to this
+pub record ValidSpecial (lent : Memory → Memory) (m : Machine) (e : Special) : Type 0 where
+  pub valid : Valid lent m
+  pub is : SpecialIs (valid .state) e

@@ -1,4 +1,4 @@
--- What the buffers, the links and the by-value state mean.
+-- What the buffers, the links and the by-value state represent.
 pub mod Ahead
 pub mod Arguments
 pub mod Calls
@@ -10,7 +10,6 @@ pub mod Front
 pub mod Giving
 pub mod Limits
 pub mod Machine
-pub mod Macros
 pub mod Packed
 pub mod Results
 pub mod Run

@@ -4,11 +4,10 @@ use Prim.Native.Nat.{ℕ, _+_, _-_, _*_, _^_}
 pub use Rattle.rules.specs.Run.{mostLent}
 -- open calls, and arguments over all of them
 pub use Rattle.rules.specs.Step.{mostCalls, mostArguments}
+-- predefined macros, as many as the book names (law `fresh-in` of Rows)
+pub use Rattle.builtins.specs.Numbers.{macroCount}
 
--- predefined macros, as many as the book names (law `fresh-in` of Rows), and the mask in which each keeps its own meaning
-abbrev pub macroCount : ℕ
-macroCount = 24
-
+-- the mask in which each predefined macro keeps its own meaning
 abbrev pub allOwn : ℕ
 allOwn = 2 ^ macroCount - 1
 

@@ -1,4 +1,4 @@
--- What the buffers, the links and the by-value machine mean: one state. And what a step has to give.
+-- Which state the buffers, the links and the by-value machine represent, and what a step has to give.
 use Prim.Native.Nat.{ℕ, _+_, _-_, _≤_}
 use mathlib.Core.Path.{_≡_}
 use mathlib.Core.List.{List}
@@ -13,9 +13,9 @@ use Rattle.expander.specs.declared.machine.Machine.{Machine}
 use Rattle.expander.specs.declared.sinks.Sinks.{Sinks}
 use Rattle.expander.specs.declared.source.Position.{Position}
 use Rattle.expander.specs.declared.table.Definitions.{Definitions}
-use Rattle.expander.specs.declared.machine.Turn.{Turn}
-use Rattle.expander.specs.declared.machine.Went.{Went}
-use Rattle.expander.specs.declared.machine.Went.the-variants as went
+use Rattle.expander.specs.declared.machine.Stepped.{Stepped}
+use Rattle.expander.specs.declared.machine.Progress.{Progress}
+use Rattle.expander.specs.declared.machine.Progress.the-variants as progress
 use Rattle.expander.specs.Limits.{mostLent, callEndsLength, stackLength, tableEndsLength}
 use Rattle.expander.specs.Source.{SourceIn}
 use Rattle.expander.specs.Calls.{CallsIn}
@@ -118,7 +118,8 @@ pub record Limits (a : Setting) (b : Memory) : Type 0 where
   pub table-ends : length (b .tableEnds) ≡ tableEndsLength
   pub owners : length (b .owners) ≡ mostLent
 
-pub record Means (a : Setting) (b : Memory) (m : Machine) (s : State) : Type 0 where
+-- with the lengths of the setting a lent, the memory b and the machine m represent the state s, part by part
+pub record Represents (a : Setting) (b : Memory) (m : Machine) (s : State) : Type 0 where
   pub source : SourceIn (b .text) (b .pending) (m .source) (s .source)
   pub marks : s .marks ≡ markTexts (m .marks)
   pub marks-good : GoodMarks (m .marks)
@@ -159,20 +160,20 @@ errorsSet x m =
     record { marks = m .marks; source = m .source; calls = m .calls; table = m .table; sinks = m .sinks; wrap = m .wrap; errors = x }
 
 -- what a step gives, of its parts
-abbrev pub turned : Went → Machine → Turn
-turned w m = record { went = w; machine = m }
+abbrev pub stepped : Progress → Machine → Stepped
+stepped w m = record { progress = w; machine = m }
 
--- some state is meant, whatever the parts of the memory hold that are not lent: what a function of the step asks
-pub record Sound (lent : Memory → Memory) (m : Machine) : Type 0 where
+-- some state is represented, for some content of the parts of the memory that are not lent: what a function of the step asks
+pub record Valid (lent : Memory → Memory) (m : Machine) : Type 0 where
   pub others : Memory
   pub setting : Setting
   pub state : State
-  pub means : Means setting (lent others) m state
+  pub represents : Represents setting (lent others) m state
 
 -- the same for a function that is lent some parts of the machine, whatever the others are
-pub record SoundAt (lent : Memory → Memory) (made : Machine → Machine) : Type 0 where
+pub record ValidAt (lent : Memory → Memory) (made : Machine → Machine) : Type 0 where
   pub machine : Machine
-  pub sound : Sound lent (made machine)
+  pub valid : Valid lent (made machine)
 
 -- how many bytes are ahead of a position
 abbrev pub aheadOf : Bytes → Bytes → Position → ℕ
@@ -185,10 +186,11 @@ pub record Reach (text pending : Bytes) (p : Position) (start n width : ℕ) : T
 
 -- what a function leaves, from the memory `before`, by the verdict on its outcome. A refused step has written nothing; of its machine nothing is
 -- said, since the caller has the one before it
-unfoldable pub Came : Setting → Memory → Memory → Turn → Verdict → Type 0
-Came a before b t (going s) = (t .went ≡ went.On) × Means a b (t .machine) s
-Came a before b t (over x s) = (t .went ≡ went.Ended x) × Means a b (t .machine) s
-Came a before b t (denied x) = (t .went ≡ went.Refused x) × (b ≡ before)
+unfoldable pub Follows : Setting → Memory → Memory → Stepped → Verdict → Type 0
+Follows a before b t (going s) = (t .progress ≡ progress.On) × Represents a b (t .machine) s
+Follows a before b t (over x s) = (t .progress ≡ progress.Ended x) × Represents a b (t .machine) s
+Follows a before b t (denied x) = (t .progress ≡ progress.Refused x) × (b ≡ before)
 
-pub record Gives (a : Setting) (before : Memory) (o : Outcome) (b : Memory) (t : Turn) : Type 0 where
-  pub came : Came a before b t (verdict (lengths a) o)
+-- the same by the outcome: what a function of the step promises
+pub record Refines (a : Setting) (before : Memory) (o : Outcome) (b : Memory) (t : Stepped) : Type 0 where
+  pub follows : Follows a before b t (verdict (lengths a) o)

@@ -13,40 +13,40 @@ use Rattle.rules.specs.Numerals.{writtenIn}
 use Rattle.rules.specs.Results.{Result, yields, fails, needing, shownResult}
 use Rattle.rules.specs.Arguments.{numberOr, bounded}
 use Rattle.numerals.specs.Answers.{isRadix}
-use Rattle.expander.specs.declared.figures.Figure.{Figure}
-use Rattle.expander.specs.declared.figures.Figure.the-variants as figure
-use Rattle.expander.specs.declared.cuts.Cut.{Cut}
-use Rattle.expander.specs.declared.cuts.Cut.the-variants as cut
+use Rattle.expander.specs.declared.number_results.NumberResult.{NumberResult}
+use Rattle.expander.specs.declared.number_results.NumberResult.the-variants as number-result
+use Rattle.expander.specs.declared.part_results.PartResult.{PartResult}
+use Rattle.expander.specs.declared.part_results.PartResult.the-variants as part-result
 
--- the result that a figure stands for
-unfoldable pub figureResult : Figure → Result
-figureResult (figure.Number bits radix least) = yields (writtenIn radix least (signedValue bits))
-figureResult figure.NoNumber = fails noNumber
-figureResult figure.NoExpression = fails noExpression
-figureResult figure.Divisor = fails divisor
+-- the result that a number stands for
+unfoldable pub resultOfNumber : NumberResult → Result
+resultOfNumber (number-result.Number bits radix least) = yields (writtenIn radix least (signedValue bits))
+resultOfNumber number-result.NoNumber = fails noNumber
+resultOfNumber number-result.NoExpression = fails noExpression
+resultOfNumber number-result.Divisor = fails divisor
 
-unfoldable pub FigureRadix : Figure → Type 0
-FigureRadix (figure.Number bits radix least) = isRadix radix ≡ true
-FigureRadix figure.NoNumber = Unit {0}
-FigureRadix figure.NoExpression = Unit {0}
-FigureRadix figure.Divisor = Unit {0}
+unfoldable pub GoodRadix : NumberResult → Type 0
+GoodRadix (number-result.Number bits radix least) = isRadix radix ≡ true
+GoodRadix number-result.NoNumber = Unit {0}
+GoodRadix number-result.NoExpression = Unit {0}
+GoodRadix number-result.Divisor = Unit {0}
 
-pub record Shows (w : Result) (f : Figure) : Type 0 where
-  pub is : w ≡ figureResult f
-  pub radix : FigureRadix f
+pub record Shows (w : Result) (f : NumberResult) : Type 0 where
+  pub is : w ≡ resultOfNumber f
+  pub radix : GoodRadix f
 
 -- the result that a part of a buffer stands for
-unfoldable pub cutResult : Bytes → Cut → Result
-cutResult bytes (cut.Part start end) = yields (take (end - start) (drop start bytes))
-cutResult bytes cut.NoNumber = fails noNumber
+unfoldable pub resultOfPart : Bytes → PartResult → Result
+resultOfPart bytes (part-result.Part start end) = yields (take (end - start) (drop start bytes))
+resultOfPart bytes part-result.NoNumber = fails noNumber
 
-unfoldable pub CutInside : Bytes → Cut → Type 0
-CutInside bytes (cut.Part start end) = (start ≤ end) × (end ≤ length bytes)
-CutInside bytes cut.NoNumber = Unit {0}
+unfoldable pub PartInside : Bytes → PartResult → Type 0
+PartInside bytes (part-result.Part start end) = (start ≤ end) × (end ≤ length bytes)
+PartInside bytes part-result.NoNumber = Unit {0}
 
-pub record Cuts (bytes : Bytes) (w : Result) (c : Cut) : Type 0 where
-  pub is : w ≡ cutResult bytes c
-  pub inside : CutInside bytes c
+pub record ShowsPart (bytes : Bytes) (w : Result) (c : PartResult) : Type 0 where
+  pub is : w ≡ resultOfPart bytes c
+  pub inside : PartInside bytes c
 
 -- eval's result from a value that could be read
 unfoldable pub readResult : Evaluated → List Bytes → Result

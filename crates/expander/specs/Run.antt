@@ -14,13 +14,13 @@ use Rattle.rules.specs.Contract.{reportOf, errorsOf, outputOf, fronted}
 use Rattle.expander.specs.declared.machine.Machine.{Machine}
 use Rattle.expander.specs.declared.run.Halted.{Halted}
 use Rattle.expander.specs.declared.events.Special.{Special}
-use Rattle.expander.specs.declared.stretch.Stop.{Stop}
-use Rattle.expander.specs.declared.stretch.Stop.the-variants as stop
-use Rattle.expander.specs.declared.stretch.Stretch.{Stretch}
+use Rattle.expander.specs.declared.plain_steps.Stop.{Stop}
+use Rattle.expander.specs.declared.plain_steps.Stop.the-variants as stop
+use Rattle.expander.specs.declared.plain_steps.PlainSteps.{PlainSteps}
 use Rattle.expander.specs.Limits.{mostLent, callEndsLength, stackLength, tableEndsLength}
 use Rattle.expander.specs.Events.{SpecialWithin, SpecialIs}
 use Rattle.expander.specs.Front.{Front}
-use Rattle.expander.specs.Machine.{Memory, Limits, Means}
+use Rattle.expander.specs.Machine.{Memory, Limits, Represents}
 
 -- there are limits: what the run asks
 pub record Roomy (b : Memory) : Type 0 where
@@ -30,14 +30,14 @@ pub record Roomy (b : Memory) : Type 0 where
 -- what the loop has in hand after `count` steps, of which `left` more may follow: the whole run is the run from here
 pub record Running (a : Setting) (b : Memory) (m : Machine) (left count : ℕ) (whole : Ended) : Type 0 where
   pub state : State
-  pub means : Means a b m state
+  pub represents : Represents a b m state
   pub so-far : whole ≡ runFrom (lengths a) left count state
 
 -- how a run ended, in memory: the answer, the completed steps, and the standing state
 pub record Leaves (a : Setting) (e : Ended) (b : Memory) (r : Halted) : Type 0 where
   pub answer-is : r .answer ≡ e .answer
   pub steps-are : r .steps ≡ e .steps
-  pub means : Means a b (r .machine) (e .state)
+  pub represents : Represents a b (r .machine) (e .state)
 
 abbrev pub halted : Answer → ℕ → Machine → Halted
 halted answer steps m = record { answer = answer; steps = steps; machine = m }
@@ -62,19 +62,19 @@ pub record Ran (e : Ended) (errors output : Bytes) (r : Report) : Type 0 where
   pub output-are : Front output (r .output) (outputOf e)
 
 -- the next step is not plain, and this is what it comes to
-pub record SpecialNext (a : Setting) (b : Memory) (whole : Ended) (count : ℕ) (r : Stretch) (e : Special) : Type 0 where
+pub record SpecialNext (a : Setting) (b : Memory) (whole : Ended) (count : ℕ) (r : PlainSteps) (e : Special) : Type 0 where
   pub running : Running a b (r .machine) (r .left) count whole
   pub more : 0 < r .left
   pub within : SpecialWithin (b .text) (b .pending) (r .machine) e
   pub is : SpecialIs (running .state) e
 
 -- the run ends here, with its budget spent or a step refused; or a special step is next
-unfoldable pub Reached : Setting → Memory → Ended → ℕ → Stretch → Stop → Type 0
+unfoldable pub Reached : Setting → Memory → Ended → ℕ → PlainSteps → Stop → Type 0
 Reached a b whole count r (stop.Stopped x) = Leaves a whole b (halted x count (r .machine))
 Reached a b whole count r (stop.Special e) = SpecialNext a b whole count r e
 
--- a stretch of plain steps of a run that had `budget` steps left after `count`
-pub record Stretched (a : Setting) (b : Memory) (whole : Ended) (budget count : ℕ) (r : Stretch) : Type 0 where
+-- where plain steps that follow one another lead, in a run that had `budget` steps left after `count`
+pub record AfterPlainSteps (a : Setting) (b : Memory) (whole : Ended) (budget count : ℕ) (r : PlainSteps) : Type 0 where
   pub few : r .left ≤ budget
   pub reached : Reached a b whole (count + (budget - r .left)) r (r .stop)
 

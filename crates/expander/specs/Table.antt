@@ -1,12 +1,12 @@
 -- The definitions in force, as packed strings, and what looking one up answers.
-use Prim.Native.Nat.{ℕ, zero, suc, _+_, _-_, _*_, _^_, _≤_, _<_}
+use Prim.Native.Nat.{ℕ, _+_, _-_, _*_, _^_, _≤_, _<_}
 use mathlib.Core.Bool.{Bool, true, false}
 use mathlib.Core.Path.{_≡_}
 use mathlib.Core.List.{List, [], _∷_, _++_}
 use mathlib.Core.Option.{Option, none, some}
 use lib.ListN.{length, take, drop, getD}
 use Rattle.rules.specs.Bytes.{Bytes, sameBytes}
-use Rattle.rules.specs.Table.{Meaning, text, predefined, needsParenthesis, Definition, Table, numberFrom, predefinedNumber}
+use Rattle.rules.specs.Table.{Meaning, text, predefined, needsParenthesis, Definition, Table}
 use Rattle.expander.specs.Limits.{mostLent, macroCount, tableEndsLength}
 use Rattle.expander.specs.Packed.{Packs}
 use Rattle.expander.specs.declared.packed.Packed.{Packed}
@@ -14,21 +14,6 @@ use Rattle.expander.specs.declared.table.Found.{Found}
 use Rattle.expander.specs.declared.table.Found.the-variants as found
 use Rattle.expander.specs.declared.table.Meaning.{Meaning as Looked}
 use Rattle.expander.specs.declared.table.Meaning.the-variants as looked
-
--- the number of a predefined name as a byte: 0 where it has none
-unfoldable pub numbered : ℕ → Option ℕ
-numbered zero = none
-numbered (suc k) = some (suc k)
-
--- r is the number of a name among names that are numbered from k
-pub record NumberAmong (k : ℕ) (w : Bytes) (names : List Bytes) (r : ℕ) : Type 0 where
-  pub is : numberFrom k w names ≡ numbered r
-  pub most : r ≤ macroCount
-
--- r is the number of a name among the predefined ones
-pub record HasNumber (w : Bytes) (r : ℕ) : Type 0 where
-  pub is : predefinedNumber w ≡ numbered r
-  pub most : r ≤ macroCount
 
 -- the text of a meaning; a predefined one has none
 unfoldable pub meaningText : Meaning → Bytes
@@ -53,7 +38,7 @@ pub record DefinitionsIn (bytes : Bytes) (ends : List ℕ) (p : Packed) (ds : Li
   pub ends-are : length ends ≡ tableEndsLength
 
 -- they hold some: what functions ask
-pub record SoundDefinitions (bytes : Bytes) (ends : List ℕ) (p : Packed) : Type 0 where
+pub record ValidDefinitions (bytes : Bytes) (ends : List ℕ) (p : Packed) : Type 0 where
   pub definitions : List Definition
   pub holds : DefinitionsIn bytes ends p definitions
 

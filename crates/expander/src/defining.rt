@@ -2,7 +2,7 @@
 use crate::arguments;
 use crate::arguments::Arguments;
 use crate::machine::Machine;
-use crate::machine::Turn;
+use crate::machine::Stepped;
 use crate::table;
 use rules::Answer;
 ghost use mathlib.Core.List.{List};
@@ -10,7 +10,7 @@ ghost use Rattle.rules.specs.Bytes.{Bytes};
 ghost use Rattle.rules.specs.State.{State};
 ghost use Rattle.rules.specs.Run.{Setting};
 ghost use Rattle.expander.specs.Arguments.{ArgumentsIn, SomeArguments};
-ghost use Rattle.expander.specs.Machine.{Memory, Means, Gives, Sound, stringsAt, definitionsAt};
+ghost use Rattle.expander.specs.Machine.{Memory, Represents, Refines, Valid, stringsAt, definitionsAt};
 ghost use Rattle.rules.specs.Macros.{callDefine, callPopdef, callPushdef, callUndefine};
 
 // define: the newest definition of the name is replaced.
@@ -21,10 +21,10 @@ pub(crate) fn define(
     table_ends: &mut [u32],
     m: Machine,
     x: Arguments,
-) -> Turn
-    requires { ⌜ Sound (λ b. stringsAt (now calls) (now ends) (definitionsAt (now definitions) (now «table_ends») b)) m ⌝ }
+) -> Stepped
+    requires { ⌜ Valid (λ b. stringsAt (now calls) (now ends) (definitionsAt (now definitions) (now «table_ends») b)) m ⌝ }
     requires { ⌜ SomeArguments (now calls) (now ends) x ⌝ }
-    ensures { λ t. ⌜ ((a : Setting) (s : State) (b : Memory) (args : List Bytes) → Means a (stringsAt (now (calls .entry)) (now (ends .entry)) (definitionsAt (now (definitions .entry)) (now («table_ends» .entry)) b)) m s → ArgumentsIn (now (calls .entry)) (now (ends .entry)) x args → Gives a (stringsAt (now (calls .entry)) (now (ends .entry)) (definitionsAt (now (definitions .entry)) (now («table_ends» .entry)) b)) (callDefine args s) (stringsAt (now (calls .entry)) (now (ends .entry)) (definitionsAt (now (definitions .exit)) (now («table_ends» .exit)) b)) t) ⌝ }
+    ensures { λ t. ⌜ ((a : Setting) (s : State) (b : Memory) (args : List Bytes) → Represents a (stringsAt (now (calls .entry)) (now (ends .entry)) (definitionsAt (now (definitions .entry)) (now («table_ends» .entry)) b)) m s → ArgumentsIn (now (calls .entry)) (now (ends .entry)) x args → Refines a (stringsAt (now (calls .entry)) (now (ends .entry)) (definitionsAt (now (definitions .entry)) (now («table_ends» .entry)) b)) (callDefine args s) (stringsAt (now (calls .entry)) (now (ends .entry)) (definitionsAt (now (definitions .exit)) (now («table_ends» .exit)) b)) t) ⌝ }
 {
     let name = arguments::argument(calls, ends, x, 1);
     let body = arguments::argument(calls, ends, x, 2);
@@ -50,10 +50,10 @@ pub(crate) fn pushdef(
     table_ends: &mut [u32],
     m: Machine,
     x: Arguments,
-) -> Turn
-    requires { ⌜ Sound (λ b. stringsAt (now calls) (now ends) (definitionsAt (now definitions) (now «table_ends») b)) m ⌝ }
+) -> Stepped
+    requires { ⌜ Valid (λ b. stringsAt (now calls) (now ends) (definitionsAt (now definitions) (now «table_ends») b)) m ⌝ }
     requires { ⌜ SomeArguments (now calls) (now ends) x ⌝ }
-    ensures { λ t. ⌜ ((a : Setting) (s : State) (b : Memory) (args : List Bytes) → Means a (stringsAt (now (calls .entry)) (now (ends .entry)) (definitionsAt (now (definitions .entry)) (now («table_ends» .entry)) b)) m s → ArgumentsIn (now (calls .entry)) (now (ends .entry)) x args → Gives a (stringsAt (now (calls .entry)) (now (ends .entry)) (definitionsAt (now (definitions .entry)) (now («table_ends» .entry)) b)) (callPushdef args s) (stringsAt (now (calls .entry)) (now (ends .entry)) (definitionsAt (now (definitions .exit)) (now («table_ends» .exit)) b)) t) ⌝ }
+    ensures { λ t. ⌜ ((a : Setting) (s : State) (b : Memory) (args : List Bytes) → Represents a (stringsAt (now (calls .entry)) (now (ends .entry)) (definitionsAt (now (definitions .entry)) (now («table_ends» .entry)) b)) m s → ArgumentsIn (now (calls .entry)) (now (ends .entry)) x args → Refines a (stringsAt (now (calls .entry)) (now (ends .entry)) (definitionsAt (now (definitions .entry)) (now («table_ends» .entry)) b)) (callPushdef args s) (stringsAt (now (calls .entry)) (now (ends .entry)) (definitionsAt (now (definitions .exit)) (now («table_ends» .exit)) b)) t) ⌝ }
 {
     let name = arguments::argument(calls, ends, x, 1);
     let body = arguments::argument(calls, ends, x, 2);
@@ -77,10 +77,10 @@ pub(crate) fn popdef(
     table_ends: &mut [u32],
     m: Machine,
     x: Arguments,
-) -> Turn
-    requires { ⌜ Sound (λ b. stringsAt (now calls) (now ends) (definitionsAt (now definitions) (now «table_ends») b)) m ⌝ }
+) -> Stepped
+    requires { ⌜ Valid (λ b. stringsAt (now calls) (now ends) (definitionsAt (now definitions) (now «table_ends») b)) m ⌝ }
     requires { ⌜ SomeArguments (now calls) (now ends) x ⌝ }
-    ensures { λ t. ⌜ ((a : Setting) (s : State) (b : Memory) (args : List Bytes) → Means a (stringsAt (now (calls .entry)) (now (ends .entry)) (definitionsAt (now (definitions .entry)) (now («table_ends» .entry)) b)) m s → ArgumentsIn (now (calls .entry)) (now (ends .entry)) x args → Gives a (stringsAt (now (calls .entry)) (now (ends .entry)) (definitionsAt (now (definitions .entry)) (now («table_ends» .entry)) b)) (callPopdef args s) (stringsAt (now (calls .entry)) (now (ends .entry)) (definitionsAt (now (definitions .exit)) (now («table_ends» .exit)) b)) t) ⌝ }
+    ensures { λ t. ⌜ ((a : Setting) (s : State) (b : Memory) (args : List Bytes) → Represents a (stringsAt (now (calls .entry)) (now (ends .entry)) (definitionsAt (now (definitions .entry)) (now («table_ends» .entry)) b)) m s → ArgumentsIn (now (calls .entry)) (now (ends .entry)) x args → Refines a (stringsAt (now (calls .entry)) (now (ends .entry)) (definitionsAt (now (definitions .entry)) (now («table_ends» .entry)) b)) (callPopdef args s) (stringsAt (now (calls .entry)) (now (ends .entry)) (definitionsAt (now (definitions .exit)) (now («table_ends» .exit)) b)) t) ⌝ }
 {
     let have = arguments::count(x);
     let mut t = m.table;
@@ -101,10 +101,10 @@ pub(crate) fn undefine(
     table_ends: &mut [u32],
     m: Machine,
     x: Arguments,
-) -> Turn
-    requires { ⌜ Sound (λ b. stringsAt (now calls) (now ends) (definitionsAt (now definitions) (now «table_ends») b)) m ⌝ }
+) -> Stepped
+    requires { ⌜ Valid (λ b. stringsAt (now calls) (now ends) (definitionsAt (now definitions) (now «table_ends») b)) m ⌝ }
     requires { ⌜ SomeArguments (now calls) (now ends) x ⌝ }
-    ensures { λ t. ⌜ ((a : Setting) (s : State) (b : Memory) (args : List Bytes) → Means a (stringsAt (now (calls .entry)) (now (ends .entry)) (definitionsAt (now (definitions .entry)) (now («table_ends» .entry)) b)) m s → ArgumentsIn (now (calls .entry)) (now (ends .entry)) x args → Gives a (stringsAt (now (calls .entry)) (now (ends .entry)) (definitionsAt (now (definitions .entry)) (now («table_ends» .entry)) b)) (callUndefine args s) (stringsAt (now (calls .entry)) (now (ends .entry)) (definitionsAt (now (definitions .exit)) (now («table_ends» .exit)) b)) t) ⌝ }
+    ensures { λ t. ⌜ ((a : Setting) (s : State) (b : Memory) (args : List Bytes) → Represents a (stringsAt (now (calls .entry)) (now (ends .entry)) (definitionsAt (now (definitions .entry)) (now («table_ends» .entry)) b)) m s → ArgumentsIn (now (calls .entry)) (now (ends .entry)) x args → Refines a (stringsAt (now (calls .entry)) (now (ends .entry)) (definitionsAt (now (definitions .entry)) (now («table_ends» .entry)) b)) (callUndefine args s) (stringsAt (now (calls .entry)) (now (ends .entry)) (definitionsAt (now (definitions .exit)) (now («table_ends» .exit)) b)) t) ⌝ }
 {
     let have = arguments::count(x);
     let mut t = m.table;

@@ -16,7 +16,7 @@ ghost use Rattle.rules.specs.Marks.{markTexts, quoted};
 ghost use Rattle.rules.specs.Table.{Table};
 ghost use Rattle.rules.specs.Results.{defnResult, yields};
 ghost use Rattle.expander.specs.Arguments.{ArgumentsIn, SomeArguments, ShortQuotes};
-ghost use Rattle.expander.specs.Table.{TableIn, SoundDefinitions};
+ghost use Rattle.expander.specs.Table.{TableIn, ValidDefinitions};
 ghost use Rattle.expander.specs.Substitution.{Lays};
 ghost use Rattle.expander.specs.Defn.{measuredAs, namedResult};
 ghost use Rattle.expander.specs.Limits.{macroCount, mostLent};
@@ -44,7 +44,7 @@ fn named_length(
     table_ends: &[u32],
     t: Definitions,
 ) -> DefnLength
-    requires { ⌜ ShortQuotes marks × SoundDefinitions (now definitions) (now «table_ends») (t .packed) × (t .own < 2 ^ macroCount) ⌝ }
+    requires { ⌜ ShortQuotes marks × ValidDefinitions (now definitions) (now «table_ends») (t .packed) × (t .own < 2 ^ macroCount) ⌝ }
     ensures { λ r. ⌜ ((u : Table) → TableIn (now (definitions .entry)) (now («table_ends» .entry)) (t .packed) (t .own) u → r ≡ measuredAs (namedResult (markTexts marks) u (now (name .entry)))) ⌝ }
     ensures { λ r. ⌜ ((n : ℕ) → r ≡ defnLength.Bytes n → n ≤ mostLent + 10) ⌝ }
 {
@@ -73,7 +73,7 @@ pub(crate) fn defn_length(
     table_ends: &[u32],
     t: Definitions,
 ) -> DefnLength
-    requires { ⌜ SomeArguments (now bytes) (now ends) x × ShortQuotes marks × SoundDefinitions (now definitions) (now «table_ends») (t .packed) × (t .own < 2 ^ macroCount) ⌝ }
+    requires { ⌜ SomeArguments (now bytes) (now ends) x × ShortQuotes marks × ValidDefinitions (now definitions) (now «table_ends») (t .packed) × (t .own < 2 ^ macroCount) ⌝ }
     ensures { λ r. ⌜ ((args : List Bytes) (u : Table) → ArgumentsIn (now (bytes .entry)) (now (ends .entry)) x args → TableIn (now (definitions .entry)) (now («table_ends» .entry)) (t .packed) (t .own) u → r ≡ measuredAs (defnResult (markTexts marks) u args)) ⌝ }
 {
     let have = arguments::count(x);
@@ -100,7 +100,7 @@ fn fill_named(
     dst: &mut [u8],
     at: usize,
 ) -> usize
-    requires { ⌜ ShortQuotes marks × SoundDefinitions (now definitions) (now «table_ends») (t .packed) × (t .own < 2 ^ macroCount) ⌝ }
+    requires { ⌜ ShortQuotes marks × ValidDefinitions (now definitions) (now «table_ends») (t .packed) × (t .own < 2 ^ macroCount) ⌝ }
     requires { ⌜ ((u : Table) (w : Bytes) → TableIn (now definitions) (now «table_ends») (t .packed) (t .own) u → namedResult (markTexts marks) u (now name) ≡ yields w → at + length w ≤ length (now dst)) ⌝ }
     ensures { λ r. ⌜ ((u : Table) (w : Bytes) → TableIn (now (definitions .entry)) (now («table_ends» .entry)) (t .packed) (t .own) u → namedResult (markTexts marks) u (now (name .entry)) ≡ yields w → Lays (now (dst .entry)) at w (now (dst .exit)) r) ⌝ }
 {
@@ -133,7 +133,7 @@ pub(crate) fn fill_defn(
     t: Definitions,
     dst: &mut [u8],
 )
-    requires { ⌜ SomeArguments (now bytes) (now ends) x × ShortQuotes marks × SoundDefinitions (now definitions) (now «table_ends») (t .packed) × (t .own < 2 ^ macroCount) ⌝ }
+    requires { ⌜ SomeArguments (now bytes) (now ends) x × ShortQuotes marks × ValidDefinitions (now definitions) (now «table_ends») (t .packed) × (t .own < 2 ^ macroCount) ⌝ }
     requires { ⌜ ((args : List Bytes) (u : Table) → ArgumentsIn (now bytes) (now ends) x args → TableIn (now definitions) (now «table_ends») (t .packed) (t .own) u → measuredAs (defnResult (markTexts marks) u args) ≡ defnLength.Bytes (length (now dst))) ⌝ }
     ensures { λ _. ⌜ ((args : List Bytes) (u : Table) → ArgumentsIn (now (bytes .entry)) (now (ends .entry)) x args → TableIn (now (definitions .entry)) (now («table_ends» .entry)) (t .packed) (t .own) u → defnResult (markTexts marks) u args ≡ yields (now (dst .exit))) ⌝ }
 {

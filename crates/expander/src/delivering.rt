@@ -2,7 +2,7 @@
 use crate::limits::MOST_ARGUMENTS;
 use crate::limits::MOST_CALLS;
 use crate::machine::Machine;
-use crate::machine::Turn;
+use crate::machine::Stepped;
 use crate::sinks;
 use rules::Answer;
 ghost use mathlib.Core.Path.{_≡_};
@@ -12,7 +12,7 @@ ghost use lib.ListN.{length, take, drop};
 ghost use Rattle.rules.specs.State.{State, Call, next, taking, emitting, withCalls};
 ghost use Rattle.rules.specs.Run.{Setting};
 ghost use Rattle.rules.specs.Source.{ahead};
-ghost use Rattle.expander.specs.Machine.{Memory, Means, Gives, Sound, Reach, textAt, pendingAt, callsAt, sinksAt};
+ghost use Rattle.expander.specs.Machine.{Memory, Represents, Refines, Valid, Reach, textAt, pendingAt, callsAt, sinksAt};
 ghost use Rattle.rules.specs.Step.{delivered, opened, collecting, commaMet};
 
 // n bytes ahead from `start` on go to the current stream; `width` bytes are taken.
@@ -26,10 +26,10 @@ fn emit_token(
     start: usize,
     n: usize,
     width: usize,
-) -> Turn
-    requires { ⌜ Sound (λ b. textAt (now text) (pendingAt (now pending) (sinksAt (now streams) (now owners) (now output) b))) m ⌝ }
+) -> Stepped
+    requires { ⌜ Valid (λ b. textAt (now text) (pendingAt (now pending) (sinksAt (now streams) (now owners) (now output) b))) m ⌝ }
     requires { ⌜ Reach (now text) (now pending) (m .source) start n width ⌝ }
-    ensures { λ t. ⌜ ((a : Setting) (s : State) (b : Memory) → Means a (textAt (now (text .entry)) (pendingAt (now (pending .entry)) (sinksAt (now (streams .entry)) (now (owners .entry)) (now (output .entry)) b))) m s → Gives a (textAt (now (text .entry)) (pendingAt (now (pending .entry)) (sinksAt (now (streams .entry)) (now (owners .entry)) (now (output .entry)) b))) (next (emitting (take n (drop start (ahead (s .source)))) (taking width s))) (textAt (now (text .entry)) (pendingAt (now (pending .entry)) (sinksAt (now (streams .exit)) (now (owners .exit)) (now (output .exit)) b))) t) ⌝ }
+    ensures { λ t. ⌜ ((a : Setting) (s : State) (b : Memory) → Represents a (textAt (now (text .entry)) (pendingAt (now (pending .entry)) (sinksAt (now (streams .entry)) (now (owners .entry)) (now (output .entry)) b))) m s → Refines a (textAt (now (text .entry)) (pendingAt (now (pending .entry)) (sinksAt (now (streams .entry)) (now (owners .entry)) (now (output .entry)) b))) (next (emitting (take n (drop start (ahead (s .source)))) (taking width s))) (textAt (now (text .entry)) (pendingAt (now (pending .entry)) (sinksAt (now (streams .exit)) (now (owners .exit)) (now (output .exit)) b))) t) ⌝ }
 {
     let p = m.source;
     let from = p.from;
@@ -62,10 +62,10 @@ fn collect_token(
     start: usize,
     n: usize,
     width: usize,
-) -> Turn
-    requires { ⌜ Sound (λ b. textAt (now text) (pendingAt (now pending) (callsAt (now calls) (now ends) (now stack) b))) m ⌝ }
+) -> Stepped
+    requires { ⌜ Valid (λ b. textAt (now text) (pendingAt (now pending) (callsAt (now calls) (now ends) (now stack) b))) m ⌝ }
     requires { ⌜ Reach (now text) (now pending) (m .source) start n width × (0 < m .calls .opens) ⌝ }
-    ensures { λ t. ⌜ ((a : Setting) (s : State) (b : Memory) (c : Call) (cs : List Call) → Means a (textAt (now (text .entry)) (pendingAt (now (pending .entry)) (callsAt (now (calls .entry)) (now (ends .entry)) (now (stack .entry)) b))) m s → s .calls ≡ c ∷ cs → Gives a (textAt (now (text .entry)) (pendingAt (now (pending .entry)) (callsAt (now (calls .entry)) (now (ends .entry)) (now (stack .entry)) b))) (next (withCalls (collecting (take n (drop start (ahead (s .source)))) (c .depth) c ∷ cs) (taking width s))) (textAt (now (text .entry)) (pendingAt (now (pending .entry)) (callsAt (now (calls .exit)) (now (ends .exit)) (now (stack .exit)) b))) t) ⌝ }
+    ensures { λ t. ⌜ ((a : Setting) (s : State) (b : Memory) (c : Call) (cs : List Call) → Represents a (textAt (now (text .entry)) (pendingAt (now (pending .entry)) (callsAt (now (calls .entry)) (now (ends .entry)) (now (stack .entry)) b))) m s → s .calls ≡ c ∷ cs → Refines a (textAt (now (text .entry)) (pendingAt (now (pending .entry)) (callsAt (now (calls .entry)) (now (ends .entry)) (now (stack .entry)) b))) (next (withCalls (collecting (take n (drop start (ahead (s .source)))) (c .depth) c ∷ cs) (taking width s))) (textAt (now (text .entry)) (pendingAt (now (pending .entry)) (callsAt (now (calls .exit)) (now (ends .exit)) (now (stack .exit)) b))) t) ⌝ }
 {
     let p = m.source;
     let from = p.from;
@@ -100,10 +100,10 @@ pub(crate) fn deliver(
     start: usize,
     n: usize,
     width: usize,
-) -> Turn
-    requires { ⌜ Sound (λ b. textAt (now text) (pendingAt (now pending) (callsAt (now calls) (now ends) (now stack) (sinksAt (now streams) (now owners) (now output) b)))) m ⌝ }
+) -> Stepped
+    requires { ⌜ Valid (λ b. textAt (now text) (pendingAt (now pending) (callsAt (now calls) (now ends) (now stack) (sinksAt (now streams) (now owners) (now output) b)))) m ⌝ }
     requires { ⌜ Reach (now text) (now pending) (m .source) start n width ⌝ }
-    ensures { λ t. ⌜ ((a : Setting) (s : State) (b : Memory) → Means a (textAt (now (text .entry)) (pendingAt (now (pending .entry)) (callsAt (now (calls .entry)) (now (ends .entry)) (now (stack .entry)) (sinksAt (now (streams .entry)) (now (owners .entry)) (now (output .entry)) b)))) m s → Gives a (textAt (now (text .entry)) (pendingAt (now (pending .entry)) (callsAt (now (calls .entry)) (now (ends .entry)) (now (stack .entry)) (sinksAt (now (streams .entry)) (now (owners .entry)) (now (output .entry)) b)))) (next (delivered (take n (drop start (ahead (s .source)))) (s .calls) (taking width s))) (textAt (now (text .entry)) (pendingAt (now (pending .entry)) (callsAt (now (calls .exit)) (now (ends .exit)) (now (stack .exit)) (sinksAt (now (streams .exit)) (now (owners .exit)) (now (output .exit)) b)))) t) ⌝ }
+    ensures { λ t. ⌜ ((a : Setting) (s : State) (b : Memory) → Represents a (textAt (now (text .entry)) (pendingAt (now (pending .entry)) (callsAt (now (calls .entry)) (now (ends .entry)) (now (stack .entry)) (sinksAt (now (streams .entry)) (now (owners .entry)) (now (output .entry)) b)))) m s → Refines a (textAt (now (text .entry)) (pendingAt (now (pending .entry)) (callsAt (now (calls .entry)) (now (ends .entry)) (now (stack .entry)) (sinksAt (now (streams .entry)) (now (owners .entry)) (now (output .entry)) b)))) (next (delivered (take n (drop start (ahead (s .source)))) (s .calls) (taking width s))) (textAt (now (text .entry)) (pendingAt (now (pending .entry)) (callsAt (now (calls .exit)) (now (ends .exit)) (now (stack .exit)) (sinksAt (now (streams .exit)) (now (owners .exit)) (now (output .exit)) b)))) t) ⌝ }
 {
     if m.calls.opens == 0 {
         return emit_token(text, pending, streams, owners, output, m, start, n, width);
@@ -118,9 +118,9 @@ pub(crate) fn emit_byte(
     output: &mut [u8],
     m: Machine,
     x: u8,
-) -> Turn
-    requires { ⌜ Sound (λ b. sinksAt (now streams) (now owners) (now output) b) m ⌝ }
-    ensures { λ t. ⌜ ((a : Setting) (s : State) (b : Memory) → Means a (sinksAt (now (streams .entry)) (now (owners .entry)) (now (output .entry)) b) m s → Gives a (sinksAt (now (streams .entry)) (now (owners .entry)) (now (output .entry)) b) (next (emitting (x ∷ []) s)) (sinksAt (now (streams .exit)) (now (owners .exit)) (now (output .exit)) b) t) ⌝ }
+) -> Stepped
+    requires { ⌜ Valid (λ b. sinksAt (now streams) (now owners) (now output) b) m ⌝ }
+    ensures { λ t. ⌜ ((a : Setting) (s : State) (b : Memory) → Represents a (sinksAt (now (streams .entry)) (now (owners .entry)) (now (output .entry)) b) m s → Refines a (sinksAt (now (streams .entry)) (now (owners .entry)) (now (output .entry)) b) (next (emitting (x ∷ []) s)) (sinksAt (now (streams .exit)) (now (owners .exit)) (now (output .exit)) b) t) ⌝ }
 {
     let full = sinks::full(m.sinks, 1, streams.len(), output.len());
     if full != 0 {
@@ -138,10 +138,10 @@ pub(crate) fn collect_byte(
     m: Machine,
     x: u8,
     depth: u32,
-) -> Turn
-    requires { ⌜ Sound (λ b. callsAt (now calls) (now ends) (now stack) b) m ⌝ }
+) -> Stepped
+    requires { ⌜ Valid (λ b. callsAt (now calls) (now ends) (now stack) b) m ⌝ }
     requires { ⌜ 0 < m .calls .opens ⌝ }
-    ensures { λ t. ⌜ ((a : Setting) (s : State) (b : Memory) (c : Call) (cs : List Call) → Means a (callsAt (now (calls .entry)) (now (ends .entry)) (now (stack .entry)) b) m s → s .calls ≡ c ∷ cs → depth ≤ length (c .current) + 1 → Gives a (callsAt (now (calls .entry)) (now (ends .entry)) (now (stack .entry)) b) (next (withCalls (collecting (x ∷ []) depth c ∷ cs) s)) (callsAt (now (calls .exit)) (now (ends .exit)) (now (stack .exit)) b) t) ⌝ }
+    ensures { λ t. ⌜ ((a : Setting) (s : State) (b : Memory) (c : Call) (cs : List Call) → Represents a (callsAt (now (calls .entry)) (now (ends .entry)) (now (stack .entry)) b) m s → s .calls ≡ c ∷ cs → depth ≤ length (c .current) + 1 → Refines a (callsAt (now (calls .entry)) (now (ends .entry)) (now (stack .entry)) b) (next (withCalls (collecting (x ∷ []) depth c ∷ cs) s)) (callsAt (now (calls .exit)) (now (ends .exit)) (now (stack .exit)) b) t) ⌝ }
 {
     if calls.len() <= m.calls.strings.used {
         return m.refused(Answer::Room(2));
@@ -159,10 +159,10 @@ pub(crate) fn open_call(
     stack: &mut [u32],
     m: Machine,
     n: usize,
-) -> Turn
-    requires { ⌜ Sound (λ b. textAt (now text) (pendingAt (now pending) (callsAt (now calls) (now ends) (now stack) b))) m ⌝ }
+) -> Stepped
+    requires { ⌜ Valid (λ b. textAt (now text) (pendingAt (now pending) (callsAt (now calls) (now ends) (now stack) b))) m ⌝ }
     requires { ⌜ Reach (now text) (now pending) (m .source) 0 n (suc n) ⌝ }
-    ensures { λ t. ⌜ ((a : Setting) (s : State) (b : Memory) → Means a (textAt (now (text .entry)) (pendingAt (now (pending .entry)) (callsAt (now (calls .entry)) (now (ends .entry)) (now (stack .entry)) b))) m s → Gives a (textAt (now (text .entry)) (pendingAt (now (pending .entry)) (callsAt (now (calls .entry)) (now (ends .entry)) (now (stack .entry)) b))) (opened (take n (ahead (s .source))) (taking (suc n) s)) (textAt (now (text .entry)) (pendingAt (now (pending .entry)) (callsAt (now (calls .exit)) (now (ends .exit)) (now (stack .exit)) b))) t) ⌝ }
+    ensures { λ t. ⌜ ((a : Setting) (s : State) (b : Memory) → Represents a (textAt (now (text .entry)) (pendingAt (now (pending .entry)) (callsAt (now (calls .entry)) (now (ends .entry)) (now (stack .entry)) b))) m s → Refines a (textAt (now (text .entry)) (pendingAt (now (pending .entry)) (callsAt (now (calls .entry)) (now (ends .entry)) (now (stack .entry)) b))) (opened (take n (ahead (s .source))) (taking (suc n) s)) (textAt (now (text .entry)) (pendingAt (now (pending .entry)) (callsAt (now (calls .exit)) (now (ends .exit)) (now (stack .exit)) b))) t) ⌝ }
 {
     let p = m.source;
     let from = p.from;
@@ -184,10 +184,15 @@ pub(crate) fn open_call(
 }
 
 // A comma at depth zero: the next argument begins.
-pub(crate) fn next_argument(calls: &[u8], ends: &mut [u32], stack: &mut [u32], m: Machine) -> Turn
-    requires { ⌜ Sound (λ b. callsAt (now calls) (now ends) (now stack) b) m ⌝ }
+pub(crate) fn next_argument(
+    calls: &[u8],
+    ends: &mut [u32],
+    stack: &mut [u32],
+    m: Machine,
+) -> Stepped
+    requires { ⌜ Valid (λ b. callsAt (now calls) (now ends) (now stack) b) m ⌝ }
     requires { ⌜ 0 < m .calls .opens ⌝ }
-    ensures { λ t. ⌜ ((a : Setting) (s : State) (b : Memory) (c : Call) (cs : List Call) → Means a (callsAt (now (calls .entry)) (now (ends .entry)) (now (stack .entry)) b) m s → s .calls ≡ c ∷ cs → Gives a (callsAt (now (calls .entry)) (now (ends .entry)) (now (stack .entry)) b) (commaMet c cs s) (callsAt (now (calls .entry)) (now (ends .exit)) (now (stack .exit)) b) t) ⌝ }
+    ensures { λ t. ⌜ ((a : Setting) (s : State) (b : Memory) (c : Call) (cs : List Call) → Represents a (callsAt (now (calls .entry)) (now (ends .entry)) (now (stack .entry)) b) m s → s .calls ≡ c ∷ cs → Refines a (callsAt (now (calls .entry)) (now (ends .entry)) (now (stack .entry)) b) (commaMet c cs s) (callsAt (now (calls .entry)) (now (ends .exit)) (now (stack .exit)) b) t) ⌝ }
 {
     if MOST_ARGUMENTS <= m.calls.strings.count - m.calls.opens {
         return m.refused(Answer::Deep);

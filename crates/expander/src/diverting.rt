@@ -1,8 +1,8 @@
-// The macros that change the streams, and what the end of the run does with them.
+// The macros that change the streams, m4exit among them, which drops what waits; and what the end of the run does with them.
 use crate::arguments;
 use crate::arguments::Arguments;
 use crate::machine::Machine;
-use crate::machine::Turn;
+use crate::machine::Stepped;
 use crate::sinks::Sinks;
 use crate::streams;
 use numerals::Decimal;
@@ -19,8 +19,8 @@ ghost use Rattle.rules.specs.State.{State, stop, withStreams};
 ghost use Rattle.rules.specs.Run.{Setting};
 ghost use Rattle.expander.specs.Limits.{mostLent, callEndsLength};
 ghost use Rattle.expander.specs.Arguments.{ArgumentsIn, SomeArguments};
-ghost use Rattle.expander.specs.Machine.{Memory, Means, Gives, Sound, stringsAt, sinksAt};
-ghost use Rattle.rules.specs.Macros.{callDivert, callUndivert};
+ghost use Rattle.expander.specs.Machine.{Memory, Represents, Refines, Valid, stringsAt, sinksAt};
+ghost use Rattle.rules.specs.Macros.{callDivert, callUndivert, callM4exit};
 ghost use Rattle.rules.specs.Answers.{done};
 ghost use Rattle.rules.specs.Streams.{Streams, moved, movedInTurn, finishedStreams};
 ghost use Rattle.expander.specs.Streams.{IsStream, ownedCount};
@@ -108,20 +108,27 @@ fn count_streams(calls: &[u8], ends: &[u32], counts: &mut [usize; 10], x: Argume
 
 // Whether the output has room for the streams that go there: those that the arguments name, or all nine, if it is the current one.
 // Nothing is counted where there is room for all that waits.
-fn fits(calls: &[u8], ends: &[u32], owners: &[u8], output: &[u8], k: Sinks, x: Arguments) -> bool
-    requires { ⌜ (k .waiting ≤ length (now owners)) × (k .waiting ≤ mostLent) × (k .output ≤ length (now output)) × ((j : ℕ) → j < k .waiting → getD (now owners) j 0 < 10) ⌝ }
+fn fits(
+    calls: &[u8],
+    ends: &[u32],
+    owners: &[u8],
+    output: &[u8],
+    sinks: Sinks,
+    x: Arguments,
+) -> bool
+    requires { ⌜ (sinks .waiting ≤ length (now owners)) × (sinks .waiting ≤ mostLent) × (sinks .output ≤ length (now output)) × ((j : ℕ) → j < sinks .waiting → getD (now owners) j 0 < 10) ⌝ }
     requires { ⌜ StreamArguments (now calls) (now ends) x ⌝ }
-    ensures { λ r. ⌜ ((streams : Bytes) (u : Streams) (args : List Bytes) → SinksIn streams (now (owners .entry)) (now (output .entry)) k u → ArgumentsIn (now (calls .entry)) (now (ends .entry)) x args → r ≡ leb (length (movedInTurn (turns args) u .output)) (length (now (output .entry)))) ⌝ }
+    ensures { λ r. ⌜ ((streams : Bytes) (u : Streams) (args : List Bytes) → SinksIn streams (now (owners .entry)) (now (output .entry)) sinks u → ArgumentsIn (now (calls .entry)) (now (ends .entry)) x args → r ≡ leb (length (movedInTurn (turns args) u .output)) (length (now (output .entry)))) ⌝ }
 {
-    let free = output.len() - k.output;
-    if k.waiting <= free {
+    let free = output.len() - sinks.output;
+    if sinks.waiting <= free {
         return true;
     }
-    if k.current != 0 {
+    if sinks.current != 0 {
         return true;
     }
     let mut counts = [0usize; 10];
-    streams::tally(owners, k.waiting, &mut counts);
+    streams::tally(owners, sinks.waiting, &mut counts);
     count_streams(calls, ends, &mut counts, x) <= free
 }
 
@@ -226,10 +233,10 @@ impl Sinks {
 }
 
 // divert: another current stream.
-pub(crate) fn divert(calls: &[u8], ends: &[u32], m: Machine, x: Arguments) -> Turn
-    requires { ⌜ Sound (λ b. stringsAt (now calls) (now ends) b) m ⌝ }
+pub(crate) fn divert(calls: &[u8], ends: &[u32], m: Machine, x: Arguments) -> Stepped
+    requires { ⌜ Valid (λ b. stringsAt (now calls) (now ends) b) m ⌝ }
     requires { ⌜ SomeArguments (now calls) (now ends) x ⌝ }
-    ensures { λ t. ⌜ ((a : Setting) (s : State) (b : Memory) (args : List Bytes) → Means a (stringsAt (now (calls .entry)) (now (ends .entry)) b) m s → ArgumentsIn (now (calls .entry)) (now (ends .entry)) x args → Gives a (stringsAt (now (calls .entry)) (now (ends .entry)) b) (callDivert args s) (stringsAt (now (calls .entry)) (now (ends .entry)) b) t) ⌝ }
+    ensures { λ t. ⌜ ((a : Setting) (s : State) (b : Memory) (args : List Bytes) → Represents a (stringsAt (now (calls .entry)) (now (ends .entry)) b) m s → ArgumentsIn (now (calls .entry)) (now (ends .entry)) x args → Refines a (stringsAt (now (calls .entry)) (now (ends .entry)) b) (callDivert args s) (stringsAt (now (calls .entry)) (now (ends .entry)) b) t) ⌝ }
 {
     let Decimal::Number(current) = arguments::decimal_or(calls, ends, x, 1, 0) else {
         return m.refused(Answer::Number);
@@ -247,10 +254,10 @@ pub(crate) fn undivert(
     scratch: &mut [u8],
     m: Machine,
     x: Arguments,
-) -> Turn
-    requires { ⌜ Sound (λ b. stringsAt (now calls) (now ends) (sinksAt (now streams) (now owners) (now output) b)) m ⌝ }
+) -> Stepped
+    requires { ⌜ Valid (λ b. stringsAt (now calls) (now ends) (sinksAt (now streams) (now owners) (now output) b)) m ⌝ }
     requires { ⌜ SomeArguments (now calls) (now ends) x × (length (now scratch) ≡ mostLent) ⌝ }
-    ensures { λ t. ⌜ ((a : Setting) (s : State) (b : Memory) (args : List Bytes) → Means a (stringsAt (now (calls .entry)) (now (ends .entry)) (sinksAt (now (streams .entry)) (now (owners .entry)) (now (output .entry)) b)) m s → ArgumentsIn (now (calls .entry)) (now (ends .entry)) x args → Gives a (stringsAt (now (calls .entry)) (now (ends .entry)) (sinksAt (now (streams .entry)) (now (owners .entry)) (now (output .entry)) b)) (callUndivert args s) (stringsAt (now (calls .entry)) (now (ends .entry)) (sinksAt (now (streams .exit)) (now (owners .exit)) (now (output .exit)) b)) t) ⌝ }
+    ensures { λ t. ⌜ ((a : Setting) (s : State) (b : Memory) (args : List Bytes) → Represents a (stringsAt (now (calls .entry)) (now (ends .entry)) (sinksAt (now (streams .entry)) (now (owners .entry)) (now (output .entry)) b)) m s → ArgumentsIn (now (calls .entry)) (now (ends .entry)) x args → Refines a (stringsAt (now (calls .entry)) (now (ends .entry)) (sinksAt (now (streams .entry)) (now (owners .entry)) (now (output .entry)) b)) (callUndivert args s) (stringsAt (now (calls .entry)) (now (ends .entry)) (sinksAt (now (streams .exit)) (now (owners .exit)) (now (output .exit)) b)) t) ⌝ }
 {
     if !names_streams(calls, ends, x) {
         return m.refused(Answer::Number);
@@ -264,9 +271,9 @@ pub(crate) fn undivert(
 }
 
 // The text is used up: streams 1 to 9 go to the output in order.
-pub(crate) fn finish(streams: &[u8], owners: &[u8], output: &mut [u8], m: Machine) -> Turn
-    requires { ⌜ Sound (λ b. sinksAt (now streams) (now owners) (now output) b) m ⌝ }
-    ensures { λ t. ⌜ ((a : Setting) (s : State) (b : Memory) → Means a (sinksAt (now (streams .entry)) (now (owners .entry)) (now (output .entry)) b) m s → Gives a (sinksAt (now (streams .entry)) (now (owners .entry)) (now (output .entry)) b) (stop done (withStreams (finishedStreams (s .streams)) s)) (sinksAt (now (streams .entry)) (now (owners .entry)) (now (output .exit)) b) t) ⌝ }
+pub(crate) fn finish(streams: &[u8], owners: &[u8], output: &mut [u8], m: Machine) -> Stepped
+    requires { ⌜ Valid (λ b. sinksAt (now streams) (now owners) (now output) b) m ⌝ }
+    ensures { λ t. ⌜ ((a : Setting) (s : State) (b : Memory) → Represents a (sinksAt (now (streams .entry)) (now (owners .entry)) (now (output .entry)) b) m s → Refines a (sinksAt (now (streams .entry)) (now (owners .entry)) (now (output .entry)) b) (stop done (withStreams (finishedStreams (s .streams)) s)) (sinksAt (now (streams .entry)) (now (owners .entry)) (now (output .exit)) b) t) ⌝ }
 {
     let n = m.sinks.waiting;
     let at = m.sinks.output;
@@ -276,4 +283,17 @@ pub(crate) fn finish(streams: &[u8], owners: &[u8], output: &mut [u8], m: Machin
     let end = at + n;
     streams::finish(streams, owners, n, &mut output[at..end]);
     m.with_sinks(m.sinks.emptied(end)).ended(Answer::Done)
+}
+
+// m4exit: the run ends, and what waits in the streams and as wrap text is dropped.
+pub(crate) fn m4exit(calls: &[u8], ends: &[u32], m: Machine, x: Arguments) -> Stepped
+    requires { ⌜ Valid (λ b. stringsAt (now calls) (now ends) b) m ⌝ }
+    requires { ⌜ SomeArguments (now calls) (now ends) x ⌝ }
+    ensures { λ t. ⌜ ((a : Setting) (s : State) (b : Memory) (args : List Bytes) → Represents a (stringsAt (now (calls .entry)) (now (ends .entry)) b) m s → ArgumentsIn (now (calls .entry)) (now (ends .entry)) x args → Refines a (stringsAt (now (calls .entry)) (now (ends .entry)) b) (callM4exit args s) (stringsAt (now (calls .entry)) (now (ends .entry)) b) t) ⌝ }
+{
+    let Natural::Number(code) = arguments::natural_or(calls, ends, x, 1, 0, 0, 255) else {
+        return m.refused(Answer::Number);
+    };
+    let k = m.sinks.emptied(m.sinks.output);
+    m.with_sinks(k).with_wrap(0).ended(Answer::Exit(code))
 }

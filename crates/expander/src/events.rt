@@ -1,9 +1,8 @@
 // What the token ahead calls for: a plain event moves text or opens a call; a special one ends the text, makes a call, or can't be read.
-use crate::ahead;
 use crate::calls;
-use crate::closing;
 use crate::machine::Machine;
-use crate::macros;
+use crate::names;
+use crate::source;
 use crate::source::Position;
 use crate::table::Meaning;
 use crate::tokens;
@@ -20,7 +19,7 @@ ghost use Rattle.rules.specs.Run.{Setting};
 ghost use Rattle.rules.specs.Source.{Source, ahead};
 ghost use Rattle.rules.specs.Step.{act, step};
 ghost use Rattle.expander.specs.Events.{EventWithin, EventIs};
-ghost use Rattle.expander.specs.Machine.{Memory, Means, Sound, Reach, aheadOf, textAt, pendingAt, stackAt, definitionsAt};
+ghost use Rattle.expander.specs.Machine.{Memory, Represents, Valid, Reach, aheadOf, textAt, pendingAt, stackAt, definitionsAt};
 ghost use Rattle.expander.specs.Source.{SourceIn};
 ghost use Rattle.expander.specs.Step.{HasRole, TokenWithin};
 ghost use Rattle.expander.specs.Limits.{mostLent};
@@ -78,7 +77,7 @@ fn opens(text: &[u8], pending: &[u8], p: Position, n: usize) -> bool
 {
     let from = p.from;
     let taken = p.taken;
-    ahead::byte_ahead(&pending[from..], &text[taken..], n) == 40
+    source::byte_ahead(&pending[from..], &text[taken..], n) == b'('
 }
 
 // What a byte does in a call: nothing, it is collected at a depth of parentheses, it closes the call, or it ends the argument.
@@ -95,14 +94,14 @@ fn role_of(x: u8, depth: u32, collected: u32) -> Role
     ensures { λ r. ⌜ HasRole x depth collected r ⌝ }
 {
     match x {
-        40 => Role::Collected(depth + 1),
-        41 => {
+        b'(' => Role::Collected(depth + 1),
+        b')' => {
             if depth == 0 {
                 return Role::Closes;
             }
             Role::Collected(depth - 1)
         }
-        44 => {
+        b',' => {
             if depth == 0 {
                 return Role::Separates;
             }
@@ -122,9 +121,9 @@ fn role_of(x: u8, depth: u32, collected: u32) -> Role
 
 // What the byte x ahead calls for.
 fn byte_event(stack: &[u32], m: Machine, x: u8) -> Event
-    requires { ⌜ Sound (λ b. stackAt (now stack) b) m ⌝ }
+    requires { ⌜ Valid (λ b. stackAt (now stack) b) m ⌝ }
     ensures within { λ r. ⌜ ((text pending : Bytes) → 1 ≤ aheadOf text pending (m .source) → EventWithin text pending m r) ⌝ }
-    ensures is { λ r. ⌜ ((a : Setting) (s : State) (b : Memory) → Means a (stackAt (now (stack .entry)) b) m s → step s ≡ act (token.Byte x) s → EventIs s r) ⌝ }
+    ensures is { λ r. ⌜ ((a : Setting) (s : State) (b : Memory) → Represents a (stackAt (now (stack .entry)) b) m s → step s ≡ act (token.Byte x) s → EventIs s r) ⌝ }
 {
     if m.calls.opens == 0 {
         return Event::Plain(Plain::Emit(x));
@@ -146,7 +145,7 @@ fn plain_unopened(meaning: Meaning) -> bool
 {
     match meaning {
         Meaning::Text(_) => false,
-        Meaning::Predefined(k) => macros::needs_parenthesis(k),
+        Meaning::Predefined(k) => builtins::needs_parenthesis(k),
         Meaning::Undefined => true,
     }
 }
@@ -161,13 +160,13 @@ fn name_event(
     m: Machine,
     n: usize,
 ) -> Event
-    requires { ⌜ Sound (λ b. textAt (now text) (pendingAt (now pending) (definitionsAt (now definitions) (now «table_ends») b))) m ⌝ }
+    requires { ⌜ Valid (λ b. textAt (now text) (pendingAt (now pending) (definitionsAt (now definitions) (now «table_ends») b))) m ⌝ }
     requires { ⌜ Reach (now text) (now pending) (m .source) 0 n n ⌝ }
     requires { ⌜ length (now scratch) ≡ mostLent ⌝ }
     ensures within { λ r. ⌜ EventWithin (now (text .entry)) (now (pending .entry)) m r ⌝ }
-    ensures is { λ r. ⌜ ((a : Setting) (s : State) (b : Memory) → Means a (textAt (now (text .entry)) (pendingAt (now (pending .entry)) (definitionsAt (now (definitions .entry)) (now («table_ends» .entry)) b))) m s → step s ≡ act (token.Name n) s → EventIs s r) ⌝ }
+    ensures is { λ r. ⌜ ((a : Setting) (s : State) (b : Memory) → Represents a (textAt (now (text .entry)) (pendingAt (now (pending .entry)) (definitionsAt (now (definitions .entry)) (now («table_ends» .entry)) b))) m s → step s ≡ act (token.Name n) s → EventIs s r) ⌝ }
 {
-    let meaning = closing::meaning_ahead(text, pending, definitions, table_ends, scratch, m, n);
+    let meaning = names::meaning_ahead(text, pending, definitions, table_ends, scratch, m, n);
     if let Meaning::Undefined = meaning {
         return whole(n);
     }
@@ -191,11 +190,11 @@ fn token_event(
     m: Machine,
     token: Token,
 ) -> Event
-    requires { ⌜ Sound (λ b. textAt (now text) (pendingAt (now pending) (stackAt (now stack) (definitionsAt (now definitions) (now «table_ends») b)))) m ⌝ }
+    requires { ⌜ Valid (λ b. textAt (now text) (pendingAt (now pending) (stackAt (now stack) (definitionsAt (now definitions) (now «table_ends») b)))) m ⌝ }
     requires { ⌜ TokenWithin (now text) (now pending) (m .source) token ⌝ }
     requires { ⌜ length (now scratch) ≡ mostLent ⌝ }
     ensures within { λ r. ⌜ EventWithin (now (text .entry)) (now (pending .entry)) m r ⌝ }
-    ensures is { λ r. ⌜ ((a : Setting) (s : State) (b : Memory) → Means a (textAt (now (text .entry)) (pendingAt (now (pending .entry)) (stackAt (now (stack .entry)) (definitionsAt (now (definitions .entry)) (now («table_ends» .entry)) b)))) m s → step s ≡ act token s → EventIs s r) ⌝ }
+    ensures is { λ r. ⌜ ((a : Setting) (s : State) (b : Memory) → Represents a (textAt (now (text .entry)) (pendingAt (now (pending .entry)) (stackAt (now (stack .entry)) (definitionsAt (now (definitions .entry)) (now («table_ends» .entry)) b)))) m s → step s ≡ act token s → EventIs s r) ⌝ }
 {
     match token {
         Token::End => Event::Special(Special::End),
@@ -226,10 +225,10 @@ pub(crate) fn event_ahead(
     scratch: &mut [u8],
     m: Machine,
 ) -> Event
-    requires { ⌜ Sound (λ b. textAt (now text) (pendingAt (now pending) (stackAt (now stack) (definitionsAt (now definitions) (now «table_ends») b)))) m ⌝ }
+    requires { ⌜ Valid (λ b. textAt (now text) (pendingAt (now pending) (stackAt (now stack) (definitionsAt (now definitions) (now «table_ends») b)))) m ⌝ }
     requires { ⌜ length (now scratch) ≡ mostLent ⌝ }
     ensures within { λ r. ⌜ EventWithin (now (text .entry)) (now (pending .entry)) m r ⌝ }
-    ensures is { λ r. ⌜ ((a : Setting) (s : State) (b : Memory) → Means a (textAt (now (text .entry)) (pendingAt (now (pending .entry)) (stackAt (now (stack .entry)) (definitionsAt (now (definitions .entry)) (now («table_ends» .entry)) b)))) m s → EventIs s r) ⌝ }
+    ensures is { λ r. ⌜ ((a : Setting) (s : State) (b : Memory) → Represents a (textAt (now (text .entry)) (pendingAt (now (pending .entry)) (stackAt (now (stack .entry)) (definitionsAt (now (definitions .entry)) (now («table_ends» .entry)) b)))) m s → EventIs s r) ⌝ }
 {
     let p = m.source;
     let from = p.from;

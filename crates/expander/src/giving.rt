@@ -2,13 +2,13 @@
 // pending text.
 use crate::arguments;
 use crate::arguments::Arguments;
-use crate::cuts::Cut;
+use crate::buffers;
 use crate::defn;
 use crate::defn::DefnLength;
-use crate::figures::Figure;
 use crate::lists;
+use crate::number_results::NumberResult;
 use crate::packed;
-use crate::pending;
+use crate::part_results::PartResult;
 use crate::source::Position;
 use crate::substitution;
 use crate::table::Definitions;
@@ -29,71 +29,76 @@ ghost use Rattle.rules.specs.Run.{Setting};
 ghost use Rattle.expander.specs.Limits.{mostLent};
 ghost use Rattle.expander.specs.Arguments.{ArgumentsIn, SomeArguments};
 ghost use Rattle.expander.specs.declared.machine.Machine.{Machine};
-ghost use Rattle.expander.specs.Machine.{Memory, Means, Gives, SoundAt, pendingAt, stringsAt, definitionsAt, sourceSet, marksSet, tableSet};
-ghost use Rattle.expander.specs.Giving.{givenTurn};
+ghost use Rattle.expander.specs.Machine.{Memory, Represents, Refines, ValidAt, pendingAt, stringsAt, definitionsAt, sourceSet, marksSet, tableSet};
+ghost use Rattle.expander.specs.Giving.{pushedStep};
 ghost use Rattle.rules.specs.Macros.{giving, callDefn, callShift, callTranslit};
 ghost use Rattle.rules.specs.Results.{Result, yields};
 ghost use Rattle.rules.specs.Arguments.{substituted};
 ghost use Rattle.expander.specs.Table.{rows};
-ghost use Rattle.expander.specs.Results.{Shows, Cuts, CutInside};
+ghost use Rattle.expander.specs.Results.{Shows, ShowsPart, PartInside};
 
 // What is given: the result was written before the text ahead, which begins at a place now; or why not.
-pub(crate) enum Given {
+pub(crate) enum Pushed {
     At(usize),
     Refused(Answer),
 }
 
 // A number in a radix.
-fn give_number(pending: &mut [u8], p: Position, bits: u32, radix: u32, least: u32) -> Given
-    requires { ⌜ SoundAt (λ b. pendingAt (now pending) b) (λ m. sourceSet p m) ⌝ }
-    ensures { λ r. ⌜ ((a : Setting) (s : State) (b : Memory) (m : Machine) → Means a (pendingAt (now (pending .entry)) b) (sourceSet p m) s → isRadix radix ≡ true → Gives a (pendingAt (now (pending .entry)) b) (next (resulting (writtenIn radix least (signedValue bits)) s)) (pendingAt (now (pending .exit)) b) (givenTurn (sourceSet p m) r)) ⌝ }
+fn give_number(pending: &mut [u8], p: Position, bits: u32, radix: u32, least: u32) -> Pushed
+    requires { ⌜ ValidAt (λ b. pendingAt (now pending) b) (λ m. sourceSet p m) ⌝ }
+    ensures { λ r. ⌜ ((a : Setting) (s : State) (b : Memory) (m : Machine) → Represents a (pendingAt (now (pending .entry)) b) (sourceSet p m) s → isRadix radix ≡ true → Refines a (pendingAt (now (pending .entry)) b) (next (resulting (writtenIn radix least (signedValue bits)) s)) (pendingAt (now (pending .exit)) b) (pushedStep (sourceSet p m) r)) ⌝ }
 {
     let Length::Bytes(n) = numerals::written_length(bits, radix, least) else {
-        return Given::Refused(Answer::Number);
+        return Pushed::Refused(Answer::Number);
     };
     let from = p.from;
     if from < n {
-        return Given::Refused(Answer::Room(1));
+        return Pushed::Refused(Answer::Room(1));
     }
     let at = from - n;
     numerals::write_number(&mut pending[at..from], bits, radix, least);
-    Given::At(at)
+    Pushed::At(at)
 }
 
 // A slice.
-fn give_slice(pending: &mut [u8], p: Position, s: &[u8]) -> Given
-    requires { ⌜ SoundAt (λ b. pendingAt (now pending) b) (λ m. sourceSet p m) ⌝ }
-    ensures { λ r. ⌜ ((a : Setting) (u : State) (b : Memory) (m : Machine) → Means a (pendingAt (now (pending .entry)) b) (sourceSet p m) u → Gives a (pendingAt (now (pending .entry)) b) (next (resulting (now (s .entry)) u)) (pendingAt (now (pending .exit)) b) (givenTurn (sourceSet p m) r)) ⌝ }
+fn give_slice(pending: &mut [u8], p: Position, s: &[u8]) -> Pushed
+    requires { ⌜ ValidAt (λ b. pendingAt (now pending) b) (λ m. sourceSet p m) ⌝ }
+    ensures { λ r. ⌜ ((a : Setting) (u : State) (b : Memory) (m : Machine) → Represents a (pendingAt (now (pending .entry)) b) (sourceSet p m) u → Refines a (pendingAt (now (pending .entry)) b) (next (resulting (now (s .entry)) u)) (pendingAt (now (pending .exit)) b) (pushedStep (sourceSet p m) r)) ⌝ }
 {
     let from = p.from;
     if from < s.len() {
-        return Given::Refused(Answer::Room(1));
+        return Pushed::Refused(Answer::Room(1));
     }
-    let at = pending::push(pending, from, s);
-    Given::At(at)
+    let at = buffers::push(pending, from, s);
+    Pushed::At(at)
 }
 
 // A number.
-pub(crate) fn give_figure(pending: &mut [u8], p: Position, f: Figure) -> Given
-    requires { ⌜ SoundAt (λ b. pendingAt (now pending) b) (λ m. sourceSet p m) ⌝ }
-    ensures { λ r. ⌜ ((a : Setting) (s : State) (b : Memory) (m : Machine) (w : Result) → Means a (pendingAt (now (pending .entry)) b) (sourceSet p m) s → Shows w f → Gives a (pendingAt (now (pending .entry)) b) (giving w s) (pendingAt (now (pending .exit)) b) (givenTurn (sourceSet p m) r)) ⌝ }
+pub(crate) fn give_number_result(pending: &mut [u8], p: Position, f: NumberResult) -> Pushed
+    requires { ⌜ ValidAt (λ b. pendingAt (now pending) b) (λ m. sourceSet p m) ⌝ }
+    ensures { λ r. ⌜ ((a : Setting) (s : State) (b : Memory) (m : Machine) (w : Result) → Represents a (pendingAt (now (pending .entry)) b) (sourceSet p m) s → Shows w f → Refines a (pendingAt (now (pending .entry)) b) (giving w s) (pendingAt (now (pending .exit)) b) (pushedStep (sourceSet p m) r)) ⌝ }
 {
     match f {
-        Figure::NoNumber => Given::Refused(Answer::Number),
-        Figure::NoExpression => Given::Refused(Answer::Expression),
-        Figure::Divisor => Given::Refused(Answer::Divisor),
-        Figure::Number { bits, radix, least } => give_number(pending, p, bits, radix, least),
+        NumberResult::NoNumber => Pushed::Refused(Answer::Number),
+        NumberResult::NoExpression => Pushed::Refused(Answer::Expression),
+        NumberResult::Divisor => Pushed::Refused(Answer::Divisor),
+        NumberResult::Number { bits, radix, least } => give_number(pending, p, bits, radix, least),
     }
 }
 
 // A part of buffer 2.
-pub(crate) fn give_cut(pending: &mut [u8], calls: &[u8], p: Position, c: Cut) -> Given
-    requires { ⌜ SoundAt (λ b. pendingAt (now pending) b) (λ m. sourceSet p m) ⌝ }
-    requires { ⌜ CutInside (now calls) c ⌝ }
-    ensures { λ r. ⌜ ((a : Setting) (s : State) (b : Memory) (m : Machine) (w : Result) → Means a (pendingAt (now (pending .entry)) b) (sourceSet p m) s → Cuts (now (calls .entry)) w c → Gives a (pendingAt (now (pending .entry)) b) (giving w s) (pendingAt (now (pending .exit)) b) (givenTurn (sourceSet p m) r)) ⌝ }
+pub(crate) fn give_part_result(
+    pending: &mut [u8],
+    calls: &[u8],
+    p: Position,
+    c: PartResult,
+) -> Pushed
+    requires { ⌜ ValidAt (λ b. pendingAt (now pending) b) (λ m. sourceSet p m) ⌝ }
+    requires { ⌜ PartInside (now calls) c ⌝ }
+    ensures { λ r. ⌜ ((a : Setting) (s : State) (b : Memory) (m : Machine) (w : Result) → Represents a (pendingAt (now (pending .entry)) b) (sourceSet p m) s → ShowsPart (now (calls .entry)) w c → Refines a (pendingAt (now (pending .entry)) b) (giving w s) (pendingAt (now (pending .exit)) b) (pushedStep (sourceSet p m) r)) ⌝ }
 {
-    let Cut::Part { start, end } = c else {
-        return Given::Refused(Answer::Number);
+    let PartResult::Part { start, end } = c else {
+        return Pushed::Refused(Answer::Number);
     };
     give_slice(pending, p, &calls[start..end])
 }
@@ -106,19 +111,19 @@ pub(crate) fn give_shift(
     p: Position,
     marks: Marks,
     x: Arguments,
-) -> Given
-    requires { ⌜ SoundAt (λ b. pendingAt (now pending) (stringsAt (now calls) (now ends) b)) (λ m. sourceSet p (marksSet marks m)) ⌝ }
+) -> Pushed
+    requires { ⌜ ValidAt (λ b. pendingAt (now pending) (stringsAt (now calls) (now ends) b)) (λ m. sourceSet p (marksSet marks m)) ⌝ }
     requires { ⌜ SomeArguments (now calls) (now ends) x ⌝ }
-    ensures { λ r. ⌜ ((a : Setting) (s : State) (b : Memory) (m : Machine) (args : List Bytes) → Means a (pendingAt (now (pending .entry)) (stringsAt (now (calls .entry)) (now (ends .entry)) b)) (sourceSet p (marksSet marks m)) s → ArgumentsIn (now (calls .entry)) (now (ends .entry)) x args → Gives a (pendingAt (now (pending .entry)) (stringsAt (now (calls .entry)) (now (ends .entry)) b)) (callShift args s) (pendingAt (now (pending .exit)) (stringsAt (now (calls .entry)) (now (ends .entry)) b)) (givenTurn (sourceSet p (marksSet marks m)) r)) ⌝ }
+    ensures { λ r. ⌜ ((a : Setting) (s : State) (b : Memory) (m : Machine) (args : List Bytes) → Represents a (pendingAt (now (pending .entry)) (stringsAt (now (calls .entry)) (now (ends .entry)) b)) (sourceSet p (marksSet marks m)) s → ArgumentsIn (now (calls .entry)) (now (ends .entry)) x args → Refines a (pendingAt (now (pending .entry)) (stringsAt (now (calls .entry)) (now (ends .entry)) b)) (callShift args s) (pendingAt (now (pending .exit)) (stringsAt (now (calls .entry)) (now (ends .entry)) b)) (pushedStep (sourceSet p (marksSet marks m)) r)) ⌝ }
 {
     let n = lists::list_length(ends, x, 1, marks);
     let from = p.from;
     if from < n {
-        return Given::Refused(Answer::Room(1));
+        return Pushed::Refused(Answer::Room(1));
     }
     let at = from - n;
     lists::fill_list(calls, ends, x, 1, marks, b',', pending, at);
-    Given::At(at)
+    Pushed::At(at)
 }
 
 // The first argument with its bytes replaced.
@@ -128,10 +133,10 @@ pub(crate) fn give_translit(
     ends: &[u32],
     p: Position,
     x: Arguments,
-) -> Given
-    requires { ⌜ SoundAt (λ b. pendingAt (now pending) (stringsAt (now calls) (now ends) b)) (λ m. sourceSet p m) ⌝ }
+) -> Pushed
+    requires { ⌜ ValidAt (λ b. pendingAt (now pending) (stringsAt (now calls) (now ends) b)) (λ m. sourceSet p m) ⌝ }
     requires { ⌜ SomeArguments (now calls) (now ends) x ⌝ }
-    ensures { λ r. ⌜ ((a : Setting) (s : State) (b : Memory) (m : Machine) (args : List Bytes) → Means a (pendingAt (now (pending .entry)) (stringsAt (now (calls .entry)) (now (ends .entry)) b)) (sourceSet p m) s → ArgumentsIn (now (calls .entry)) (now (ends .entry)) x args → Gives a (pendingAt (now (pending .entry)) (stringsAt (now (calls .entry)) (now (ends .entry)) b)) (callTranslit args s) (pendingAt (now (pending .exit)) (stringsAt (now (calls .entry)) (now (ends .entry)) b)) (givenTurn (sourceSet p m) r)) ⌝ }
+    ensures { λ r. ⌜ ((a : Setting) (s : State) (b : Memory) (m : Machine) (args : List Bytes) → Represents a (pendingAt (now (pending .entry)) (stringsAt (now (calls .entry)) (now (ends .entry)) b)) (sourceSet p m) s → ArgumentsIn (now (calls .entry)) (now (ends .entry)) x args → Refines a (pendingAt (now (pending .entry)) (stringsAt (now (calls .entry)) (now (ends .entry)) b)) (callTranslit args s) (pendingAt (now (pending .exit)) (stringsAt (now (calls .entry)) (now (ends .entry)) b)) (pushedStep (sourceSet p m) r)) ⌝ }
 {
     let s = arguments::argument(calls, ends, x, 1);
     let old = arguments::argument(calls, ends, x, 2);
@@ -140,11 +145,11 @@ pub(crate) fn give_translit(
     let n = matching::translit_length(&table, s);
     let from = p.from;
     if from < n {
-        return Given::Refused(Answer::Room(1));
+        return Pushed::Refused(Answer::Room(1));
     }
     let at = from - n;
     matching::translit(&table, s, &mut pending[at..from]);
-    Given::At(at)
+    Pushed::At(at)
 }
 
 // The texts that the arguments name, quoted.
@@ -158,10 +163,10 @@ pub(crate) fn give_defn(
     p: Position,
     marks: Marks,
     x: Arguments,
-) -> Given
-    requires { ⌜ SoundAt (λ b. pendingAt (now pending) (stringsAt (now calls) (now ends) (definitionsAt (now definitions) (now «table_ends») b))) (λ m. sourceSet p (marksSet marks (tableSet table m))) ⌝ }
+) -> Pushed
+    requires { ⌜ ValidAt (λ b. pendingAt (now pending) (stringsAt (now calls) (now ends) (definitionsAt (now definitions) (now «table_ends») b))) (λ m. sourceSet p (marksSet marks (tableSet table m))) ⌝ }
     requires { ⌜ SomeArguments (now calls) (now ends) x ⌝ }
-    ensures { λ r. ⌜ ((a : Setting) (s : State) (b : Memory) (m : Machine) (args : List Bytes) → Means a (pendingAt (now (pending .entry)) (stringsAt (now (calls .entry)) (now (ends .entry)) (definitionsAt (now (definitions .entry)) (now («table_ends» .entry)) b))) (sourceSet p (marksSet marks (tableSet table m))) s → ArgumentsIn (now (calls .entry)) (now (ends .entry)) x args → Gives a (pendingAt (now (pending .entry)) (stringsAt (now (calls .entry)) (now (ends .entry)) (definitionsAt (now (definitions .entry)) (now («table_ends» .entry)) b))) (callDefn args s) (pendingAt (now (pending .exit)) (stringsAt (now (calls .entry)) (now (ends .entry)) (definitionsAt (now (definitions .entry)) (now («table_ends» .entry)) b))) (givenTurn (sourceSet p (marksSet marks (tableSet table m))) r)) ⌝ }
+    ensures { λ r. ⌜ ((a : Setting) (s : State) (b : Memory) (m : Machine) (args : List Bytes) → Represents a (pendingAt (now (pending .entry)) (stringsAt (now (calls .entry)) (now (ends .entry)) (definitionsAt (now (definitions .entry)) (now («table_ends» .entry)) b))) (sourceSet p (marksSet marks (tableSet table m))) s → ArgumentsIn (now (calls .entry)) (now (ends .entry)) x args → Refines a (pendingAt (now (pending .entry)) (stringsAt (now (calls .entry)) (now (ends .entry)) (definitionsAt (now (definitions .entry)) (now («table_ends» .entry)) b))) (callDefn args s) (pendingAt (now (pending .exit)) (stringsAt (now (calls .entry)) (now (ends .entry)) (definitionsAt (now (definitions .entry)) (now («table_ends» .entry)) b))) (pushedStep (sourceSet p (marksSet marks (tableSet table m))) r)) ⌝ }
 {
     let DefnLength::Bytes(n) = defn::defn_length(
         calls,
@@ -172,11 +177,11 @@ pub(crate) fn give_defn(
         table_ends,
         table,
     ) else {
-        return Given::Refused(Answer::NoText);
+        return Pushed::Refused(Answer::NoText);
     };
     let from = p.from;
     if from < n {
-        return Given::Refused(Answer::Room(1));
+        return Pushed::Refused(Answer::Room(1));
     }
     let at = from - n;
     defn::fill_defn(
@@ -189,7 +194,7 @@ pub(crate) fn give_defn(
         table,
         &mut pending[at..from],
     );
-    Given::At(at)
+    Pushed::At(at)
 }
 
 // The text of the definition at `place`, with the arguments put in.
@@ -205,20 +210,20 @@ pub(crate) fn give_text(
     name: &[u8],
     x: Arguments,
     place: usize,
-) -> Given
-    requires { ⌜ SoundAt (λ b. pendingAt (now pending) (stringsAt (now calls) (now ends) (definitionsAt (now definitions) (now «table_ends») b))) (λ m. sourceSet p (marksSet marks (tableSet table m))) ⌝ }
+) -> Pushed
+    requires { ⌜ ValidAt (λ b. pendingAt (now pending) (stringsAt (now calls) (now ends) (definitionsAt (now definitions) (now «table_ends») b))) (λ m. sourceSet p (marksSet marks (tableSet table m))) ⌝ }
     requires { ⌜ SomeArguments (now calls) (now ends) x ⌝ }
     requires { ⌜ (length (now name) ≤ mostLent) × (2 * place + 2 ≤ table .packed .count) ⌝ }
-    ensures { λ r. ⌜ ((a : Setting) (s : State) (b : Memory) (m : Machine) (args : List Bytes) → Means a (pendingAt (now (pending .entry)) (stringsAt (now (calls .entry)) (now (ends .entry)) (definitionsAt (now (definitions .entry)) (now («table_ends» .entry)) b))) (sourceSet p (marksSet marks (tableSet table m))) s → ArgumentsIn (now (calls .entry)) (now (ends .entry)) x args → Gives a (pendingAt (now (pending .entry)) (stringsAt (now (calls .entry)) (now (ends .entry)) (definitionsAt (now (definitions .entry)) (now («table_ends» .entry)) b))) (giving (yields (substituted (now (name .entry)) args (s .marks) (getD (rows (s .table .definitions)) (2 * place + 1) []))) s) (pendingAt (now (pending .exit)) (stringsAt (now (calls .entry)) (now (ends .entry)) (definitionsAt (now (definitions .entry)) (now («table_ends» .entry)) b))) (givenTurn (sourceSet p (marksSet marks (tableSet table m))) r)) ⌝ }
+    ensures { λ r. ⌜ ((a : Setting) (s : State) (b : Memory) (m : Machine) (args : List Bytes) → Represents a (pendingAt (now (pending .entry)) (stringsAt (now (calls .entry)) (now (ends .entry)) (definitionsAt (now (definitions .entry)) (now («table_ends» .entry)) b))) (sourceSet p (marksSet marks (tableSet table m))) s → ArgumentsIn (now (calls .entry)) (now (ends .entry)) x args → Refines a (pendingAt (now (pending .entry)) (stringsAt (now (calls .entry)) (now (ends .entry)) (definitionsAt (now (definitions .entry)) (now («table_ends» .entry)) b))) (giving (yields (substituted (now (name .entry)) args (s .marks) (getD (rows (s .table .definitions)) (2 * place + 1) []))) s) (pendingAt (now (pending .exit)) (stringsAt (now (calls .entry)) (now (ends .entry)) (definitionsAt (now (definitions .entry)) (now («table_ends» .entry)) b))) (pushedStep (sourceSet p (marksSet marks (tableSet table m))) r)) ⌝ }
 {
     let k = 2 * place + 1;
     let body = packed::string(definitions, table_ends, table.packed, k);
     let n = substitution::substituted_length(name, ends, x, marks, body);
     let from = p.from;
     if from < n {
-        return Given::Refused(Answer::Room(1));
+        return Pushed::Refused(Answer::Room(1));
     }
     let at = from - n;
     substitution::fill_substituted(name, calls, ends, x, marks, body, &mut pending[at..from]);
-    Given::At(at)
+    Pushed::At(at)
 }

@@ -1,37 +1,36 @@
 // The expander: the run of a text in the seven lent buffers. Its links and its own error text and output are local, and what it wrote is
 // copied out at the end.
-mod ahead;
+mod appending;
 mod arguments;
+mod buffers;
+mod calling;
 mod calls;
-mod closing;
-mod collect;
-mod cuts;
+mod change_marks;
 mod defining;
 mod defn;
 mod delivering;
 mod diverting;
+mod dnl;
 mod events;
-mod figures;
-mod fill;
 mod giving;
 mod limits;
 mod lists;
 mod machine;
 mod macros;
-mod marking;
+mod marks;
+mod names;
+mod number_results;
 mod packed;
-mod pending;
-mod remarking;
+mod part_results;
+mod plain_steps;
 mod reporting;
 mod run;
 mod sinks;
 mod source;
-mod step;
+mod special_steps;
 mod streams;
-mod stretch;
 mod substitution;
 mod table;
-mod texts;
 mod tokens;
 
 use crate::limits::CALL_ENDS;
@@ -49,56 +48,7 @@ ghost use Rattle.rules.specs.Contract.{settingOf, Expanded};
 ghost use Rattle.expander.specs.Limits.{mostLent};
 ghost use Rattle.expander.specs.Run.{Lent, LinkLengths, Wrote, Zeroed};
 
-// The run over given links and texts of its own, of which it gets as much as is lent, with what it wrote copied out.
-fn copied(
-    text: &[u8],
-    pending: &mut [u8],
-    calls: &mut [u8],
-    ends: &mut [u32],
-    stack: &mut [u32],
-    definitions: &mut [u8],
-    table_ends: &mut [u32],
-    streams: &mut [u8],
-    owners: &mut [u8],
-    wrap: &mut [u8],
-    error_text: &mut [u8],
-    output_text: &mut [u8],
-    scratch: &mut [u8],
-    errors: &mut [u8],
-    output: &mut [u8],
-    budget: u32,
-) -> Report
-    requires { ⌜ Lent (length (now text)) (length (now pending)) (length (now calls)) (length (now definitions)) (length (now streams)) (length (now wrap)) (length (now errors)) (length (now output)) ⌝ }
-    requires { ⌜ LinkLengths (now ends) (now stack) (now «table_ends») (now owners) × (length (now «error_text») ≡ mostLent) × (length (now «output_text») ≡ mostLent) × (length (now scratch) ≡ mostLent) ⌝ }
-    ensures { λ r. ⌜ Wrote (runFrom (lengths (settingOf (record { pending = now (pending .entry); calls = now (calls .entry); definitions = now (definitions .entry); streams = now (streams .entry); wrap = now (wrap .entry); errors = now (errors .entry); output = now (output .entry) }) budget)) budget 0 (startState (freshStart (now (text .entry))))) (now (errors .entry)) (now (output .entry)) (now (errors .exit)) (now (output .exit)) r ⌝ }
-{
-    let most = output.len();
-    let most_errors = errors.len();
-    let h = run::run(
-        text,
-        pending,
-        calls,
-        ends,
-        stack,
-        definitions,
-        table_ends,
-        streams,
-        owners,
-        wrap,
-        &mut error_text[..most_errors],
-        &mut output_text[..most],
-        scratch,
-        budget,
-    );
-    let r = reporting::report_of(h);
-    let n = r.output as usize;
-    let k = r.errors as usize;
-    pending::copy_front(&output_text[..n], output);
-    pending::copy_front(&error_text[..k], errors);
-    r
-}
-
-// The same over local links and texts.
+// The run over links and texts of its own, with what it wrote copied out. Of error text and output it gets as much as is lent.
 fn work(
     text: &[u8],
     pending: &mut [u8],
@@ -120,7 +70,9 @@ fn work(
     let mut error_text = [0u8; MOST_LENT];
     let mut output_text = [0u8; MOST_LENT];
     let mut scratch = [0u8; MOST_LENT];
-    copied(
+    let most = output.len();
+    let most_errors = errors.len();
+    let h = run::run(
         text,
         pending,
         calls,
@@ -131,24 +83,28 @@ fn work(
         streams,
         &mut owners,
         wrap,
-        &mut error_text,
-        &mut output_text,
+        &mut error_text[..most_errors],
+        &mut output_text[..most],
         &mut scratch,
-        errors,
-        output,
         budget,
-    )
+    );
+    let r = reporting::report_of(h);
+    let n = r.output as usize;
+    let k = r.errors as usize;
+    buffers::copy_front(&output_text[..n], output);
+    buffers::copy_front(&error_text[..k], errors);
+    r
 }
 
 // The five working buffers are all zero.
 fn clear_five(a: &mut [u8], b: &mut [u8], c: &mut [u8], d: &mut [u8], e: &mut [u8])
     ensures { λ _. ⌜ Zeroed (now (a .entry)) (now (a .exit)) × Zeroed (now (b .entry)) (now (b .exit)) × Zeroed (now (c .entry)) (now (c .exit)) × Zeroed (now (d .entry)) (now (d .exit)) × Zeroed (now (e .entry)) (now (e .exit)) ⌝ }
 {
-    pending::clear(a);
-    pending::clear(b);
-    pending::clear(c);
-    pending::clear(d);
-    pending::clear(e);
+    buffers::clear(a);
+    buffers::clear(b);
+    buffers::clear(c);
+    buffers::clear(d);
+    buffers::clear(e);
 }
 
 // None of the lengths is above 65,536 bytes.

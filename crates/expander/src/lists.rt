@@ -2,7 +2,7 @@
 // look at its bytes, and then written.
 use crate::arguments;
 use crate::arguments::Arguments;
-use crate::fill;
+use crate::buffers;
 use crate::packed;
 use rules::Mark;
 use rules::Marks;
@@ -75,7 +75,7 @@ pub(crate) fn fill_quoted(s: &[u8], marks: Marks, dst: &mut [u8], at: usize) -> 
 {
     let text = fill_mark(marks.begin_quote, dst, at);
     let end = text + s.len();
-    fill::fill_slice(s, dst, text);
+    buffers::fill_slice(s, dst, text);
     fill_mark(marks.end_quote, dst, end)
 }
 

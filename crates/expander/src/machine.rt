@@ -1,6 +1,6 @@
 // The by-value part of the standing state, with methods that hand the next one back, and what a step gives.
 use crate::calls::Calls;
-use crate::marking;
+use crate::marks;
 use crate::sinks::Sinks;
 use crate::source::Position;
 use crate::table::Definitions;
@@ -12,8 +12,8 @@ ghost use mathlib.Core.List.{[]};
 ghost use Prim.Native.Nat.{_≤_};
 ghost use Rattle.rules.specs.Marks.{defaultMarks, markText, markTexts, withQuotes, withComments};
 ghost use Rattle.expander.specs.Tokens.{FullMark, GoodMarks};
-ghost use Rattle.expander.specs.Machine.{sourceSet, marksSet, callsSet, tableSet, sinksSet, wrapSet, errorsSet, turned};
-ghost use Rattle.expander.specs.declared.machine.Went.the-variants as went;
+ghost use Rattle.expander.specs.Machine.{sourceSet, marksSet, callsSet, tableSet, sinksSet, wrapSet, errorsSet, stepped};
+ghost use Rattle.expander.specs.declared.machine.Progress.the-variants as progress;
 
 // The marks in force; where the text ahead, the open calls, the definitions and the streams stand; how many bytes wait in the wrap text
 // and are written to the error text.
@@ -28,15 +28,15 @@ pub(crate) struct Machine {
 }
 
 // Whether a run goes on after a step, ends with it, or the step is refused.
-pub(crate) enum Went {
+pub(crate) enum Progress {
     On,
     Ended(Answer),
     Refused(Answer),
 }
 
 // What a step gives.
-pub(crate) struct Turn {
-    pub(crate) went: Went,
+pub(crate) struct Stepped {
+    pub(crate) progress: Progress,
     pub(crate) machine: Machine,
 }
 
@@ -95,7 +95,7 @@ impl Machine {
     pub(crate) fn with_default_quotes(self) -> Machine
         ensures { λ r. ⌜ (r ≡ marksSet (r .marks) self) × (markTexts (r .marks) ≡ withQuotes (defaultMarks .beginQuote) (defaultMarks .endQuote) (markTexts (self .marks))) × (GoodMarks (self .marks) → GoodMarks (r .marks)) ⌝ }
     {
-        let fresh = marking::default_marks();
+        let fresh = marks::default_marks();
         self.with_quotes(fresh.begin_quote, fresh.end_quote)
     }
 
@@ -135,31 +135,31 @@ impl Machine {
     }
 
     // The run goes on from here.
-    pub(crate) fn on(self) -> Turn
-        ensures { λ r. ⌜ r ≡ turned went.On self ⌝ }
+    pub(crate) fn on(self) -> Stepped
+        ensures { λ r. ⌜ r ≡ stepped progress.On self ⌝ }
     {
-        Turn {
-            went: Went::On,
+        Stepped {
+            progress: Progress::On,
             machine: self,
         }
     }
 
     // The run ends here.
-    pub(crate) fn ended(self, answer: Answer) -> Turn
-        ensures { λ r. ⌜ r ≡ turned (went.Ended answer) self ⌝ }
+    pub(crate) fn ended(self, answer: Answer) -> Stepped
+        ensures { λ r. ⌜ r ≡ stepped (progress.Ended answer) self ⌝ }
     {
-        Turn {
-            went: Went::Ended(answer),
+        Stepped {
+            progress: Progress::Ended(answer),
             machine: self,
         }
     }
 
     // The step is refused.
-    pub(crate) fn refused(self, answer: Answer) -> Turn
-        ensures { λ r. ⌜ r ≡ turned (went.Refused answer) self ⌝ }
+    pub(crate) fn refused(self, answer: Answer) -> Stepped
+        ensures { λ r. ⌜ r ≡ stepped (progress.Refused answer) self ⌝ }
     {
-        Turn {
-            went: Went::Refused(answer),
+        Stepped {
+            progress: Progress::Refused(answer),
             machine: self,
         }
     }

@@ -1,17 +1,20 @@
-// The predefined macros by their numbers, 1 to 24.
+// The predefined macros: the function for each.
+use crate::appending;
 use crate::arguments::Arguments;
-use crate::cuts;
+use crate::change_marks;
 use crate::defining;
 use crate::diverting;
-use crate::figures;
+use crate::dnl;
 use crate::giving;
-use crate::giving::Given;
+use crate::giving::Pushed;
 use crate::machine::Machine;
-use crate::machine::Turn;
-use crate::remarking;
+use crate::machine::Stepped;
+use crate::number_results;
+use crate::part_results;
 use crate::source::Position;
 use crate::table::Definitions;
-use crate::texts;
+use builtins::ChangeMacro;
+use builtins::ResultMacro;
 use rules::Answer;
 use rules::Marks;
 ghost use mathlib.Core.Path.{_≡_};
@@ -23,55 +26,11 @@ ghost use Rattle.rules.specs.State.{State};
 ghost use Rattle.rules.specs.Run.{Setting};
 ghost use Rattle.expander.specs.Limits.{mostLent};
 ghost use Rattle.expander.specs.Arguments.{ArgumentsIn, SomeArguments};
-ghost use Rattle.expander.specs.Machine.{Memory, Means, Gives, Sound, SoundAt, textAt, pendingAt, stringsAt, definitionsAt, sinksAt, wrapAt, errorsAt, sourceSet, marksSet, tableSet};
+ghost use Rattle.expander.specs.Machine.{Memory, Represents, Refines, Valid, ValidAt, textAt, pendingAt, stringsAt, definitionsAt, sinksAt, wrapAt, errorsAt, sourceSet, marksSet, tableSet};
 ghost use Rattle.expander.specs.declared.machine.Machine.{Machine};
-ghost use Rattle.expander.specs.Giving.{givenTurn};
-ghost use Rattle.rules.specs.Macros.{perform};
-ghost use Rattle.rules.specs.Table.{needsParenthesis};
-ghost use Rattle.expander.specs.Macros.{SortIs};
-ghost use Rattle.expander.specs.declared.macros.Sort.the-variants as sort;
-
-// Whether the macro of a number is called only with a parenthesis behind its name. (Macros to come that need one join here.)
-pub(crate) fn needs_parenthesis(k: u8) -> bool
-    ensures { λ r. ⌜ r ≡ needsParenthesis k ⌝ }
-{
-    match k {
-        // decr, define, defn
-        3..=5 => true,
-        // errprint to len
-        9..=15 => true,
-        // m4wrap to undefine
-        17..=23 => true,
-        _ => false,
-    }
-}
-
-// What a macro does: it only gives a result; it gives one by a search, which takes much stack; or it changes other things.
-pub(crate) enum Sort {
-    Result,
-    Search,
-    Change,
-}
-
-// What the macro of a number does.
-pub(crate) fn sort_of(k: u8) -> Sort
-    ensures { λ r. ⌜ SortIs k r ⌝ }
-{
-    match k {
-        3 => Sort::Result,
-        5 => Sort::Result,
-        10 => Sort::Result,
-        11 => Sort::Result,
-        12 => Sort::Result,
-        13 => Sort::Result,
-        14 => Sort::Search,
-        15 => Sort::Result,
-        20 => Sort::Result,
-        21 => Sort::Result,
-        22 => Sort::Result,
-        _ => Sort::Change,
-    }
-}
+ghost use Rattle.expander.specs.Giving.{pushedStep};
+ghost use Rattle.rules.specs.Macros.{callIndex};
+ghost use Rattle.builtins.specs.Builtins.{builtinAt, resultOf, changeOf, resultCall, changeCall};
 
 // Those that only give a result.
 pub(crate) fn give(
@@ -84,15 +43,19 @@ pub(crate) fn give(
     p: Position,
     marks: Marks,
     x: Arguments,
-    k: u8,
-) -> Given
-    requires { ⌜ SoundAt (λ b. pendingAt (now pending) (stringsAt (now calls) (now ends) (definitionsAt (now definitions) (now «table_ends») b))) (λ m. sourceSet p (marksSet marks (tableSet table m))) ⌝ }
-    requires { ⌜ SomeArguments (now calls) (now ends) x × SortIs k sort.Result ⌝ }
-    ensures { λ r. ⌜ ((a : Setting) (s : State) (b : Memory) (m : Machine) (args : List Bytes) → Means a (pendingAt (now (pending .entry)) (stringsAt (now (calls .entry)) (now (ends .entry)) (definitionsAt (now (definitions .entry)) (now («table_ends» .entry)) b))) (sourceSet p (marksSet marks (tableSet table m))) s → ArgumentsIn (now (calls .entry)) (now (ends .entry)) x args → Gives a (pendingAt (now (pending .entry)) (stringsAt (now (calls .entry)) (now (ends .entry)) (definitionsAt (now (definitions .entry)) (now («table_ends» .entry)) b))) (perform k args s) (pendingAt (now (pending .exit)) (stringsAt (now (calls .entry)) (now (ends .entry)) (definitionsAt (now (definitions .entry)) (now («table_ends» .entry)) b))) (givenTurn (sourceSet p (marksSet marks (tableSet table m))) r)) ⌝ }
+    number: u8,
+) -> Pushed
+    requires { ⌜ ValidAt (λ b. pendingAt (now pending) (stringsAt (now calls) (now ends) (definitionsAt (now definitions) (now «table_ends») b))) (λ m. sourceSet p (marksSet marks (tableSet table m))) ⌝ }
+    requires { ⌜ SomeArguments (now calls) (now ends) x ⌝ }
+    ensures { λ r. ⌜ ((a : Setting) (s : State) (b : Memory) (m : Machine) (args : List Bytes) → Represents a (pendingAt (now (pending .entry)) (stringsAt (now (calls .entry)) (now (ends .entry)) (definitionsAt (now (definitions .entry)) (now («table_ends» .entry)) b))) (sourceSet p (marksSet marks (tableSet table m))) s → ArgumentsIn (now (calls .entry)) (now (ends .entry)) x args → Refines a (pendingAt (now (pending .entry)) (stringsAt (now (calls .entry)) (now (ends .entry)) (definitionsAt (now (definitions .entry)) (now («table_ends» .entry)) b))) (resultCall (resultOf (builtinAt number)) args s) (pendingAt (now (pending .exit)) (stringsAt (now (calls .entry)) (now (ends .entry)) (definitionsAt (now (definitions .entry)) (now («table_ends» .entry)) b))) (pushedStep (sourceSet p (marksSet marks (tableSet table m))) r)) ⌝ }
 {
-    match k {
-        3 => giving::give_figure(pending, p, figures::decr(calls, ends, x)),
-        5 => giving::give_defn(
+    match builtins::result_macro(number) {
+        ResultMacro::Decr => giving::give_number_result(
+            pending,
+            p,
+            number_results::decr(calls, ends, x),
+        ),
+        ResultMacro::Defn => giving::give_defn(
             pending,
             calls,
             ends,
@@ -103,20 +66,42 @@ pub(crate) fn give(
             marks,
             x,
         ),
-        10 => giving::give_figure(pending, p, figures::eval(calls, ends, x)),
-        11 => giving::give_cut(
+        ResultMacro::Eval => giving::give_number_result(
+            pending,
+            p,
+            number_results::eval(calls, ends, x),
+        ),
+        ResultMacro::Ifdef => giving::give_part_result(
             pending,
             calls,
             p,
-            cuts::ifdef(calls, ends, x, definitions, table_ends, table),
+            part_results::ifdef(calls, ends, x, definitions, table_ends, table),
         ),
-        12 => giving::give_cut(pending, calls, p, cuts::ifelse(calls, ends, x)),
-        13 => giving::give_figure(pending, p, figures::incr(calls, ends, x)),
-        15 => giving::give_figure(pending, p, figures::len(calls, ends, x)),
-        20 => giving::give_shift(pending, calls, ends, p, marks, x),
-        21 => giving::give_cut(pending, calls, p, cuts::substr(calls, ends, x)),
-        22 => giving::give_translit(pending, calls, ends, p, x),
-        _ => Given::Refused(Answer::Gone),
+        ResultMacro::Ifelse => giving::give_part_result(
+            pending,
+            calls,
+            p,
+            part_results::ifelse(calls, ends, x),
+        ),
+        ResultMacro::Incr => giving::give_number_result(
+            pending,
+            p,
+            number_results::incr(calls, ends, x),
+        ),
+        ResultMacro::Len => giving::give_number_result(
+            pending,
+            p,
+            number_results::len(calls, ends, x),
+        ),
+        ResultMacro::Shift => giving::give_shift(pending, calls, ends, p, marks, x),
+        ResultMacro::Substr => giving::give_part_result(
+            pending,
+            calls,
+            p,
+            part_results::substr(calls, ends, x),
+        ),
+        ResultMacro::Translit => giving::give_translit(pending, calls, ends, p, x),
+        ResultMacro::None => Pushed::Refused(Answer::Gone),
     }
 }
 
@@ -127,25 +112,25 @@ pub(crate) fn search(
     ends: &[u32],
     p: Position,
     x: Arguments,
-) -> Given
-    requires { ⌜ SoundAt (λ b. pendingAt (now pending) (stringsAt (now calls) (now ends) b)) (λ m. sourceSet p m) ⌝ }
+) -> Pushed
+    requires { ⌜ ValidAt (λ b. pendingAt (now pending) (stringsAt (now calls) (now ends) b)) (λ m. sourceSet p m) ⌝ }
     requires { ⌜ SomeArguments (now calls) (now ends) x ⌝ }
-    ensures { λ r. ⌜ ((a : Setting) (s : State) (b : Memory) (m : Machine) (args : List Bytes) → Means a (pendingAt (now (pending .entry)) (stringsAt (now (calls .entry)) (now (ends .entry)) b)) (sourceSet p m) s → ArgumentsIn (now (calls .entry)) (now (ends .entry)) x args → Gives a (pendingAt (now (pending .entry)) (stringsAt (now (calls .entry)) (now (ends .entry)) b)) (perform 14 args s) (pendingAt (now (pending .exit)) (stringsAt (now (calls .entry)) (now (ends .entry)) b)) (givenTurn (sourceSet p m) r)) ⌝ }
+    ensures { λ r. ⌜ ((a : Setting) (s : State) (b : Memory) (m : Machine) (args : List Bytes) → Represents a (pendingAt (now (pending .entry)) (stringsAt (now (calls .entry)) (now (ends .entry)) b)) (sourceSet p m) s → ArgumentsIn (now (calls .entry)) (now (ends .entry)) x args → Refines a (pendingAt (now (pending .entry)) (stringsAt (now (calls .entry)) (now (ends .entry)) b)) (callIndex args s) (pendingAt (now (pending .exit)) (stringsAt (now (calls .entry)) (now (ends .entry)) b)) (pushedStep (sourceSet p m) r)) ⌝ }
 {
-    giving::give_figure(pending, p, figures::index(calls, ends, x))
+    giving::give_number_result(pending, p, number_results::index(calls, ends, x))
 }
 
 // The machine with what is given before its text ahead.
-pub(crate) fn given(m: Machine, g: Given) -> Turn
-    ensures { λ r. ⌜ r ≡ givenTurn m g ⌝ }
+pub(crate) fn given(m: Machine, g: Pushed) -> Stepped
+    ensures { λ r. ⌜ r ≡ pushedStep m g ⌝ }
 {
     match g {
-        Given::Refused(answer) => m.refused(answer),
-        Given::At(from) => m.with_source(m.source.pushed(from)).on(),
+        Pushed::Refused(answer) => m.refused(answer),
+        Pushed::At(from) => m.with_source(m.source.pushed(from)).on(),
     }
 }
 
-// A predefined macro is performed.
+// Those that change other things, and divnum, which reads the current stream.
 pub(crate) fn perform(
     text: &[u8],
     pending: &mut [u8],
@@ -161,29 +146,38 @@ pub(crate) fn perform(
     scratch: &mut [u8],
     m: Machine,
     x: Arguments,
-    k: u8,
-) -> Turn
-    requires { ⌜ Sound (λ b. textAt (now text) (pendingAt (now pending) (stringsAt (now calls) (now ends) (definitionsAt (now definitions) (now «table_ends») (sinksAt (now streams) (now owners) (now output) (wrapAt (now wrap) (errorsAt (now errors) b))))))) m ⌝ }
-    requires { ⌜ SomeArguments (now calls) (now ends) x × (0 < k) × SortIs k sort.Change × (length (now scratch) ≡ mostLent) ⌝ }
-    ensures { λ t. ⌜ ((a : Setting) (s : State) (b : Memory) (args : List Bytes) → Means a (textAt (now (text .entry)) (pendingAt (now (pending .entry)) (stringsAt (now (calls .entry)) (now (ends .entry)) (definitionsAt (now (definitions .entry)) (now («table_ends» .entry)) (sinksAt (now (streams .entry)) (now (owners .entry)) (now (output .entry)) (wrapAt (now (wrap .entry)) (errorsAt (now (errors .entry)) b))))))) m s → ArgumentsIn (now (calls .entry)) (now (ends .entry)) x args → Gives a (textAt (now (text .entry)) (pendingAt (now (pending .entry)) (stringsAt (now (calls .entry)) (now (ends .entry)) (definitionsAt (now (definitions .entry)) (now («table_ends» .entry)) (sinksAt (now (streams .entry)) (now (owners .entry)) (now (output .entry)) (wrapAt (now (wrap .entry)) (errorsAt (now (errors .entry)) b))))))) (perform k args s) (textAt (now (text .entry)) (pendingAt (now (pending .exit)) (stringsAt (now (calls .entry)) (now (ends .entry)) (definitionsAt (now (definitions .exit)) (now («table_ends» .exit)) (sinksAt (now (streams .exit)) (now (owners .exit)) (now (output .exit)) (wrapAt (now (wrap .exit)) (errorsAt (now (errors .exit)) b))))))) t) ⌝ }
+    number: u8,
+) -> Stepped
+    requires { ⌜ Valid (λ b. textAt (now text) (pendingAt (now pending) (stringsAt (now calls) (now ends) (definitionsAt (now definitions) (now «table_ends») (sinksAt (now streams) (now owners) (now output) (wrapAt (now wrap) (errorsAt (now errors) b))))))) m ⌝ }
+    requires { ⌜ SomeArguments (now calls) (now ends) x × (length (now scratch) ≡ mostLent) ⌝ }
+    ensures { λ t. ⌜ ((a : Setting) (s : State) (b : Memory) (args : List Bytes) → Represents a (textAt (now (text .entry)) (pendingAt (now (pending .entry)) (stringsAt (now (calls .entry)) (now (ends .entry)) (definitionsAt (now (definitions .entry)) (now («table_ends» .entry)) (sinksAt (now (streams .entry)) (now (owners .entry)) (now (output .entry)) (wrapAt (now (wrap .entry)) (errorsAt (now (errors .entry)) b))))))) m s → ArgumentsIn (now (calls .entry)) (now (ends .entry)) x args → Refines a (textAt (now (text .entry)) (pendingAt (now (pending .entry)) (stringsAt (now (calls .entry)) (now (ends .entry)) (definitionsAt (now (definitions .entry)) (now («table_ends» .entry)) (sinksAt (now (streams .entry)) (now (owners .entry)) (now (output .entry)) (wrapAt (now (wrap .entry)) (errorsAt (now (errors .entry)) b))))))) (changeCall (changeOf (builtinAt number)) args s) (textAt (now (text .entry)) (pendingAt (now (pending .exit)) (stringsAt (now (calls .entry)) (now (ends .entry)) (definitionsAt (now (definitions .exit)) (now («table_ends» .exit)) (sinksAt (now (streams .exit)) (now (owners .exit)) (now (output .exit)) (wrapAt (now (wrap .exit)) (errorsAt (now (errors .exit)) b))))))) t) ⌝ }
 {
-    match k {
-        1 => remarking::changecom(calls, ends, m, x),
-        2 => remarking::changequote(calls, ends, m, x),
-        4 => defining::define(calls, ends, definitions, table_ends, m, x),
-        6 => diverting::divert(calls, ends, m, x),
-        8 => texts::dnl(text, pending, m),
-        9 => texts::errprint(calls, ends, errors, m, x),
-        16 => texts::m4exit(calls, ends, m, x),
-        17 => texts::m4wrap(calls, ends, wrap, m, x),
-        18 => defining::popdef(calls, ends, definitions, table_ends, m, x),
-        19 => defining::pushdef(calls, ends, definitions, table_ends, m, x),
-        23 => defining::undefine(calls, ends, definitions, table_ends, m, x),
-        24 => diverting::undivert(calls, ends, streams, owners, output, scratch, m, x),
-        7 => given(
+    match builtins::change_macro(number) {
+        ChangeMacro::Changecom => change_marks::changecom(calls, ends, m, x),
+        ChangeMacro::Changequote => change_marks::changequote(calls, ends, m, x),
+        ChangeMacro::Define => defining::define(calls, ends, definitions, table_ends, m, x),
+        ChangeMacro::Divert => diverting::divert(calls, ends, m, x),
+        ChangeMacro::Dnl => dnl::dnl(text, pending, m),
+        ChangeMacro::Errprint => appending::errprint(calls, ends, errors, m, x),
+        ChangeMacro::M4exit => diverting::m4exit(calls, ends, m, x),
+        ChangeMacro::M4wrap => appending::m4wrap(calls, ends, wrap, m, x),
+        ChangeMacro::Popdef => defining::popdef(calls, ends, definitions, table_ends, m, x),
+        ChangeMacro::Pushdef => defining::pushdef(calls, ends, definitions, table_ends, m, x),
+        ChangeMacro::Undefine => defining::undefine(calls, ends, definitions, table_ends, m, x),
+        ChangeMacro::Undivert => diverting::undivert(
+            calls,
+            ends,
+            streams,
+            owners,
+            output,
+            scratch,
             m,
-            giving::give_figure(pending, m.source, figures::divnum(m.sinks.current)),
+            x,
         ),
-        _ => m.refused(Answer::Gone),
+        ChangeMacro::Divnum => given(
+            m,
+            giving::give_number_result(pending, m.source, number_results::divnum(m.sinks.current)),
+        ),
+        ChangeMacro::None => m.refused(Answer::Gone),
     }
 }

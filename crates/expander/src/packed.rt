@@ -1,5 +1,5 @@
 // Byte strings packed one after the other from the front of a lent buffer, the end of each in `ends` beside it.
-use crate::fill;
+use crate::buffers;
 ghost use mathlib.Core.Path.{_≡_};
 ghost use mathlib.Core.List.{List, [], _∷_, _++_, map};
 ghost use Prim.Native.Nat.{ℕ, _+_, _-_, _^_, _≤_, _<_};
@@ -36,12 +36,12 @@ pub(crate) fn string<'a>(bytes: &'a [u8], ends: &[u32], p: Packed, k: usize) -> 
 }
 
 // String k is s.
-pub(crate) fn is_string(bytes: &[u8], ends: &[u32], p: Packed, k: usize, s: &[u8]) -> bool
-    requires { ⌜ Formed (now ends) (p .count) (now bytes) (p .used) ⌝ }
-    requires { ⌜ k < p .count ⌝ }
-    ensures { λ r. ⌜ ((ss : List Bytes) → Packs (now (ends .entry)) (p .count) (now (bytes .entry)) (p .used) ss → r ≡ sameBytes (now (s .entry)) (getD ss k [])) ⌝ }
+pub(crate) fn is_string(bytes: &[u8], ends: &[u32], packed: Packed, k: usize, s: &[u8]) -> bool
+    requires { ⌜ Formed (now ends) (packed .count) (now bytes) (packed .used) ⌝ }
+    requires { ⌜ k < packed .count ⌝ }
+    ensures { λ r. ⌜ ((ss : List Bytes) → Packs (now (ends .entry)) (packed .count) (now (bytes .entry)) (packed .used) ss → r ≡ sameBytes (now (s .entry)) (getD ss k [])) ⌝ }
 {
-    ascii::same(s, string(bytes, ends, p, k))
+    ascii::same(s, string(bytes, ends, packed, k))
 }
 
 // Moves the bytes from `from` up to `end` down to the place `to`.
@@ -133,7 +133,7 @@ impl Packed {
         ensures { λ r. ⌜ ((ss : List Bytes) → Packs (now (ends .entry)) (self .count) (now (bytes .entry)) (self .used) ss → Packs (now (ends .exit)) (r .count) (now (bytes .exit)) (r .used) (lastMore ss (now (s .entry)))) ⌝ }
         ensures { λ r. ⌜ (r .count ≡ self .count) × (r .used ≡ self .used + length (now (s .entry))) ⌝ }
     {
-        fill::fill_slice(s, bytes, self.used);
+        buffers::fill_slice(s, bytes, self.used);
         self.grow_last(ends, s.len())
     }
 
@@ -200,7 +200,7 @@ impl Packed {
     {
         let a = start(ends, k);
         let sized = self.resize(bytes, ends, k, s.len());
-        fill::fill_slice(s, bytes, a);
+        buffers::fill_slice(s, bytes, a);
         sized
     }
 }

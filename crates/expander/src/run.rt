@@ -2,14 +2,14 @@
 use crate::calls::Calls;
 use crate::limits::ALL_OWN;
 use crate::machine::Machine;
-use crate::machine::Went;
-use crate::marking;
+use crate::machine::Progress;
+use crate::marks;
 use crate::packed::Packed;
+use crate::plain_steps;
+use crate::plain_steps::Stop;
 use crate::sinks::Sinks;
 use crate::source::Position;
-use crate::step;
-use crate::stretch;
-use crate::stretch::Stop;
+use crate::special_steps;
 use crate::table::Definitions;
 use rules::Answer;
 ghost use mathlib.Core.Path.{_≡_};
@@ -17,7 +17,7 @@ ghost use lib.ListN.{length};
 ghost use Rattle.rules.specs.State.{freshStart, startState};
 ghost use Rattle.rules.specs.Run.{Setting, lengths, runFrom};
 ghost use Rattle.expander.specs.Limits.{mostLent};
-ghost use Rattle.expander.specs.Machine.{Memory, memory, Limits, Means};
+ghost use Rattle.expander.specs.Machine.{Memory, memory, Limits, Represents};
 ghost use Rattle.expander.specs.Run.{Roomy, Leaves};
 
 // How a run ended: its answer, the completed steps, and the by-value part of the standing state.
@@ -29,11 +29,11 @@ pub(crate) struct Halted {
 
 // The machine at the start of a run, over a buffer for pending text of `from` bytes.
 fn start(from: usize) -> Machine
-    ensures { λ r. ⌜ ((a : Setting) (b : Memory) → Limits a b → length (b .pending) ≡ from → Means a b r (startState (freshStart (b .text)))) ⌝ }
+    ensures { λ r. ⌜ ((a : Setting) (b : Memory) → Limits a b → length (b .pending) ≡ from → Represents a b r (startState (freshStart (b .text)))) ⌝ }
 {
     let none = Packed { count: 0, used: 0 };
     Machine {
-        marks: marking::default_marks(),
+        marks: marks::default_marks(),
         source: Position { from, taken: 0 },
         calls: Calls {
             strings: none,
@@ -53,7 +53,7 @@ fn start(from: usize) -> Machine
     }
 }
 
-// A run of a text. Whatever the answer, memory and machine mean the standing state, which on a refusal is that before the refused step.
+// A run of a text. Whatever the answer, memory and machine represent the standing state, which on a refusal is that before the refused step.
 pub(crate) fn run(
     text: &[u8],
     pending: &mut [u8],
@@ -77,7 +77,7 @@ pub(crate) fn run(
     let mut m = start(from);
     let mut left = budget;
     while 0 < left {
-        let s = stretch::run_plain(
+        let s = plain_steps::run_plain(
             text,
             pending,
             calls,
@@ -105,7 +105,7 @@ pub(crate) fn run(
                 };
             }
             Stop::Special(e) => {
-                let t = step::special_step(
+                let t = special_steps::special_step(
                     text,
                     pending,
                     calls,
@@ -122,9 +122,9 @@ pub(crate) fn run(
                     m,
                     e,
                 );
-                let went = t.went;
-                match went {
-                    Went::Refused(answer) => {
+                let progress = t.progress;
+                match progress {
+                    Progress::Refused(answer) => {
                         let steps = budget - left;
                         return Halted {
                             answer,
@@ -132,7 +132,7 @@ pub(crate) fn run(
                             machine: m,
                         };
                     }
-                    Went::Ended(answer) => {
+                    Progress::Ended(answer) => {
                         let machine = t.machine;
                         let steps = budget - left + 1;
                         return Halted {
@@ -141,7 +141,7 @@ pub(crate) fn run(
                             machine,
                         };
                     }
-                    Went::On => {
+                    Progress::On => {
                         m = t.machine;
                     }
                 }

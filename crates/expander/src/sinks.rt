@@ -1,5 +1,5 @@
 // Where text goes outside of calls: the output, or one of streams 1 to 9, or nowhere.
-use crate::fill;
+use crate::source;
 use crate::streams;
 ghost use mathlib.Core.Path.{_≡_};
 ghost use mathlib.Core.List.{[], _∷_, _++_};
@@ -16,20 +16,20 @@ pub(crate) struct Sinks {
 }
 
 // The number of the buffer that n bytes more to the current stream would overfill, of the lengths of the buffers 4 and 7; 0: they fit.
-pub(crate) fn full(k: Sinks, n: usize, streams: usize, output: usize) -> u32
-    requires { ⌜ (k .waiting ≤ streams) × (k .output ≤ output) ⌝ }
-    ensures { λ r. ⌜ r ≡ fullBuffer (k .current) n (streams - k .waiting) (output - k .output) ⌝ }
+pub(crate) fn full(sinks: Sinks, n: usize, streams: usize, output: usize) -> u32
+    requires { ⌜ (sinks .waiting ≤ streams) × (sinks .output ≤ output) ⌝ }
+    ensures { λ r. ⌜ r ≡ fullBuffer (sinks .current) n (streams - sinks .waiting) (output - sinks .output) ⌝ }
 {
-    if k.current == 0 {
-        if output - k.output < n {
+    if sinks.current == 0 {
+        if output - sinks.output < n {
             return 7;
         }
         return 0;
     }
-    if 9 < k.current {
+    if 9 < sinks.current {
         return 0;
     }
-    if streams - k.waiting < n {
+    if streams - sinks.waiting < n {
         return 4;
     }
     0
@@ -111,7 +111,7 @@ impl Sinks {
         let waiting = self.waiting;
         let at = self.output;
         if current == 0 {
-            fill::fill_ahead(front, rest, start, n, output, at);
+            source::fill_ahead(front, rest, start, n, output, at);
             return Sinks {
                 current,
                 waiting,
@@ -121,7 +121,7 @@ impl Sinks {
         if 9 < current {
             return self;
         }
-        fill::fill_ahead(front, rest, start, n, streams, waiting);
+        source::fill_ahead(front, rest, start, n, streams, waiting);
         streams::own(owners, waiting, n, current as u8);
         Sinks {
             current,

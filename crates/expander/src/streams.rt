@@ -1,6 +1,6 @@
 // Streams 1 to 9 in one lent buffer, in order of arrival: beside each of the first `used` bytes stands its owner, the number of
 // its stream. An append moves nothing; whatever else there is takes a fixed number of passes.
-use crate::fill;
+use crate::buffers;
 ghost use mathlib.Core.Path.{_≡_};
 ghost use mathlib.Core.List.{List, [], _++_};
 ghost use Prim.Native.Nat.{ℕ, _+_, _-_, _^_, _≤_, _<_};
@@ -34,7 +34,7 @@ fn append(bytes: &mut [u8], owners: &mut [u8], used: usize, i: u8, s: &[u8]) -> 
     ensures { λ r. ⌜ (r ≡ used + length (now (s .entry))) × ((ws : List Bytes) → IsStream i → StreamsIn (now (bytes .entry)) (now (owners .entry)) used ws → StreamsIn (now (bytes .exit)) (now (owners .exit)) r (extended i (now (s .entry)) ws)) ⌝ }
 {
     let n = s.len();
-    fill::fill_slice(s, bytes, used);
+    buffers::fill_slice(s, bytes, used);
     own(owners, used, n, i);
     used + n
 }

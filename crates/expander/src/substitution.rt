@@ -1,7 +1,7 @@
 // A defined text with the arguments of a call put in: measured, then written.
 use crate::arguments;
 use crate::arguments::Arguments;
-use crate::fill;
+use crate::buffers;
 use crate::lists;
 use rules::Marks;
 ghost use mathlib.Core.Path.{_≡_};
@@ -65,21 +65,27 @@ fn parameter_at(body: &[u8], i: usize) -> Parameter
 }
 
 // How many bytes of the defined text it takes.
-fn parameter_width(p: Parameter) -> usize
-    ensures { λ r. ⌜ r ≡ parameterWidth p ⌝ }
+fn parameter_width(parameter: Parameter) -> usize
+    ensures { λ r. ⌜ r ≡ parameterWidth parameter ⌝ }
 {
-    match p {
+    match parameter {
         Parameter::Literal(_) => 1,
         _ => 2,
     }
 }
 
 // How long the text of a parameter is.
-fn parameter_length(name: &[u8], ends: &[u32], x: Arguments, marks: Marks, p: Parameter) -> usize
-    requires { ⌜ ArgumentLinks (now ends) x × ShortQuotes marks × OneDigit p × (length (now name) ≤ mostLent) ⌝ }
-    ensures { λ r. ⌜ ((bytes : Bytes) (args : List Bytes) → ArgumentsIn bytes (now (ends .entry)) x args → r ≡ length (parameterText (now (name .entry)) args (markTexts marks) p)) × (r ≤ 2 * mostLent) ⌝ }
+fn parameter_length(
+    name: &[u8],
+    ends: &[u32],
+    x: Arguments,
+    marks: Marks,
+    parameter: Parameter,
+) -> usize
+    requires { ⌜ ArgumentLinks (now ends) x × ShortQuotes marks × OneDigit parameter × (length (now name) ≤ mostLent) ⌝ }
+    ensures { λ r. ⌜ ((bytes : Bytes) (args : List Bytes) → ArgumentsIn bytes (now (ends .entry)) x args → r ≡ length (parameterText (now (name .entry)) args (markTexts marks) parameter)) × (r ≤ 2 * mostLent) ⌝ }
 {
-    match p {
+    match parameter {
         Parameter::Name => name.len(),
         Parameter::Argument(n) => {
             let at = arguments::place_of(ends, x, n);
@@ -127,7 +133,7 @@ fn fill_text(s: &[u8], dst: &mut [u8], at: usize) -> usize
     ensures { λ r. ⌜ Lays (now (dst .entry)) at (now (s .entry)) (now (dst .exit)) r ⌝ }
 {
     let end = at + s.len();
-    fill::fill_slice(s, dst, at);
+    buffers::fill_slice(s, dst, at);
     end
 }
 
@@ -138,15 +144,15 @@ fn fill_parameter(
     ends: &[u32],
     x: Arguments,
     marks: Marks,
-    p: Parameter,
+    parameter: Parameter,
     dst: &mut [u8],
     at: usize,
 ) -> usize
-    requires { ⌜ SomeArguments (now bytes) (now ends) x × ShortQuotes marks × OneDigit p ⌝ }
-    requires { ⌜ ((args : List Bytes) → ArgumentsIn (now bytes) (now ends) x args → at + length (parameterText (now name) args (markTexts marks) p) ≤ length (now dst)) ⌝ }
-    ensures { λ r. ⌜ ((args : List Bytes) → ArgumentsIn (now (bytes .entry)) (now (ends .entry)) x args → Lays (now (dst .entry)) at (parameterText (now (name .entry)) args (markTexts marks) p) (now (dst .exit)) r) ⌝ }
+    requires { ⌜ SomeArguments (now bytes) (now ends) x × ShortQuotes marks × OneDigit parameter ⌝ }
+    requires { ⌜ ((args : List Bytes) → ArgumentsIn (now bytes) (now ends) x args → at + length (parameterText (now name) args (markTexts marks) parameter) ≤ length (now dst)) ⌝ }
+    ensures { λ r. ⌜ ((args : List Bytes) → ArgumentsIn (now (bytes .entry)) (now (ends .entry)) x args → Lays (now (dst .entry)) at (parameterText (now (name .entry)) args (markTexts marks) parameter) (now (dst .exit)) r) ⌝ }
 {
-    match p {
+    match parameter {
         Parameter::Name => fill_text(name, dst, at),
         Parameter::Argument(n) => fill_text(arguments::argument(bytes, ends, x, n), dst, at),
         Parameter::Count => fill_decimal(arguments::count(x), dst, at),

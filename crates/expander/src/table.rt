@@ -7,8 +7,8 @@ ghost use mathlib.Core.List.{List, [], _∷_};
 ghost use Prim.Native.Nat.{_+_, _^_, _≤_, _<_};
 ghost use lib.ListN.{length, take, drop, getD};
 ghost use Rattle.rules.specs.Bytes.{Bytes};
-ghost use Rattle.rules.specs.Table.{Definition, Table, predefinedNames, keepsOwn, ownMeaning, ownLost, newestPlace, meaningOf, text, pushed, defined, popped, without, undefined, tableCost};
-ghost use Rattle.expander.specs.Table.{NumberAmong, HasNumber, DefinitionsIn, SoundDefinitions, TableIn, placeOf, Finds, Sifted};
+ghost use Rattle.rules.specs.Table.{Definition, Table, keepsOwn, ownMeaning, ownLost, newestPlace, meaningOf, text, pushed, defined, popped, without, undefined, tableCost};
+ghost use Rattle.expander.specs.Table.{DefinitionsIn, ValidDefinitions, TableIn, placeOf, Finds, Sifted};
 ghost use Rattle.expander.specs.Limits.{macroCount};
 
 // The place of a definition, in order of arrival.
@@ -30,90 +30,12 @@ pub(crate) struct Definitions {
     pub(crate) own: u32,
 }
 
-// The first byte, or 0.
-fn first_byte(s: &[u8]) -> u8
-    ensures { λ r. ⌜ r ≡ getD (now (s .entry)) 0 0 ⌝ }
-{
-    if s.len() == 0 {
-        return 0;
-    }
-    s[0]
-}
-
-// The number k for `first`, k + 1 for `second`, else 0.
-fn number_of_two(name: &[u8], first: &[u8], second: &[u8], k: u8) -> u8
-    requires { ⌜ (0 < k) × (k < macroCount) ⌝ }
-    ensures { λ r. ⌜ NumberAmong k (now (name .entry)) (now (first .entry) ∷ now (second .entry) ∷ []) r ⌝ }
-{
-    if ascii::same(name, first) {
-        return k;
-    }
-    if ascii::same(name, second) {
-        return k + 1;
-    }
-    0
-}
-
-// The number of a name that begins with d.
-fn number_d(name: &[u8]) -> u8
-    ensures { λ r. ⌜ NumberAmong 3 (now (name .entry)) (take 6 (drop 2 predefinedNames)) r ⌝ }
-{
-    let first = number_of_two(name, b"decr", b"define", 3);
-    if first != 0 {
-        return first;
-    }
-    let second = number_of_two(name, b"defn", b"divert", 5);
-    if second != 0 {
-        return second;
-    }
-    number_of_two(name, b"divnum", b"dnl", 7)
-}
-
-// The number of a name that begins with i.
-fn number_i(name: &[u8]) -> u8
-    ensures { λ r. ⌜ NumberAmong 11 (now (name .entry)) (take 4 (drop 10 predefinedNames)) r ⌝ }
-{
-    let first = number_of_two(name, b"ifdef", b"ifelse", 11);
-    if first != 0 {
-        return first;
-    }
-    number_of_two(name, b"incr", b"index", 13)
-}
-
-// The number k for `known`, else 0.
-fn number_of_one(name: &[u8], known: &[u8], k: u8) -> u8
-    requires { ⌜ (0 < k) × (k ≤ macroCount) ⌝ }
-    ensures { λ r. ⌜ NumberAmong k (now (name .entry)) (now (known .entry) ∷ []) r ⌝ }
-{
-    if ascii::same(name, known) { k } else { 0 }
-}
-
-// The number of a predefined name, else 0.
-fn predefined_number(name: &[u8]) -> u8
-    ensures { λ r. ⌜ HasNumber (now (name .entry)) r ⌝ }
-{
-    let first = first_byte(name);
-    match first {
-        b'c' => number_of_two(name, b"changecom", b"changequote", 1),
-        b'd' => number_d(name),
-        b'e' => number_of_two(name, b"errprint", b"eval", 9),
-        b'i' => number_i(name),
-        b'l' => number_of_one(name, b"len", 15),
-        b'm' => number_of_two(name, b"m4exit", b"m4wrap", 16),
-        b'p' => number_of_two(name, b"popdef", b"pushdef", 18),
-        b's' => number_of_two(name, b"shift", b"substr", 20),
-        b't' => number_of_one(name, b"translit", 22),
-        b'u' => number_of_two(name, b"undefine", b"undivert", 23),
-        _ => 0,
-    }
-}
-
 // The k-th predefined name keeps its own meaning.
-fn keeps_own(own: u32, k: u8) -> bool
-    requires { ⌜ (0 < k) × (k ≤ 32) ⌝ }
-    ensures { λ r. ⌜ r ≡ keepsOwn k own ⌝ }
+fn keeps_own(own: u32, number: u8) -> bool
+    requires { ⌜ (0 < number) × (number ≤ 32) ⌝ }
+    ensures { λ r. ⌜ r ≡ keepsOwn number own ⌝ }
 {
-    let bit = k - 1;
+    let bit = number - 1;
     (own >> bit) % 2 == 1
 }
 
@@ -121,7 +43,7 @@ fn keeps_own(own: u32, k: u8) -> bool
 fn own_lost(own: u32, name: &[u8]) -> u32
     ensures { λ r. ⌜ r ≡ ownLost (now (name .entry)) own ⌝ }
 {
-    let k = predefined_number(name);
+    let k = builtins::number_of(name);
     if k == 0 {
         return own;
     }
@@ -136,7 +58,7 @@ fn own_lost(own: u32, name: &[u8]) -> u32
 fn own_meaning(own: u32, name: &[u8]) -> Meaning
     ensures { λ r. ⌜ ((ds : List Definition) → Finds ds (ownMeaning (now (name .entry)) own) r) ⌝ }
 {
-    let k = predefined_number(name);
+    let k = builtins::number_of(name);
     if k == 0 {
         return Meaning::Undefined;
     }
@@ -148,16 +70,16 @@ fn own_meaning(own: u32, name: &[u8]) -> Meaning
 }
 
 // The place of the newest definition of a name.
-pub(crate) fn newest(bytes: &[u8], ends: &[u32], p: Packed, name: &[u8]) -> Found
-    requires { ⌜ SoundDefinitions (now bytes) (now ends) p ⌝ }
-    ensures { λ r. ⌜ ((ds : List Definition) → DefinitionsIn (now (bytes .entry)) (now (ends .entry)) p ds → newestPlace (now (name .entry)) ds ≡ placeOf r) ⌝ }
+pub(crate) fn newest(bytes: &[u8], ends: &[u32], packed: Packed, name: &[u8]) -> Found
+    requires { ⌜ ValidDefinitions (now bytes) (now ends) packed ⌝ }
+    ensures { λ r. ⌜ ((ds : List Definition) → DefinitionsIn (now (bytes .entry)) (now (ends .entry)) packed ds → newestPlace (now (name .entry)) ds ≡ placeOf r) ⌝ }
 {
-    let n = p.count / 2;
+    let n = packed.count / 2;
     let mut left = n;
     while 0 < left {
         let at = left - 1;
         let k = 2 * at;
-        if packed::is_string(bytes, ends, p, k, name) {
+        if packed::is_string(bytes, ends, packed, k, name) {
             return Found::At(at);
         }
         left -= 1;
@@ -166,11 +88,11 @@ pub(crate) fn newest(bytes: &[u8], ends: &[u32], p: Packed, name: &[u8]) -> Foun
 }
 
 // What a name means: its newest definition, else its own meaning.
-pub(crate) fn look_up(bytes: &[u8], ends: &[u32], p: Packed, own: u32, name: &[u8]) -> Meaning
-    requires { ⌜ SoundDefinitions (now bytes) (now ends) p ⌝ }
-    ensures { λ r. ⌜ ((t : Table) → TableIn (now (bytes .entry)) (now (ends .entry)) p own t → Finds (t .definitions) (meaningOf (now (name .entry)) t) r) ⌝ }
+pub(crate) fn look_up(bytes: &[u8], ends: &[u32], packed: Packed, own: u32, name: &[u8]) -> Meaning
+    requires { ⌜ ValidDefinitions (now bytes) (now ends) packed ⌝ }
+    ensures { λ r. ⌜ ((t : Table) → TableIn (now (bytes .entry)) (now (ends .entry)) packed own t → Finds (t .definitions) (meaningOf (now (name .entry)) t) r) ⌝ }
 {
-    let place = newest(bytes, ends, p, name);
+    let place = newest(bytes, ends, packed, name);
     match place {
         Found::At(i) => Meaning::Text(i),
         Found::Nowhere => own_meaning(own, name),
@@ -181,21 +103,21 @@ pub(crate) fn look_up(bytes: &[u8], ends: &[u32], p: Packed, own: u32, name: &[u
 pub(crate) fn size_defined(
     bytes: &[u8],
     ends: &[u32],
-    p: Packed,
+    packed: Packed,
     place: Found,
     name: &[u8],
     n: usize,
 ) -> usize
-    requires { ⌜ SoundDefinitions (now bytes) (now ends) p ⌝ }
-    requires { ⌜ ((ds : List Definition) → DefinitionsIn (now bytes) (now ends) p ds → newestPlace (now name) ds ≡ placeOf place) ⌝ }
+    requires { ⌜ ValidDefinitions (now bytes) (now ends) packed ⌝ }
+    requires { ⌜ ((ds : List Definition) → DefinitionsIn (now bytes) (now ends) packed ds → newestPlace (now name) ds ≡ placeOf place) ⌝ }
     requires { ⌜ length (now name) + n < 2 ^ 32 ⌝ }
-    ensures { λ r. ⌜ ((t : Table) (x : Bytes) → DefinitionsIn (now (bytes .entry)) (now (ends .entry)) p (t .definitions) → length x ≡ n → r ≡ tableCost ((defined (now (name .entry)) (text x) t) .definitions)) ⌝ }
+    ensures { λ r. ⌜ ((t : Table) (x : Bytes) → DefinitionsIn (now (bytes .entry)) (now (ends .entry)) packed (t .definitions) → length x ≡ n → r ≡ tableCost ((defined (now (name .entry)) (text x) t) .definitions)) ⌝ }
 {
-    let used = p.used;
+    let used = packed.used;
     match place {
         Found::At(i) => {
             let k = 2 * i + 1;
-            let old = packed::string(bytes, ends, p, k);
+            let old = packed::string(bytes, ends, packed, k);
             used - old.len() + n
         }
         Found::Nowhere => used + (name.len() + n),
@@ -237,7 +159,7 @@ impl Packed {
 
     // Without the definitions of a name: one pass, in which what is kept moves down.
     fn drop_named(self, bytes: &mut [u8], ends: &mut [u32], name: &[u8]) -> Packed
-        requires { ⌜ SoundDefinitions (now bytes) (now ends) self ⌝ }
+        requires { ⌜ ValidDefinitions (now bytes) (now ends) self ⌝ }
         ensures { λ r. ⌜ ((ds : List Definition) → DefinitionsIn (now (bytes .entry)) (now (ends .entry)) self ds → DefinitionsIn (now (bytes .exit)) (now (ends .exit)) r (without (now (name .entry)) ds)) ⌝ }
     {
         let count = self.count;
@@ -265,7 +187,7 @@ impl Definitions {
         name: &[u8],
         body: &[u8],
     ) -> Definitions
-        requires { ⌜ SoundDefinitions (now bytes) (now ends) (self .packed) ⌝ }
+        requires { ⌜ ValidDefinitions (now bytes) (now ends) (self .packed) ⌝ }
         requires { ⌜ 0 < length (now name) ⌝ }
         requires { ⌜ self .packed .used + (length (now name) + length (now body)) ≤ length (now bytes) ⌝ }
         ensures { λ r. ⌜ ((t : Table) → TableIn (now (bytes .entry)) (now (ends .entry)) (self .packed) (self .own) t → TableIn (now (bytes .exit)) (now (ends .exit)) (r .packed) (r .own) (pushed (now (name .entry)) (text (now (body .entry))) t)) ⌝ }
@@ -287,7 +209,7 @@ impl Definitions {
         name: &[u8],
         body: &[u8],
     ) -> Definitions
-        requires { ⌜ SoundDefinitions (now bytes) (now ends) (self .packed) ⌝ }
+        requires { ⌜ ValidDefinitions (now bytes) (now ends) (self .packed) ⌝ }
         requires { ⌜ ((ds : List Definition) → DefinitionsIn (now bytes) (now ends) (self .packed) ds → newestPlace (now name) ds ≡ placeOf place) ⌝ }
         requires { ⌜ 0 < length (now name) ⌝ }
         requires { ⌜ ((t : Table) → DefinitionsIn (now bytes) (now ends) (self .packed) (t .definitions) → tableCost ((defined (now name) (text (now body)) t) .definitions) ≤ length (now bytes)) ⌝ }
@@ -311,7 +233,7 @@ impl Definitions {
 
     // Without a name's newest definition, else without its own meaning.
     pub(crate) fn pop(self, bytes: &mut [u8], ends: &mut [u32], name: &[u8]) -> Definitions
-        requires { ⌜ SoundDefinitions (now bytes) (now ends) (self .packed) ⌝ }
+        requires { ⌜ ValidDefinitions (now bytes) (now ends) (self .packed) ⌝ }
         ensures { λ r. ⌜ ((t : Table) → TableIn (now (bytes .entry)) (now (ends .entry)) (self .packed) (self .own) t → TableIn (now (bytes .exit)) (now (ends .exit)) (r .packed) (r .own) (popped (now (name .entry)) t)) ⌝ }
     {
         let own = self.own;
@@ -332,7 +254,7 @@ impl Definitions {
 
     // Without all definitions of a name and without its own meaning.
     pub(crate) fn undefine(self, bytes: &mut [u8], ends: &mut [u32], name: &[u8]) -> Definitions
-        requires { ⌜ SoundDefinitions (now bytes) (now ends) (self .packed) ⌝ }
+        requires { ⌜ ValidDefinitions (now bytes) (now ends) (self .packed) ⌝ }
         ensures { λ r. ⌜ ((t : Table) → TableIn (now (bytes .entry)) (now (ends .entry)) (self .packed) (self .own) t → TableIn (now (bytes .exit)) (now (ends .exit)) (r .packed) (r .own) (undefined (now (name .entry)) t)) ⌝ }
     {
         let packed = self.packed.drop_named(bytes, ends, name);

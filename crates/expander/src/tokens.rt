@@ -1,7 +1,7 @@
-// Reading a token off the text ahead, which is two slices (module `ahead`).
-use super::ahead::ahead_length;
-use super::ahead::byte_ahead;
-use super::ahead::next_either;
+// Reading a token off the text ahead, which is two slices (module `source`).
+use crate::source::ahead_length;
+use crate::source::byte_ahead;
+use crate::source::next_either;
 use rules::Mark;
 use rules::Marks;
 use rules::Reading;

@@ -1,12 +1,5 @@
 -- Literals: what is read of their tokens is what the definitions say. Assumes nothing.
-use Prim.Native.Nat.{ℕ, suc, _+_, _-_, _≤_, _<_}
-use native.Mathlib.Omega.{arith}
-use mathlib.Core.Path.{_≡_, refl, ap, _∙_}
-use mathlib.Core.List.{[], _∷_}
-use mathlib.Core.Bool.{Bool, true, false}
-use mathlib.Core.Option.{Option, none, some}
-use lib.ListN.{length, getD, take, drop}
-use borrow.Author.Tests.{eq-eqb, ne-eqb}
+use Rattle.rules.proofs.Base.{_≤_, _+_, ℕ, _-_, _<_, suc, _∙_, refl, ap, _≡_, true, Bool, false, some, none, Option, [], _∷_, arith, length, drop, take, getD, eq-eqb, ne-eqb}
 use Rattle.rules.specs.declared.Worked.the-variants.{Number}
 use Rattle.rules.specs.declared.Parsed.{Parsed}
 use Rattle.rules.specs.declared.Parsed.the-variants.{Value, Unreadable}

@@ -1,12 +1,5 @@
 -- Parts of a slice, bytes in it, and choices. Assumes nothing.
-use Prim.Native.Nat.{ℕ, zero, suc, _-_, _≤_, _<_}
-use native.Mathlib.Omega.{arith}
-use native.Mathlib.Nat.{le-of-eq}
-use mathlib.Core.Path.{_≡_, refl, ap, subst, _∙_}
-use mathlib.Core.List.{[], _∷_}
-use mathlib.Core.Bool.{Bool, true, false, cond}
-use lib.ListN.{length, getD, take, drop, length-drop}
-use lib.Seq.{take-all}
+use Rattle.rules.proofs.Base.{_≤_, ℕ, _-_, _<_, suc, zero, _∙_, refl, ap, _≡_, subst, true, Bool, false, cond, [], _∷_, le-of-eq, arith, length, drop, take, getD, length-drop, take-all}
 use Rattle.rules.specs.Bytes.{Bytes}
 use Rattle.rules.specs.declared.Worked.{Worked}
 use Rattle.rules.specs.declared.Parsed.{Parsed}

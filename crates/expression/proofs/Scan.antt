@@ -1,14 +1,5 @@
 -- Tokens by their bytes: steps over blanks, what an operand begins with, and operators. Assumes nothing.
-use Prim.Native.Nat.{ℕ, zero, suc, _+_, _≤_, _<_}
-use native.Mathlib.Omega.{arith}
-use native.Mathlib.Numerals.{add-one}
-use mathlib.Core.Path.{_≡_, _∙_}
-use mathlib.Core.List.{_∷_}
-use mathlib.Core.Bool.{true, false, cond}
-use lib.Dec.{eqb}
-use lib.ListN.{length, getD, drop-of-length-le}
-use lib.Seq.{drop-cons}
-use borrow.Author.Tests.{eqb-true}
+use Rattle.rules.proofs.Base.{_≤_, _+_, ℕ, _<_, suc, zero, _∙_, _≡_, true, false, cond, _∷_, add-one, arith, eqb, length, getD, drop-of-length-le, drop-cons, eqb-true}
 use Rattle.rules.specs.declared.Leading.{Leading}
 use Rattle.rules.specs.declared.Operator.{Operator}
 use Rattle.rules.specs.Bytes.{Bytes, isBlank, isDigit}

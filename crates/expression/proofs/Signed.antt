@@ -1,13 +1,6 @@
 -- 32-bit numbers by their bits: what is done to bits below 2 ^ 32 is the operation on the signed numbers, wrapped. One law for each
 -- way out of a function of src/words.rt. Assumes nothing.
-use Prim.Native.Nat.{ℕ, zero, suc, _+_, _-_, _*_, _/_, _%_, _^_, _≤_, _<_}
-use native.Mathlib.Omega.{arith}
-use native.Mathlib.Nat.{div-le-self, mod-le, mul-add, add-mul, le-of-lt, lt-of-le-of-lt, mul-le-mul-left, mul-lt-mul-of-pos-right}
-use mathlib.Core.Path.{_≡_, refl, sym, ap, _∙_}
-use mathlib.Core.Bool.{Bool, true, false, cond}
-use borrow.Author.Tests.{ltb-true, ltb-false, lt-ltb, le-ltb}
-use lib.Dec.{ltb, lit<}
-use lib.IntN.{ℤ, pos, negsuc, negℤ, natAbs, subℕ, _+ℤ_, _-ℤ_, _*ℤ_}
+use Rattle.rules.proofs.Base.{_≤_, _+_, ℕ, _-_, _<_, suc, zero, _*_, _^_, _/_, _%_, _∙_, refl, sym, ap, _≡_, true, Bool, false, cond, le-of-lt, add-mul, mul-le-mul-left, div-le-self, mod-le, mul-add, lt-of-le-of-lt, mul-lt-mul-of-pos-right, arith, ltb, lit<, pos, ℤ, negsuc, negℤ, natAbs, subℕ, _+ℤ_, _-ℤ_, _*ℤ_, ltb-true, ltb-false, lt-ltb, le-ltb}
 use lib.Signed.{quotZ, remZ, shrZ, ltZ}
 use Rattle.rules.specs.Words.{signedValue, wrapped}
 

@@ -22,7 +22,7 @@ fn closed(s: &[u8], n: usize, r: Parsed) -> Parsed
         return Parsed::Unreadable;
     };
     let p = tokens::past_blanks(s, n + m);
-    if tokens::byte_at(s, p) == 41 {
+    if tokens::byte_at(s, p) == b')' {
         let end = p + 1;
         Parsed::Value(w, end)
     } else {

@@ -1,13 +1,6 @@
 -- Building the index of a text, word by word. Assumes nothing.
-use Prim.Native.Nat.{ℕ, suc, _+_, _-_, _*_, _/_, _≤_, _<_}
-use native.Mathlib.Omega.{arith}
-use native.Mathlib.Numerals.{add-one}
-use mathlib.Core.Path.{_≡_, refl, sym, ap, ap₂, _∙_}
-use mathlib.Core.Bool.{true, false}
-use mathlib.Core.List.{List, _++_}
+use Rattle.rules.proofs.Base.{_≤_, _+_, ℕ, _-_, _<_, suc, _*_, _/_, _∙_, refl, sym, ap, _≡_, ap₂, true, false, List, _++_, add-one, arith, length, drop, take, getD, length-drop, set, length-set, length-take, drop-cons, take-all, set-at, append-snoc}
 use lib.Count.{ones}
-use lib.ListN.{length, take, drop, getD, set, length-set, length-take, length-drop}
-use lib.Seq.{take-all, append-snoc, drop-cons, set-at}
 use Rattle.rules.specs.declared.IndexAnswer.the-variants.{Built, TooLong, NoRoom}
 use Rattle.rules.specs.Bytes.{Bytes}
 use Rattle.rules.specs.Run.{mostLent}

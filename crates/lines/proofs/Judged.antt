@@ -1,11 +1,5 @@
 -- What is refused before anything else: 30, then 33. Assumes nothing.
-use Prim.Native.Nat.{ℕ, suc, _/_, _≤_, _<_}
-use mathlib.Core.Path.{_≡_, refl, sym, _∙_}
-use mathlib.Core.Bool.{Bool, true, false, not, and-eq-true-iff}
-use mathlib.Core.List.{List}
-use lib.Dec.{leb, ltb}
-use lib.ListN.{length}
-use borrow.Author.Tests.{leb-true, le-leb, lt-ltb, le-ltb, not-true, not-false}
+use Rattle.rules.proofs.Base.{_≤_, ℕ, _<_, suc, _/_, _∙_, refl, sym, _≡_, true, Bool, false, not, and-eq-true-iff, List, leb, ltb, length, le-leb, leb-true, lt-ltb, not-true, not-false, le-ltb}
 use Rattle.rules.specs.declared.IndexAnswer.{IndexAnswer}
 use Rattle.rules.specs.declared.IndexAnswer.the-variants.{TooLong, NoRoom}
 use Rattle.rules.specs.Run.{mostLent}

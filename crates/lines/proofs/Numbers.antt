@@ -1,7 +1,5 @@
 -- The answers that are no refusal, and those that are neither a line nor a start.
-use mathlib.Core.Path.{_≡_, refl}
-use mathlib.Core.List.{List, [], _∷_}
-use Prim.Native.Nat.{ℕ}
+use Rattle.rules.proofs.Base.{ℕ, refl, _≡_, List, [], _∷_}
 use types.Run.{OneOf, miss}
 use denote.Enum.Declared.{tagOf}
 use Rattle.rules.specs.Lines.{indexNumber, indexValue}

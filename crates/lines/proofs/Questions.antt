@@ -1,16 +1,6 @@
 -- What the two questions answer once nothing is refused. Assumes nothing.
-use Prim.Native.Nat.{ℕ, suc, _+_, _-_, _*_, _/_, _%_, _≤_, _<_}
-use native.Mathlib.Omega.{arith}
-use native.Mathlib.Nat.{le-of-eq, le-trans}
-use native.Mathlib.Numerals.{add-one}
-use mathlib.Core.Path.{_≡_, sym, ap, ap₂, _∙_}
-use mathlib.Core.Bool.{Bool, true, false, cond}
-use mathlib.Core.List.{List}
-use mathlib.Core.Option.{Option, some}
+use Rattle.rules.proofs.Base.{_≤_, _+_, ℕ, _-_, _<_, suc, _*_, _/_, _%_, _∙_, sym, ap, _≡_, ap₂, true, Bool, false, cond, some, Option, List, le-trans, le-of-eq, add-one, arith, leb, ltb, length, getD, le-leb, lt-leb, lt-ltb, le-ltb}
 use lib.Count.{onesIn}
-use lib.Dec.{leb, ltb}
-use lib.ListN.{length, getD}
-use borrow.Author.Tests.{le-leb, lt-leb, le-ltb, lt-ltb}
 use Rattle.rules.specs.declared.IndexAnswer.{IndexAnswer}
 use Rattle.rules.specs.declared.IndexAnswer.the-variants.{Line, Start, TooLong, Beyond, NoLine, NoRoom}
 use Rattle.rules.specs.Run.{mostLent}

@@ -1,19 +1,10 @@
 -- The bits of one word: what gathering and clearing them keeps. Assumes nothing.
-use Prim.Native.Nat.{ℕ, zero, suc, _+_, _-_, _*_, _/_, _%_, _^_, _≤_, _<_, min, suc-le-suc}
-use native.Mathlib.Omega.{arith}
-use native.Mathlib.Nat.{add-zero, zero-add, add-comm, one-mul, pow-suc, le-of-eq, le-trans, lt-of-lt-of-le, lt-of-le-of-lt}
-use native.Mathlib.Numerals.{add-one}
-use mathlib.Core.Path.{_≡_, refl, sym, ap, ap₂, _∙_}
-use mathlib.Core.List.{[], _∷_}
-use mathlib.Core.Option.{Option, none, some}
+use Rattle.rules.proofs.Base.{_≤_, _+_, ℕ, _-_, _<_, suc, zero, _*_, _^_, _/_, _%_, min, suc-le-suc, _∙_, refl, sym, ap, _≡_, ap₂, some, none, Option, [], _∷_, add-zero, zero-add, le-trans, one-mul, le-of-eq, lt-of-le-of-lt, add-comm, pow-suc, lt-of-lt-of-le, add-one, arith, length, drop, take, getD, length-drop, drop-of-length-le, length-take, drop-cons, getD-take, eq-eqb, ne-eqb}
 use lib.Bits.{bitAnd, bitOr, and-step, and-self, and-le-l, and-mask, or-shifted}
 use lib.Count.{onesIn, ones, trailingZeros, under, ones-step}
-use lib.ListN.{length, take, drop, getD, length-take, length-drop, drop-of-length-le}
 use lib.Pow.{shl-exact, pow-mono, mod-mod-pow, field}
-use lib.Seq.{drop-cons, getD-take}
-use borrow.Author.Tests.{eq-eqb, ne-eqb}
 use Rattle.rules.specs.Bytes.{Bytes}
-use Rattle.rules.specs.Tokens.{later}
+use Rattle.rules.specs.Places.{plusOne}
 use Rattle.rules.specs.Lines.{newlineBit, newlines, newlineBits, select}
 use Rattle.rules.proofs.Newlines.{bit-le, bits-odd, bits-half, no-bit}
 use Rattle.lines.specs.Bits.{bitPlace}
@@ -105,9 +96,9 @@ cleared zero left n p = refl
 cleared (suc d) left n p = go (n % 2) refl (λ q. cleared d left (n / 2) q)
   where
     sought : ℕ → ℕ → ℕ → Option ℕ
-    sought before b h = elim b [ zero ↦ later (select d before h) | suc c ↦ elim before [ zero ↦ some 0 | suc m ↦ later (select d m h) ] ]
+    sought before b h = elim b [ zero ↦ plusOne (select d before h) | suc c ↦ elim before [ zero ↦ some 0 | suc m ↦ plusOne (select d m h) ] ]
 
-    least-clear : (m : ℕ) → bitAnd n (n - 1) ≡ m * 2 → sought left (bitAnd n (n - 1) % 2) (bitAnd n (n - 1) / 2) ≡ later (select d left m)
+    least-clear : (m : ℕ) → bitAnd n (n - 1) ≡ m * 2 → sought left (bitAnd n (n - 1) % 2) (bitAnd n (n - 1) / 2) ≡ plusOne (select d left m)
     least-clear m e =
         let least : bitAnd n (n - 1) % 2 ≡ 0 = omega arith in
         let half : bitAnd n (n - 1) / 2 ≡ m = omega arith in
@@ -116,19 +107,19 @@ cleared (suc d) left n p = go (n % 2) refl (λ q. cleared d left (n / 2) q)
     go : (b : ℕ) → n % 2 ≡ b → (0 < n / 2 → select d (suc left) (n / 2) ≡ select d left (bitAnd (n / 2) (n / 2 - 1)))
         → sought (suc left) (n % 2) (n / 2) ≡ sought left (bitAnd n (n - 1) % 2) (bitAnd n (n - 1) / 2)
     go zero e r =
-        ap (λ (b : ℕ). sought (suc left) b (n / 2)) e ∙ ap later (r (omega arith))
+        ap (λ (b : ℕ). sought (suc left) b (n / 2)) e ∙ ap plusOne (r (omega arith))
         ∙ sym (least-clear (bitAnd (n / 2) (n / 2 - 1)) (even-cleared n e p))
     go (suc b) e r =
         ap (λ (b : ℕ). sought (suc left) b (n / 2)) e ∙ sym (least-clear (n / 2) (odd-cleared n (omega arith)))
 
 -- with none before it, it is the least one
 least-set : (d n : ℕ) → 0 < n → n < 2 ^ d → select d 0 n ≡ some (trailingZeros d n)
-unfolding select trailingZeros later
+unfolding select trailingZeros plusOne
 least-set zero n p h = absurd (omega arith)
 least-set (suc d) n p h = go (n % 2) refl (λ q. least-set d (n / 2) q (omega (arith, pow-suc 2 d)))
   where
     go : (b : ℕ) → n % 2 ≡ b → (0 < n / 2 → select d 0 (n / 2) ≡ some (trailingZeros d (n / 2)))
-        → elim (n % 2) [ zero ↦ later (select d 0 (n / 2)) | suc c ↦ some 0 ] ≡ some (under (n % 2) (trailingZeros d (n / 2)))
+        → elim (n % 2) [ zero ↦ plusOne (select d 0 (n / 2)) | suc c ↦ some 0 ] ≡ some (under (n % 2) (trailingZeros d (n / 2)))
     go zero e r = rw (e, r (omega arith)) refl
     go (suc b) e r = rw e refl
 
@@ -137,10 +128,10 @@ abbrev Under : ℕ → Option ℕ → Type 0
 Under d none = Unit {0}
 Under d (some i) = i < d
 
-later-under : (d : ℕ) (o : Option ℕ) → Under d o → Under (suc d) (later o)
-unfolding later
-later-under d none h = tt
-later-under d (some i) h = suc-le-suc h
+plus-one-under : (d : ℕ) (o : Option ℕ) → Under d o → Under (suc d) (plusOne o)
+unfolding plusOne
+plus-one-under d none h = tt
+plus-one-under d (some i) h = suc-le-suc h
 
 bit-under : (d before word : ℕ) → Under d (select d before word)
 unfolding select
@@ -148,10 +139,10 @@ bit-under zero before word = tt
 bit-under (suc d) before word = go (word % 2) before (λ b. bit-under d b (word / 2))
   where
     go : (b before : ℕ) → ((m : ℕ) → Under d (select d m (word / 2)))
-        → Under (suc d) (elim b [ zero ↦ later (select d before (word / 2)) | suc c ↦ elim before [ zero ↦ some 0 | suc m ↦ later (select d m (word / 2)) ] ])
-    go zero before h = later-under d (select d before (word / 2)) (h before)
+        → Under (suc d) (elim b [ zero ↦ plusOne (select d before (word / 2)) | suc c ↦ elim before [ zero ↦ some 0 | suc m ↦ plusOne (select d m (word / 2)) ] ])
+    go zero before h = plus-one-under d (select d before (word / 2)) (h before)
     go (suc b) zero h = omega arith
-    go (suc b) (suc m) h = later-under d (select d m (word / 2)) (h m)
+    go (suc b) (suc m) h = plus-one-under d (select d m (word / 2)) (h m)
 
 bit-place : (o : Option ℕ) → Under 64 o → (bitPlace o ≡ 64 → o ≡ none) × ((bitPlace o ≡ 64 → ⊥) → o ≡ some (bitPlace o))
 unfolding bitPlace

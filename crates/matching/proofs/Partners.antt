@@ -1,13 +1,6 @@
 -- Laws of the table of partners. `table-puts` is what a caller of `partners_of` uses: the text replaced by the table is the transliterated one.
 -- Assumes nothing.
-use Prim.Native.Nat.{ℕ, zero, suc, _+_, _≤_, _<_}
-use native.Mathlib.Omega.{arith}
-use mathlib.Core.Path.{_≡_, refl, sym, ap, ap₂, _∙_}
-use mathlib.Core.Bool.{Bool, true, false}
-use mathlib.Core.List.{[], _∷_, _++_}
-use lib.Dec.{ltb, eqb}
-use lib.ListN.{length, getD}
-use borrow.Author.Tests.{ltb-true, ltb-false, lt-ltb, le-ltb, ne-eqb}
+use Rattle.rules.proofs.Base.{_≤_, _+_, ℕ, _<_, suc, zero, _∙_, refl, sym, ap, _≡_, ap₂, true, Bool, false, [], _++_, _∷_, arith, eqb, ltb, length, getD, ne-eqb, ltb-true, ltb-false, lt-ltb, le-ltb}
 use Rattle.rules.specs.Bytes.{Bytes}
 use Rattle.rules.specs.Results.{partner, transliterated}
 use Rattle.matching.specs.Partners.{isAmong, standing, entryOf, entries, partnerTable, entryFor, putBy, replaced}

@@ -1,16 +1,8 @@
 -- Laws of the place where a text first stands, and of what `first_place` answers. Assumes nothing.
-use Prim.Native.Nat.{ℕ, zero, suc, _+_, _≤_, _<_}
-use native.Mathlib.Omega.{arith}
-use native.Mathlib.Nat.{zero-add, suc-add}
-use mathlib.Core.Path.{_≡_, refl, sym, ap, _∙_}
-use mathlib.Core.Bool.{Bool, true, false}
-use mathlib.Core.Option.{Option, none, some}
-use mathlib.Core.List.{[], _∷_}
-use lib.Dec.{leb, eqb}
-use lib.ListN.{length, getD}
-use borrow.Author.Tests.{leb-true, lt-ltb, le-ltb, le-leb, lt-leb, eq-eqb, eqb-true}
+use Rattle.rules.proofs.Base.{_≤_, _+_, ℕ, _<_, suc, zero, _∙_, refl, sym, ap, _≡_, true, Bool, false, some, none, Option, [], _∷_, zero-add, suc-add, arith, eqb, leb, length, getD, eq-eqb, le-leb, leb-true, lt-leb, lt-ltb, eqb-true, le-ltb}
 use Rattle.rules.specs.Bytes.{Bytes}
-use Rattle.rules.specs.Tokens.{beginsWith, later, firstPlace}
+use Rattle.rules.specs.Tokens.{beginsWith, firstPlace}
+use Rattle.rules.specs.Places.{plusOne}
 use Rattle.matching.specs.declared.Place.the-variants.{At, Nowhere, TooLong}
 use Rattle.matching.specs.Places.{placeOf, placed}
 use Rattle.matching.specs.Borders.{Stands}
@@ -57,25 +49,25 @@ unfolding firstPlace
 place-here p [] e = rw (e, firstPlace)
 place-here p (x ∷ xs) e = rw (e, firstPlace)
 
-place-later : (p : Bytes) (x : ℕ) (xs : Bytes) → beginsWith p (x ∷ xs) ≡ false → firstPlace p (x ∷ xs) ≡ later (firstPlace p xs)
+place-later : (p : Bytes) (x : ℕ) (xs : Bytes) → beginsWith p (x ∷ xs) ≡ false → firstPlace p (x ∷ xs) ≡ plusOne (firstPlace p xs)
 unfolding firstPlace
 place-later p x xs e = rw (e, firstPlace)
 
 -- it stands at a and at no place before, or nowhere
 pub place-found : (p t : Bytes) (a : ℕ) → ((b : ℕ) → b < a → Stands p t (length p) b → ⊥) → a + length p ≤ length t → Stands p t (length p) a → firstPlace p t ≡ some a
-unfolding later
+unfolding plusOne
 place-found p t zero n l w = place-here p t (begins-true p t (omega arith) (from-front w))
 place-found p [] (suc a) n l w = absurd (omega arith)
 place-found p (x ∷ xs) (suc a) n l w =
     place-later p x xs (begins-false p (x ∷ xs) (λ k f. n 0 (omega arith) (at-front f)))
-    ∙ ap later (place-found p xs a (λ b h v. n (suc b) (omega arith) (from-rest x v)) (omega arith) (in-rest w))
+    ∙ ap plusOne (place-found p xs a (λ b h v. n (suc b) (omega arith) (from-rest x v)) (omega arith) (in-rest w))
 
 pub place-none : (p t : Bytes) → ((b : ℕ) → b + length p ≤ length t → Stands p t (length p) b → ⊥) → firstPlace p t ≡ none
-unfolding firstPlace later
+unfolding firstPlace plusOne
 place-none p [] n = rw (begins-false p [] (λ k f. n 0 (omega arith) (at-front f)), firstPlace)
 place-none p (x ∷ xs) n =
     place-later p x xs (begins-false p (x ∷ xs) (λ k f. n 0 (omega arith) (at-front f)))
-    ∙ ap later (place-none p xs (λ b h v. n (suc b) (omega arith) (from-rest x v)))
+    ∙ ap plusOne (place-none p xs (λ b h v. n (suc b) (omega arith) (from-rest x v)))
 
 -- ---- what `first_place` answers
 

@@ -1,14 +1,5 @@
 -- Laws of the loops that make the table of partners, and measure and write the text replaced by a table. Assumes nothing.
-use Prim.Native.Nat.{ℕ, suc, _+_, _-_, _≤_, _<_}
-use native.Mathlib.Omega.{arith}
-use native.Mathlib.Numerals.{add-one}
-use mathlib.Core.Path.{_≡_, refl, sym, ap, ap₂, subst, _∙_}
-use mathlib.Core.Bool.{Bool, true, false}
-use mathlib.Core.List.{List, [], _∷_, _++_, append-nil}
-use lib.Dec.{eqb}
-use lib.ListN.{length, take, drop, getD, set, replicate, getD-replicate, drop-of-length-le, length-append, length-set, take-append-drop}
-use lib.Seq.{drop-cons, drop-drop, drop-set-lt, getD-set-same, getD-set-other, take-suc-set, append-snoc, take-all, take-append-seam, length-take-le, ext-getD}
-use borrow.Author.Tests.{ne-eqb, eqb-true, eqb-false}
+use Rattle.rules.proofs.Base.{_≤_, _+_, ℕ, _-_, _<_, suc, _∙_, refl, sym, ap, _≡_, subst, ap₂, true, Bool, false, List, [], _++_, _∷_, append-nil, add-one, arith, eqb, length, drop, take, getD, length-append, set, drop-of-length-le, length-set, replicate, take-append-drop, getD-replicate, length-take-le, drop-cons, drop-drop, take-all, take-suc-set, getD-set-same, getD-set-other, drop-set-lt, take-append-seam, ext-getD, append-snoc, ne-eqb, eqb-true, eqb-false}
 use Rattle.rules.specs.Bytes.{Bytes}
 use Rattle.matching.specs.Partners.{isAmong, entryOf, partnerTable, entryFor, replaced, Fitted}
 use Rattle.matching.proofs.Partners.{entry-none, entry-one, entry-on, entry-off, table-long, table-at, put-byte}

@@ -1,13 +1,5 @@
 -- Laws of borders, and of the two loops that go by them. Assumes nothing.
-use Prim.Native.Nat.{ℕ, _+_, _-_, _≤_, _<_}
-use native.Mathlib.Omega.{arith}
-use native.Mathlib.Nat.{eq-or-lt-of-le}
-use mathlib.Core.Path.{_≡_, refl, sym, ap, subst, _∙_}
-use mathlib.Core.Logic.{⊎-elim}
-use mathlib.Core.Option.{none, some}
-use mathlib.Core.List.{List}
-use lib.ListN.{length, getD, set, length-set}
-use lib.Seq.{getD-set-same, getD-set-other}
+use Rattle.rules.proofs.Base.{_≤_, _+_, ℕ, _-_, _<_, _∙_, refl, sym, ap, _≡_, subst, ⊎-elim, some, none, List, eq-or-lt-of-le, arith, length, getD, set, length-set, getD-set-same, getD-set-other}
 use borrow.Author.Count.{below-more}
 use Rattle.rules.specs.Bytes.{Bytes}
 use Rattle.rules.specs.Tokens.{firstPlace}

@@ -1,21 +1,8 @@
 -- Laws of digits that are read, and of the limits on what they write. Assumes nothing.
-use Prim.Native.Nat.{ℕ, zero, suc, _+_, _-_, _*_, _%_, _^_, _≤_, _<_}
-use native.Mathlib.Omega.{arith}
-use native.Mathlib.Nat.{le-of-eq, mul-le-mul, mul-le-mul-left}
-use native.Mathlib.Numerals.{add-one}
-use mathlib.Core.Path.{_≡_, refl, sym, ap, subst, _∙_}
-use mathlib.Core.List.{[], _∷_}
-use mathlib.Core.Bool.{Bool, true, false}
-use mathlib.Core.Option.{Option, none, some}
-use mathlib.Core.Logic.{_⊎_, inl, inr}
-use lib.Dec.{leb, ltb}
-use lib.IntN.{ℤ, pos, negℤ}
-use lib.ListN.{length, take, drop, getD, drop-of-length-le, length-drop}
-use lib.Seq.{drop-cons, take-all}
-use borrow.Author.Tests.{le-leb, lt-leb, leb-true, leb-false, lt-ltb, le-ltb, ltb-true, ltb-false, eq-eqb, ne-eqb}
+use Rattle.rules.proofs.Base.{_≤_, _+_, ℕ, _-_, _<_, suc, zero, _*_, _^_, _%_, _∙_, refl, sym, ap, _≡_, subst, true, Bool, false, _⊎_, inl, inr, some, none, Option, [], _∷_, mul-le-mul, le-of-eq, mul-le-mul-left, add-one, arith, leb, ltb, pos, ℤ, negℤ, length, drop, take, getD, length-drop, drop-of-length-le, drop-cons, take-all, eq-eqb, ne-eqb, le-leb, leb-true, lt-leb, leb-false, ltb-true, ltb-false, lt-ltb, le-ltb}
 use Rattle.rules.specs.Bytes.{Bytes, isDigit, isLower, isUpper}
 use Rattle.rules.specs.Words.{wrapped}
-use Rattle.rules.specs.Numerals.{digitWorth, behind, natural, upTo, asSigned, number}
+use Rattle.rules.specs.Numerals.{digitWorth, naturalFrom, natural, upTo, asSigned, number}
 use Rattle.rules.proofs.Classes.{digit-bounds, upper-bounds, lower-bounds}
 use Rattle.numerals.specs.declared.Natural.{Natural}
 use Rattle.numerals.specs.declared.Natural.the-variants as found
@@ -113,36 +100,36 @@ limited l o h e = rw (e, found-of (upTo 4294967295 o)) (narrowed l 4294967295 h 
 -- the first of some bytes: no digit, one of the radix, or one that is worth too much
 module _ (radix v x : ℕ) (xs : Bytes) where
   by-worth : (o : Option ℕ) → digitWorth x ≡ o
-      → behind radix v (x ∷ xs) ≡ elim o [ none ↦ none | some d ↦ elim (ltb d radix) [ true ↦ behind radix (v * radix + d) xs | false ↦ none ] ]
-  unfolding behind
+      → naturalFrom radix v (x ∷ xs) ≡ elim o [ none ↦ none | some d ↦ elim (ltb d radix) [ true ↦ naturalFrom radix (v * radix + d) xs | false ↦ none ] ]
+  unfolding naturalFrom
   by-worth o e = rw (← e)
 
-  digit-none : digitWorth x ≡ none → behind radix v (x ∷ xs) ≡ none
+  digit-none : digitWorth x ≡ none → naturalFrom radix v (x ∷ xs) ≡ none
   digit-none e = by-worth none e
 
   module _ (d : ℕ) (e : digitWorth x ≡ some d) where
-    digit-on : d < radix → behind radix v (x ∷ xs) ≡ behind radix (v * radix + d) xs
+    digit-on : d < radix → naturalFrom radix v (x ∷ xs) ≡ naturalFrom radix (v * radix + d) xs
     digit-on h = by-worth (some d) e ∙ rw (lt-ltb d radix h)
 
-    digit-off : radix ≤ d → behind radix v (x ∷ xs) ≡ none
+    digit-off : radix ≤ d → naturalFrom radix v (x ∷ xs) ≡ none
     digit-off h = by-worth (some d) e ∙ rw (le-ltb d radix h)
 
 -- what is beyond the limit stays there
-stays-beyond : (l radix v : ℕ) (xs : Bytes) → l < v → upTo l (behind radix v xs) ≡ none
-unfolding behind upTo
+stays-beyond : (l radix v : ℕ) (xs : Bytes) → l < v → upTo l (naturalFrom radix v xs) ≡ none
+unfolding naturalFrom upTo
 stays-beyond l radix v [] h = beyond-limit l v h
 stays-beyond l radix v (x ∷ xs) h = go (digitWorth x) refl (λ d. stays-beyond l radix (v * radix + d) xs)
   where
-    on : (d : ℕ) → digitWorth x ≡ some d → (t : Bool) → ltb d radix ≡ t → (l < v * radix + d → upTo l (behind radix (v * radix + d) xs) ≡ none)
-        → upTo l (behind radix v (x ∷ xs)) ≡ none
+    on : (d : ℕ) → digitWorth x ≡ some d → (t : Bool) → ltb d radix ≡ t → (l < v * radix + d → upTo l (naturalFrom radix (v * radix + d) xs) ≡ none)
+        → upTo l (naturalFrom radix v (x ∷ xs)) ≡ none
     on d e true t f =
         let k = ltb-true d radix t in
         let m : v * 1 ≤ v * radix = mul-le-mul-left v (omega arith) in
         rw (digit-on radix v x xs d e k) (f (omega arith))
     on d e false t f = rw (digit-off radix v x xs d e (ltb-false d radix t))
 
-    go : (o : Option ℕ) → digitWorth x ≡ o → ((d : ℕ) → l < v * radix + d → upTo l (behind radix (v * radix + d) xs) ≡ none)
-        → upTo l (behind radix v (x ∷ xs)) ≡ none
+    go : (o : Option ℕ) → digitWorth x ≡ o → ((d : ℕ) → l < v * radix + d → upTo l (naturalFrom radix (v * radix + d) xs) ≡ none)
+        → upTo l (naturalFrom radix v (x ∷ xs)) ≡ none
     go none e f = rw (digit-none radix v x xs e)
     go (some d) e f = on d e (ltb d radix) refl (f d)
 
@@ -157,7 +144,7 @@ fits-wide {v} {radix} {d} hv hr hd =
 -- one byte, worth d, behind the digits of v
 module _ (radix v x d : ℕ) (e : d ≡ worthOf (digitWorth x)) where
   -- it is no digit, or one that is worth too much
-  off : (36 ≤ d) ⊎ (radix ≤ d) → (o : Option ℕ) → digitWorth x ≡ o → behind radix v (x ∷ []) ≡ none
+  off : (36 ≤ d) ⊎ (radix ≤ d) → (o : Option ℕ) → digitWorth x ≡ o → naturalFrom radix v (x ∷ []) ≡ none
   unfolding Small
   off h none w = digit-none radix v x [] w
   off (inl h) (some n) w =
@@ -168,7 +155,7 @@ module _ (radix v x d : ℕ) (e : d ≡ worthOf (digitWorth x)) where
       let f : d ≡ n = e ∙ worth-some w in
       digit-off radix v x [] n w (omega arith)
 
-  pub no-digit : (36 ≤ d) ⊎ (radix ≤ d) → found.NoNumber ≡ naturalOf (upTo 4294967295 (behind radix v (x ∷ [])))
+  pub no-digit : (36 ≤ d) ⊎ (radix ≤ d) → found.NoNumber ≡ naturalOf (upTo 4294967295 (naturalFrom radix v (x ∷ [])))
   unfolding naturalOf upTo
   no-digit h = rw (off h (digitWorth x) refl)
 
@@ -180,12 +167,12 @@ module _ (radix v x d : ℕ) (e : d ≡ worthOf (digitWorth x)) where
         go none w = let f : d ≡ 36 = e ∙ worth-none w in absurd (omega arith)
         go (some n) w = let f : d ≡ n = e ∙ worth-some w in w ∙ ap some (sym f)
 
-    pub one-digit : v * radix + d ≤ 4294967295 → found.Number (v * radix + d) ≡ naturalOf (upTo 4294967295 (behind radix v (x ∷ [])))
-    unfolding naturalOf behind
+    pub one-digit : v * radix + d ≤ 4294967295 → found.Number (v * radix + d) ≡ naturalOf (upTo 4294967295 (naturalFrom radix v (x ∷ [])))
+    unfolding naturalOf naturalFrom
     one-digit l = rw (digit-on radix v x [] d its-worth h, within-limit 4294967295 (v * radix + d) l)
 
-    pub one-beyond : 4294967295 < v * radix + d → found.NoNumber ≡ naturalOf (upTo 4294967295 (behind radix v (x ∷ [])))
-    unfolding naturalOf behind
+    pub one-beyond : 4294967295 < v * radix + d → found.NoNumber ≡ naturalOf (upTo 4294967295 (naturalFrom radix v (x ∷ [])))
+    unfolding naturalOf naturalFrom
     one-beyond l = rw (digit-on radix v x [] d its-worth h, beyond-limit 4294967295 (v * radix + d) l)
 
 -- go on with what was found
@@ -195,16 +182,16 @@ then-on (some n) f = f n
 
 module _ (l radix v x : ℕ) (xs : Bytes) where
   -- what digits write up to a limit: of the first, and then of the others behind it
-  by-digits : upTo l (behind radix v (x ∷ xs)) ≡ then-on (upTo l (behind radix v (x ∷ []))) (λ n. upTo l (behind radix n xs))
-  unfolding then-on upTo behind
+  by-digits : upTo l (naturalFrom radix v (x ∷ xs)) ≡ then-on (upTo l (naturalFrom radix v (x ∷ []))) (λ n. upTo l (naturalFrom radix n xs))
+  unfolding then-on upTo naturalFrom
   by-digits = go (digitWorth x) refl
     where
-      limited-on : (n : ℕ) (t : Bool) → leb n l ≡ t → upTo l (behind radix n xs) ≡ then-on (upTo l (some n)) (λ m. upTo l (behind radix m xs))
+      limited-on : (n : ℕ) (t : Bool) → leb n l ≡ t → upTo l (naturalFrom radix n xs) ≡ then-on (upTo l (some n)) (λ m. upTo l (naturalFrom radix m xs))
       limited-on n true e = rw (within-limit l n (leb-true n l e))
       limited-on n false e = rw (beyond-limit l n (leb-false n l e)) (stays-beyond l radix n xs (leb-false n l e))
 
       on : (d : ℕ) → digitWorth x ≡ some d → (t : Bool) → ltb d radix ≡ t
-          → upTo l (behind radix v (x ∷ xs)) ≡ then-on (upTo l (behind radix v (x ∷ []))) (λ m. upTo l (behind radix m xs))
+          → upTo l (naturalFrom radix v (x ∷ xs)) ≡ then-on (upTo l (naturalFrom radix v (x ∷ []))) (λ m. upTo l (naturalFrom radix m xs))
       on d e true t =
           let h = ltb-true d radix t in
           rw (digit-on radix v x xs d e h, digit-on radix v x [] d e h) (limited-on (v * radix + d) (leb (v * radix + d) l) refl)
@@ -212,13 +199,13 @@ module _ (l radix v x : ℕ) (xs : Bytes) where
           let h = ltb-false d radix t in
           rw (digit-off radix v x xs d e h, digit-off radix v x [] d e h)
 
-      go : (o : Option ℕ) → digitWorth x ≡ o → upTo l (behind radix v (x ∷ xs)) ≡ then-on (upTo l (behind radix v (x ∷ []))) (λ m. upTo l (behind radix m xs))
+      go : (o : Option ℕ) → digitWorth x ≡ o → upTo l (naturalFrom radix v (x ∷ xs)) ≡ then-on (upTo l (naturalFrom radix v (x ∷ []))) (λ m. upTo l (naturalFrom radix m xs))
       go none e = rw (digit-none radix v x xs e, digit-none radix v x [] e)
       go (some d) e = on d e (ltb d radix) refl
 
 -- what the loop of `read_natural` keeps: the whole is what the rest writes behind v
 abbrev pub Reads : ℕ → Bytes → ℕ → ℕ → Type 0
-Reads radix s v i = upTo 4294967295 (behind radix v (drop i s)) ≡ upTo 4294967295 (natural radix s)
+Reads radix s v i = upTo 4294967295 (naturalFrom radix v (drop i s)) ≡ upTo 4294967295 (natural radix s)
 
 pub reads-first : (radix : ℕ) (s : Bytes) → (length s ≡ 0 → ⊥) → Reads radix s 0 0
 unfolding natural
@@ -232,13 +219,13 @@ reads-none radix (x ∷ xs) h = absurd (omega arith)
 
 module _ (radix : ℕ) (s : Bytes) (v i : ℕ) (w : Reads radix s v i) where
   pub reads-end : length s ≤ i → v ≤ 4294967295 → found.Number v ≡ naturalOf (upTo 4294967295 (natural radix s))
-  unfolding naturalOf behind
+  unfolding naturalOf naturalFrom
   reads-end h k = rw (← w, drop-of-length-le s h, within-limit 4294967295 v k)
 
-  module _ (h : i < length s) {r : Natural} (e : r ≡ naturalOf (upTo 4294967295 (behind radix v (getD s i 0 ∷ [])))) where
-    reads-more : upTo 4294967295 (natural radix s) ≡ then-on (foundIn r) (λ n. upTo 4294967295 (behind radix n (drop (i + 1) s)))
+  module _ (h : i < length s) {r : Natural} (e : r ≡ naturalOf (upTo 4294967295 (naturalFrom radix v (getD s i 0 ∷ [])))) where
+    reads-more : upTo 4294967295 (natural radix s) ≡ then-on (foundIn r) (λ n. upTo 4294967295 (naturalFrom radix n (drop (i + 1) s)))
     reads-more =
-        rw (← w, drop-cons s i 0 h, add-one i, e, found-of (upTo 4294967295 (behind radix v (getD s i 0 ∷ []))))
+        rw (← w, drop-cons s i 0 h, add-one i, e, found-of (upTo 4294967295 (naturalFrom radix v (getD s i 0 ∷ []))))
         (by-digits 4294967295 radix v (getD s i 0) (drop (suc i) s))
 
     pub reads-on : {n : ℕ} → r ≡ found.Number n → Reads radix s n (i + 1)

@@ -1,16 +1,5 @@
 -- Laws of digits that are counted and written. Assumes nothing.
-use Prim.Native.Nat.{ℕ, zero, suc, _+_, _-_, _/_, _%_, _≤_, _<_, max}
-use native.Mathlib.Omega.{arith}
-use native.Mathlib.Nat.{div-lt-self}
-use native.Mathlib.Numerals.{add-one}
-use mathlib.Core.Path.{_≡_, refl, sym, ap, _∙_}
-use mathlib.Core.List.{[], _∷_, _++_, append-assoc, append-nil}
-use mathlib.Core.Bool.{Bool, true, false, _&&_}
-use lib.Dec.{ltb, leb}
-use lib.IntN.{ℤ, pos, negsuc, natAbs}
-use lib.ListN.{length, take, drop, set, replicate, length-append, length-set, length-take, length-drop, length-replicate, replicate-append-replicate, take-append-drop, drop-of-length-le}
-use lib.Seq.{set-split, drop-at, take-at, length-take-le, drop-length, take-length, take-set-le, take-take, take-suc-set}
-use borrow.Author.Tests.{lt-ltb, le-ltb, ltb-true, ltb-false, leb-true, eq-eqb, ne-eqb}
+use Rattle.rules.proofs.Base.{_≤_, _+_, ℕ, _-_, _<_, suc, zero, _/_, _%_, max, _∙_, refl, sym, ap, _≡_, true, Bool, false, _&&_, [], _++_, _∷_, append-assoc, append-nil, div-lt-self, add-one, arith, leb, ltb, pos, ℤ, negsuc, natAbs, length, drop, take, length-append, length-drop, set, drop-of-length-le, length-set, length-take, replicate, take-append-drop, length-replicate, replicate-append-replicate, length-take-le, take-suc-set, take-at, drop-at, set-split, take-take, take-set-le, drop-length, take-length, eq-eqb, ne-eqb, leb-true, ltb-true, ltb-false, lt-ltb, le-ltb}
 use borrow.Rule.Slice.PartMut.{putMid}
 use Rattle.rules.specs.Bytes.{Bytes}
 use Rattle.rules.specs.Words.{signedValue}

@@ -6,7 +6,7 @@ ghost use Prim.Native.Nat.{ℕ, _+_, _-_, _≤_, _<_, max};
 ghost use lib.IntN.{pos, negℤ, natAbs};
 ghost use lib.ListN.{length, take, replicate};
 ghost use Rattle.rules.specs.Words.{largest, largestBits, signedValue};
-ghost use Rattle.rules.specs.Numerals.{digitWorth, behind, natural, upTo, asSigned, number, digitByte, digitsIn, zeroFilled, writtenIn, decimal};
+ghost use Rattle.rules.specs.Numerals.{digitWorth, naturalFrom, natural, upTo, asSigned, number, digitByte, digitsIn, zeroFilled, writtenIn, decimal};
 ghost use Rattle.numerals.specs.Answers.{naturalOf, foundIn, worthOf, decimalOf, isRadix, lengthOf, Written};
 
 // The largest number, and the bits of the lowest.
@@ -54,7 +54,7 @@ fn digit_worth(b: u8) -> u32
 
 // The byte b behind the digits of v.
 fn one_more(radix: u32, v: u32, b: u8) -> Natural
-    ensures { λ r. ⌜ r ≡ naturalOf (upTo largestBits (behind radix v (b ∷ []))) ⌝ }
+    ensures { λ r. ⌜ r ≡ naturalOf (upTo largestBits (naturalFrom radix v (b ∷ []))) ⌝ }
 {
     let d = digit_worth(b);
     if 36 <= d {

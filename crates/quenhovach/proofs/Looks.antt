@@ -1,8 +1,5 @@
 -- What the calls of the index of lines from C make of what its functions promise. Assumes nothing.
-use Prim.Native.Nat.{ℕ}
-use mathlib.Core.Path.{_≡_, refl, ap, subst, _∙_}
-use mathlib.Core.List.{List}
-use lib.ListN.{length}
+use Rattle.rules.proofs.Base.{ℕ, _∙_, refl, ap, _≡_, subst, List, length}
 use Rattle.rules.specs.Bytes.{Bytes}
 use Rattle.rules.specs.declared.IndexAnswer.{IndexAnswer}
 use Rattle.rules.specs.Lines.{indexNumber, indexValue, judgedIndex, building, heldBy, wordsOf, totalsOf, Indexed, lineOf, startOf, countedLine, countedStart}

@@ -1,8 +1,5 @@
 -- What a call from C makes of what the expander promises.
-use mathlib.Core.Path.{_≡_, ap, _∙_}
-use mathlib.Core.List.{List}
-use Prim.Native.Nat.{ℕ}
-use lib.ListN.{getD}
+use Rattle.rules.proofs.Base.{ℕ, _∙_, ap, _≡_, List, getD}
 use Rattle.rules.specs.Answers.{numbers}
 use Rattle.rules.specs.Bytes.{Bytes}
 use Rattle.rules.specs.Contract.{Buffers, Expanded, reportOf}

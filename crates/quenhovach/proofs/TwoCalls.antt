@@ -1,8 +1,6 @@
 -- Demand 3 of `quenhovach_expand` itself, in what it gives back and the six numbers of its report: room never shapes text. As for `expand`, it is stated over what
 -- a caller learns from the proved contract.
-use Prim.Native.Nat.{ℕ}
-use mathlib.Core.Path.{_≡_, refl, subst}
-use mathlib.Core.List.{List}
+use Rattle.rules.proofs.Base.{ℕ, refl, _≡_, subst, List}
 use borrow.Fn.World.{ArgsD, ResD}
 use borrow.Fn.Kinds.{endedOf}
 use contract.Lifetimes.{Lfts}
@@ -74,13 +72,13 @@ module _ (κs : Lfts 9) where
 
 -- the letter's three sentences, as one statement about two calls on one text, whatever their buffers held: in the second nothing is smaller,
 -- and none of its lengths is above 65,536 bytes
-pub room-never-shapes-reports :
+pub reports-monotone-in-room :
     (κs κs′ : Lfts 9) (a : Arguments κs) (a′ : Arguments κs′) (n : ResD signature κs) (n′ : ResD signature κs′) (x : Lasting κs) (x′ : Lasting κs′)
     → Learnt κs a n x → Learnt κs′ a′ n′ x′ → textOf κs′ a′ ≡ textOf κs a → Lendable (settingOf (lentTo κs′ a′) (budgetOf κs′ a′))
     → NowhereSmaller (settingOf (lentTo κs a) (budgetOf κs a)) (settingOf (lentTo κs′ a′) (budgetOf κs′ a′))
     → AgreeInNumbers (settingOf (lentTo κs a) (budgetOf κs a)) (settingOf (lentTo κs′ a′) (budgetOf κs′ a′)) n n′ (reportIn κs x) (reportIn κs′ x′) (leftFrom κs x)
     (leftFrom κs′ x′)
-room-never-shapes-reports κs κs′ a a′ n n′ x x′ first second same lendable wider =
+reports-monotone-in-room κs κs′ a a′ n n′ x x′ first second same lendable wider =
     reports-agree (textOf κs a) (budgetOf κs a) (budgetOf κs′ a′) (lentTo κs a) (leftFrom κs x) (lentTo κs′ a′) (leftFrom κs′ x′) n n′ (reportIn κs x) (reportIn κs′ x′)
     lendable wider first
     (subst (λ (t : Bytes). Reported t (budgetOf κs′ a′) (lentTo κs′ a′) (leftFrom κs′ x′) n′ (reportIn κs′ x′)) same second)

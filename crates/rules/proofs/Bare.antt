@@ -35,7 +35,7 @@ pub listed-are-predefined : (allAmong predefinedNames plainUnlessOpened ≡ true
 unfolding book
 listed-are-predefined = (refl, refl)
 
--- ---- stretch by stretch of the numbers, as the expander asks
+-- ---- range by range of the numbers, as builtins asks
 
 -- a test answers v at each of the n numbers from k on
 abbrev steady : (ℕ → Bool) → Bool → ℕ → ℕ → Bool

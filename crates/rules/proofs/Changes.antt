@@ -23,7 +23,7 @@ use Rattle.rules.specs.State.{Call, State, Outcome, next, stop, refused,
 use Rattle.rules.specs.Arguments.{arg, numberOr, bounded}
 use Rattle.rules.specs.Results.{Result, yields, fails}
 use Rattle.rules.specs.Macros.{giving, marking, callChangecom, callChangequote, callDecr, naming, callDefine, callDefn, callDivert, callDivnum, callDnl, callErrprint, callEval, callIfdef, callIfelse, callIncr, callIndex, callLen, callM4exit, callM4wrap, callPopdef, callPushdef, callShift, callSubstr, callTranslit, callUndefine, undivertNumbers, callUndivert, callNothing, macros, perform, performed, called}
-use Rattle.rules.specs.Step.{NameUse, plain, opening, bare, nameUse, atEnd, delivered, argumentCount, opened, named, closed, commaMet, rightMet, commaAt, otherMet, inCall, singleByte, act, reacted, step}
+use Rattle.rules.specs.Step.{NameUse, plain, opening, bare, nameUse, atEnd, delivered, argumentCount, opened, named, closed, commaMet, rightMet, commaAtDepth, otherMet, inCall, singleByte, act, reacted, step}
 use Rattle.rules.specs.Changes.{Calling, bareCall, closedCall, rightCall, byteCall, tokenCall, readCall, callOf, divertChanges, exitChanges, undivertChanges, noChanges, macroChanges, callChanges, ownChanges, nameChanges, endChanges, tokenChanges, readChanges, callOr, changesOf, Makes}
 
 -- ---- streams that are moved
@@ -193,8 +193,8 @@ module _ (c : Call) (cs : List Call) (s : State) where
   right-makes zero = closed-makes (meaningOf (c .name) (s .table))
   right-makes (suc d) = goes-on _ refl
 
-  comma-makes : (d : ℕ) → Makes [] (s .streams) (commaAt d c cs s)
-  unfolding commaAt commaMet withCalls changedInTurn
+  comma-makes : (d : ℕ) → Makes [] (s .streams) (commaAtDepth d c cs s)
+  unfolding commaAtDepth commaMet withCalls changedInTurn
   comma-makes zero = tested (leb 256 (argumentCount (c ∷ cs))) (refuses _) (goes-on _ refl)
   comma-makes (suc d) = goes-on _ refl
 
@@ -208,7 +208,7 @@ module _ (c : Call) (cs : List Call) (s : State) where
     where
       behind : (y z : Bool)
           → Makes (callOr (elim y [ true ↦ rightCall (c .depth) c cs s | false ↦ none ]) []) (s .streams)
-          (elim y [ true ↦ rightMet (c .depth) c cs s | false ↦ elim z [ true ↦ commaAt (c .depth) c cs s | false ↦ otherMet x c cs s ] ])
+          (elim y [ true ↦ rightMet (c .depth) c cs s | false ↦ elim z [ true ↦ commaAtDepth (c .depth) c cs s | false ↦ otherMet x c cs s ] ])
       behind true z = right-makes (c .depth)
       behind false true = comma-makes (c .depth)
       behind false false = other-makes x

@@ -14,7 +14,8 @@ use Rattle.rules.specs.declared.Reading.{Reading}
 use Rattle.rules.specs.declared.Reading.the-variants.{Is, OpenQuote, OpenComment}
 use Rattle.rules.specs.Bytes.{Bytes, sameBytes, beginsName, nameLength}
 use Rattle.rules.specs.Marks.{MarkTexts, newlineMark}
-use Rattle.rules.specs.Tokens.{beginsWith, atMark, later, firstPlace, QuoteEnd, closesAt, leftOpen, quoteEnd, commentToEnd, commentRead, readComment, quoteRead, readQuoted, readToken}
+use Rattle.rules.specs.Tokens.{beginsWith, atMark, firstPlace, QuoteEnd, closesAt, leftOpen, quoteEnd, commentToEnd, commentRead, readComment, quoteRead, readQuoted, readToken}
+use Rattle.rules.specs.Places.{plusOne}
 
 -- ---- where a newline ends comments, none is left open
 
@@ -76,28 +77,28 @@ comment-first m [] e = absurd (true≢false (sym e ∙ no-mark (m .beginComment)
     no-mark (x ∷ xs) = refl
 comment-first m (x ∷ xs) e = rw (e, readToken)
 
-later-none : (o : Option ℕ) → later o ≡ none → o ≡ none
-unfolding later
-later-none none e = refl
-later-none (some n) e = absurd (Option·some-ne-none (suc n) e)
+plus-one-none : (o : Option ℕ) → plusOne o ≡ none → o ≡ none
+unfolding plusOne
+plus-one-none none e = refl
+plus-one-none (some n) e = absurd (Option·some-ne-none (suc n) e)
 
 newline-last : (s : Bytes) → firstPlace newlineMark s ≡ none → firstPlace newlineMark (s ++ newlineMark) ≡ some (length s)
-unfolding firstPlace beginsWith later
+unfolding firstPlace beginsWith plusOne
 newline-last [] e = refl
-newline-last (x ∷ xs) e = go (eqb 10 x) e (λ q. newline-last xs (later-none (firstPlace newlineMark xs) q))
+newline-last (x ∷ xs) e = go (eqb 10 x) e (λ q. newline-last xs (plus-one-none (firstPlace newlineMark xs) q))
   where
     here : Bool → Bool
     here t = elim t [ true ↦ true | false ↦ false ]
 
     -- where a newline first stands, by the test of the byte x and where one stands behind it
     placed : Bool → Option ℕ → Option ℕ
-    placed t o = elim (here t) [ true ↦ some 0 | false ↦ later o ]
+    placed t o = elim (here t) [ true ↦ some 0 | false ↦ plusOne o ]
 
     go : (t : Bool) → placed t (firstPlace newlineMark xs) ≡ none
-        → (later (firstPlace newlineMark xs) ≡ none → firstPlace newlineMark (xs ++ newlineMark) ≡ some (length xs))
+        → (plusOne (firstPlace newlineMark xs) ≡ none → firstPlace newlineMark (xs ++ newlineMark) ≡ some (length xs))
         → placed t (firstPlace newlineMark (xs ++ newlineMark)) ≡ some (suc (length xs))
     go true q on = absurd (Option·some-ne-none 0 q)
-    go false q on = ap later (on q)
+    go false q on = ap plusOne (on q)
 
 -- a comment that is all that is ahead
 module _ (m : MarkTexts) (full : 1 ≤ length (m .beginComment)) (remark : Bytes) where

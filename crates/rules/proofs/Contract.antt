@@ -1,4 +1,4 @@
--- Room never shapes text, of two calls of any function that promises `Expanded`, whatever the buffers held before.
+-- Two calls of any function that promises `Expanded` are monotone in room and budget, whatever the buffers held before.
 use Prim.Native.Nat.{ℕ}
 use mathlib.Core.Path.{_≡_, sym, ap, _∙_}
 use mathlib.Core.List.{[], _∷_}
@@ -9,16 +9,16 @@ use Rattle.rules.specs.Bytes.{Bytes}
 use Rattle.rules.specs.Answers.{numbers}
 use Rattle.rules.specs.State.{freshStart}
 use Rattle.rules.specs.Run.{Setting, Ended}
-use Rattle.rules.specs.Room.{Lendable, NowhereSmaller, Unshaped}
+use Rattle.rules.specs.Room.{Lendable, NowhereSmaller, Monotone}
 use Rattle.rules.specs.Contract.{Buffers, settingOf, outputOf, errorsOf, reportOf, fronted, leftBy, runIn, Expanded, written, Agree}
-use Rattle.rules.proofs.Room.{room-never-shapes-text}
+use Rattle.rules.proofs.Room.{monotone-in-room}
 
 -- the written bytes are those of the run
 pub written-run : (e : Ended) (b : Buffers) → written (reportOf e) (leftBy e b) ≡ outputOf e ∷ errorsOf e ∷ []
 unfolding written reportOf leftBy fronted
 written-run e b = rw (take-append-seam (outputOf e) (drop (length (outputOf e)) (b .output)), take-append-seam (errorsOf e) (drop (length (errorsOf e)) (b .errors)))
 
-agree : {a b : Setting} (r t : Ended) (x y : Buffers) → Unshaped a b r t → Agree a b (reportOf r) (reportOf t) (leftBy r x) (leftBy t y)
+agree : {a b : Setting} (r t : Ended) (x y : Buffers) → Monotone a b r t → Agree a b (reportOf r) (reportOf t) (leftBy r x) (leftBy t y)
 unfolding reportOf
 agree r t x y u =
     record {
@@ -39,4 +39,4 @@ pub calls-agree :
 unfolding runIn
 calls-agree text n m b x b′ x′ r t l w e f =
     rw (e .report, e .buffers, f .report, f .buffers)
-    (agree (runIn text b n) (runIn text b′ m) b b′ (room-never-shapes-text (freshStart text) (settingOf b n) (settingOf b′ m) l w))
+    (agree (runIn text b n) (runIn text b′ m) b b′ (monotone-in-room (freshStart text) (settingOf b n) (settingOf b′ m) l w))

@@ -1,4 +1,5 @@
 -- The laws of the book of rules.
+pub mod Base
 pub mod Book
 pub mod Classes
 pub mod Bare

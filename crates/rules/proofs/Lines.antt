@@ -14,7 +14,7 @@ use borrow.Author.Tests.{ltb-true, ltb-false, leb-true}
 use Rattle.rules.specs.declared.IndexAnswer.{IndexAnswer}
 use Rattle.rules.specs.declared.IndexAnswer.the-variants.{Built, Line, Start, TooLong, Beyond, NoRoom}
 use Rattle.rules.specs.Bytes.{Bytes}
-use Rattle.rules.specs.Tokens.{later}
+use Rattle.rules.specs.Places.{plusOne}
 use Rattle.rules.specs.Run.{mostLent}
 use Rattle.rules.specs.Contract.{fronted}
 use Rattle.rules.specs.Lines.{indexNumber, wordCount, newlines, newlineBits, wordAt, totalAt, each, wordsOf, totalsOf, hasRoom, judgedIndex, building, heldBy, Indexed, lineIn, lineOf, lastBelow, select, behindBit, startInWord, startIn, startOf, countedLine, behindNewline, startAt, countedStart}
@@ -127,8 +127,8 @@ module _ (text : Bytes) (words totals : List ℕ) where
         ∙ ap (λ (n : ℕ). newlines (take n text)) whole)
 
     -- the word's bit, and the place in the text that it stands for
-    bit-at : (k : ℕ) (o : Option ℕ) → behindBit k o ≡ startAt (farther (k * 64) (later o))
-    unfolding behindBit startAt farther later
+    bit-at : (k : ℕ) (o : Option ℕ) → behindBit k o ≡ startAt (farther (k * 64) (plusOne o))
+    unfolding behindBit startAt farther plusOne
     bit-at k none = refl
     bit-at k (some i) = ap Start (omega arith)
 

@@ -11,7 +11,7 @@ use lib.Dec.{eqb}
 use lib.ListN.{length, take, drop}
 use lib.Seq.{take-add}
 use Rattle.rules.specs.Bytes.{Bytes}
-use Rattle.rules.specs.Tokens.{later}
+use Rattle.rules.specs.Places.{plusOne}
 use Rattle.rules.specs.Lines.{newlineBit, newlines, newlineBits, select, behindNewline}
 
 -- ---- the bits of a text
@@ -73,36 +73,36 @@ unfolding farther
 farther-zero none = refl
 farther-zero (some p) = ap some (zero-add p)
 
-farther-later : (a : ℕ) (o : Option ℕ) → later (farther a o) ≡ farther (suc a) o
-unfolding farther later
+farther-later : (a : ℕ) (o : Option ℕ) → plusOne (farther a o) ≡ farther (suc a) o
+unfolding farther plusOne
 farther-later a none = refl
 farther-later a (some p) = ap some (omega arith)
 
 -- a word without set bits
 pub no-bit : (d m : ℕ) → select d m 0 ≡ none
-unfolding select later
+unfolding select plusOne
 no-bit zero m = refl
-no-bit (suc d) m = ap later (no-bit d m)
+no-bit (suc d) m = ap plusOne (no-bit d m)
 
 -- `behindNewline` by the first byte's bit and the bytes behind it
 abbrev onBit : ℕ → ℕ → Bytes → Option ℕ
-onBit b m xs = elim b [ zero ↦ later (behindNewline m xs) | suc c ↦ elim m [ zero ↦ some 1 | suc k ↦ later (behindNewline k xs) ] ]
+onBit b m xs = elim b [ zero ↦ plusOne (behindNewline m xs) | suc c ↦ elim m [ zero ↦ some 1 | suc k ↦ plusOne (behindNewline k xs) ] ]
 
 -- the bit in a word says where the newline stands; the place behind it is one more
-pub bit-behind : (d m : ℕ) (xs : Bytes) → later (select d m (newlineBits xs)) ≡ behindNewline m (take d xs)
-unfolding select later behindNewline newlineBits
+pub bit-behind : (d m : ℕ) (xs : Bytes) → plusOne (select d m (newlineBits xs)) ≡ behindNewline m (take d xs)
+unfolding select plusOne behindNewline newlineBits
 bit-behind zero m xs = refl
-bit-behind (suc d) m [] = ap later (no-bit (suc d) m)
+bit-behind (suc d) m [] = ap plusOne (no-bit (suc d) m)
 bit-behind (suc d) m (x ∷ xs) =
-    ap₂ (λ (a b : ℕ). later (elim a [ zero ↦ later (select d m b) | suc c ↦ elim m [ zero ↦ some 0 | suc k ↦ later (select d k b) ] ])) (bits-odd x xs) (bits-half x xs)
+    ap₂ (λ (a b : ℕ). plusOne (elim a [ zero ↦ plusOne (select d m b) | suc c ↦ elim m [ zero ↦ some 0 | suc k ↦ plusOne (select d k b) ] ])) (bits-odd x xs) (bits-half x xs)
     ∙ first (newlineBit x) m (λ k. bit-behind d k xs)
   where
-    first : (b m : ℕ) → ((k : ℕ) → later (select d k (newlineBits xs)) ≡ behindNewline k (take d xs))
-        → later (elim b [ zero ↦ later (select d m (newlineBits xs)) | suc c ↦ elim m [ zero ↦ some 0 | suc k ↦ later (select d k (newlineBits xs)) ] ])
+    first : (b m : ℕ) → ((k : ℕ) → plusOne (select d k (newlineBits xs)) ≡ behindNewline k (take d xs))
+        → plusOne (elim b [ zero ↦ plusOne (select d m (newlineBits xs)) | suc c ↦ elim m [ zero ↦ some 0 | suc k ↦ plusOne (select d k (newlineBits xs)) ] ])
         ≡ onBit b m (take d xs)
-    first zero m h = ap later (h m)
+    first zero m h = ap plusOne (h m)
     first (suc c) zero h = refl
-    first (suc c) (suc k) h = ap later (h k)
+    first (suc c) (suc k) h = ap plusOne (h k)
 
 -- a newline in the first of two joined texts
 pub behind-first : (m : ℕ) (xs ys : Bytes) → m < newlines xs → behindNewline m (xs ++ ys) ≡ behindNewline m xs
@@ -112,9 +112,9 @@ behind-first m (x ∷ xs) ys h = first (newlineBit x) (bit-le x) m h (λ k q. be
   where
     first : (b : ℕ) → b ≤ 1 → (m : ℕ) → m < b + newlines xs → ((k : ℕ) → k < newlines xs → behindNewline k (xs ++ ys) ≡ behindNewline k xs)
         → onBit b m (xs ++ ys) ≡ onBit b m xs
-    first zero l m h r = ap later (r m (omega arith))
+    first zero l m h r = ap plusOne (r m (omega arith))
     first (suc c) l zero h r = refl
-    first (suc c) l (suc k) h r = ap later (r k (omega arith))
+    first (suc c) l (suc k) h r = ap plusOne (r k (omega arith))
 
 -- or behind them
 pub behind-second : (m : ℕ) (xs ys : Bytes) → newlines xs ≤ m → behindNewline m (xs ++ ys) ≡ farther (length xs) (behindNewline (m - newlines xs) ys)
@@ -126,9 +126,9 @@ behind-second m (x ∷ xs) ys h = first (newlineBit x) (bit-le x) m h (λ k q. b
         → ((k : ℕ) → newlines xs ≤ k → behindNewline k (xs ++ ys) ≡ farther (length xs) (behindNewline (k - newlines xs) ys))
         → onBit b m (xs ++ ys) ≡ farther (suc (length xs)) (behindNewline (m - (b + newlines xs)) ys)
     first zero l m h r =
-        ap later (r m (omega arith)) ∙ farther-later (length xs) (behindNewline (m - newlines xs) ys)
+        ap plusOne (r m (omega arith)) ∙ farther-later (length xs) (behindNewline (m - newlines xs) ys)
         ∙ ap (λ (n : ℕ). farther (suc (length xs)) (behindNewline n ys)) (omega arith)
     first (suc c) l zero h r = absurd (omega arith)
     first (suc c) l (suc k) h r =
-        ap later (r k (omega arith)) ∙ farther-later (length xs) (behindNewline (k - newlines xs) ys)
+        ap plusOne (r k (omega arith)) ∙ farther-later (length xs) (behindNewline (k - newlines xs) ys)
         ∙ ap (λ (n : ℕ). farther (suc (length xs)) (behindNewline n ys)) (omega arith)

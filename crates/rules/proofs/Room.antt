@@ -1,4 +1,4 @@
--- Room never shapes text: a run under a setting that is nowhere smaller ends alike, or goes at least as far. A step is not looked into.
+-- Runs are monotone in room and budget: a run under a setting that is nowhere smaller ends alike, or goes at least as far. A step is not looked into.
 use Prim.Native.Nat.{ℕ, zero, suc, _+_, _≤_, _<_}
 use mathlib.Core.Path.{_≡_, refl, sym, ap, _∙_}
 use mathlib.Core.Bool.{Bool, true, false, true≢false, false≢true}
@@ -10,11 +10,11 @@ use lib.ListN.{length, getD}
 use borrow.Author.Tests.{le-leb, leb-true, leb-false, lt-leb}
 use Rattle.rules.specs.declared.Answer.the-variants as answer
 use Rattle.rules.specs.Answers.{answerNumber, answerDetail, isStopped, endingAnswer, faultAnswer}
-use Rattle.rules.specs.Tokens.{later}
+use Rattle.rules.specs.Places.{plusOne}
 use Rattle.rules.specs.State.{State, Outcome, next, stop, refused, Start, startState}
 use Rattle.rules.specs.Step.{step}
-use Rattle.rules.specs.Run.{Setting, lengths, held, overfull, Ended, endedWith, judged, continued, runFrom, allLendable, admitted, run}
-use Rattle.rules.specs.Room.{Lendable, NowhereSmaller, lengthNumbered, stopper, stoppedBy, Unshaped}
+use Rattle.rules.specs.Run.{Setting, lengths, held, overfull, Ended, endedWith, judged, continued, runFrom, allLendable, admitted, run, mostLent}
+use Rattle.rules.specs.Room.{Lendable, NowhereSmaller, lengthNumbered, stopper, stoppedBy, Monotone}
 
 -- lengths that are nowhere smaller
 abbrev Below : List ℕ → List ℕ → Type 0
@@ -24,7 +24,7 @@ Below (l ∷ ls) [] = ⊥
 Below (l ∷ ls) (m ∷ ms) = (l ≤ m) × Below ls ms
 
 -- a buffer that fits, and one that does not
-overfull-fits : (h : ℕ) (hs : List ℕ) (l : ℕ) (ls : List ℕ) → h ≤ l → overfull (h ∷ hs) (l ∷ ls) ≡ later (overfull hs ls)
+overfull-fits : (h : ℕ) (hs : List ℕ) (l : ℕ) (ls : List ℕ) → h ≤ l → overfull (h ∷ hs) (l ∷ ls) ≡ plusOne (overfull hs ls)
 unfolding overfull
 overfull-fits h hs l ls p = rw (le-leb h l p, overfull)
 
@@ -32,24 +32,24 @@ overfull-over : (h : ℕ) (hs : List ℕ) (l : ℕ) (ls : List ℕ) → l < h �
 unfolding overfull
 overfull-over h hs l ls p = rw (lt-leb h l p, overfull)
 
-later-none : (o : Option ℕ) → later o ≡ none → o ≡ none
-unfolding later
-later-none none e = refl
-later-none (some n) e = cc
+plus-one-none : (o : Option ℕ) → plusOne o ≡ none → o ≡ none
+unfolding plusOne
+plus-one-none none e = refl
+plus-one-none (some n) e = cc
 
-later-zero : (o : Option ℕ) → later o ≡ some 0 → ⊥
-unfolding later
-later-zero none e = let z : _≡_ {A = ℕ} 0 1 = cc in omega arith
-later-zero (some n) e = let z : suc n ≡ 0 = cc in omega arith
+plus-one-zero : (o : Option ℕ) → plusOne o ≡ some 0 → ⊥
+unfolding plusOne
+plus-one-zero none e = let z : _≡_ {A = ℕ} 0 1 = cc in omega arith
+plus-one-zero (some n) e = let z : suc n ≡ 0 = cc in omega arith
 
-later-suc : (o : Option ℕ) (k : ℕ) → later o ≡ some (suc k) → o ≡ some k
-unfolding later
-later-suc none k e = cc
-later-suc (some n) k e = let z : suc n ≡ suc k = cc in ap {B = Option ℕ} some (omega arith)
+plus-one-suc : (o : Option ℕ) (k : ℕ) → plusOne o ≡ some (suc k) → o ≡ some k
+unfolding plusOne
+plus-one-suc none k e = cc
+plus-one-suc (some n) k e = let z : suc n ≡ suc k = cc in ap {B = Option ℕ} some (omega arith)
 
 -- what fits in lengths fits in lengths that are nowhere smaller
 wider-fits : (hs ls ms : List ℕ) → Below ls ms → overfull hs ls ≡ none → overfull hs ms ≡ none
-unfolding overfull later
+unfolding overfull plusOne
 wider-fits [] ls ms w e = refl
 wider-fits (h ∷ hs) [] [] w e = refl
 wider-fits (h ∷ hs) [] (m ∷ ms) w e = absurd w
@@ -59,12 +59,12 @@ wider-fits (h ∷ hs) (l ∷ ls) (m ∷ ms) w e = go (leb h l) refl (wider-fits 
     go : (b : Bool) → leb h l ≡ b → (overfull hs ls ≡ none → overfull hs ms ≡ none) → overfull (h ∷ hs) (m ∷ ms) ≡ none
     go true q ih =
         overfull-fits h hs m ms (omega (arith, leb-true h l q, w .0))
-        ∙ ap later (ih (later-none (overfull hs ls) (sym (overfull-fits h hs l ls (leb-true h l q)) ∙ e)))
+        ∙ ap plusOne (ih (plus-one-none (overfull hs ls) (sym (overfull-fits h hs l ls (leb-true h l q)) ∙ e)))
     go false q ih = cc (overfull-over h hs l ls (leb-false h l q))
 
 -- what does not fit in a length does not fit in an equal one
 same-over : (k : ℕ) (hs ls ms : List ℕ) → Below ls ms → overfull hs ls ≡ some k → getD ls k 0 ≡ getD ms k 0 → overfull hs ms ≡ some k
-unfolding overfull later
+unfolding overfull plusOne
 same-over k [] ls ms w e g = e
 same-over k (h ∷ hs) [] [] w e g = e
 same-over k (h ∷ hs) [] (m ∷ ms) w e g = absurd w
@@ -72,7 +72,7 @@ same-over k (h ∷ hs) (l ∷ ls) [] w e g = absurd w
 same-over zero (h ∷ hs) (l ∷ ls) (m ∷ ms) w e g = go (leb h l) refl
   where
     go : (b : Bool) → leb h l ≡ b → overfull (h ∷ hs) (m ∷ ms) ≡ some 0
-    go true q = absurd (later-zero (overfull hs ls) (sym (overfull-fits h hs l ls (leb-true h l q)) ∙ e))
+    go true q = absurd (plus-one-zero (overfull hs ls) (sym (overfull-fits h hs l ls (leb-true h l q)) ∙ e))
     go false q = overfull-over h hs m ms (omega (arith, leb-false h l q))
 same-over (suc k) (h ∷ hs) (l ∷ ls) (m ∷ ms) w e g = go (leb h l) refl (same-over k hs ls ms (w .1))
   where
@@ -80,7 +80,7 @@ same-over (suc k) (h ∷ hs) (l ∷ ls) (m ∷ ms) w e g = go (leb h l) refl (sa
         (b : Bool) → leb h l ≡ b → (overfull hs ls ≡ some k → getD ls k 0 ≡ getD ms k 0 → overfull hs ms ≡ some k) → overfull (h ∷ hs) (m ∷ ms) ≡ some (suc k)
     go true q ih =
         overfull-fits h hs m ms (omega (arith, leb-true h l q, w .0))
-        ∙ ap later (ih (later-suc (overfull hs ls) k (sym (overfull-fits h hs l ls (leb-true h l q)) ∙ e)) g)
+        ∙ ap plusOne (ih (plus-one-suc (overfull hs ls) k (sym (overfull-fits h hs l ls (leb-true h l q)) ∙ e)) g)
     go false q ih = cc (overfull-over h hs l ls (leb-false h l q))
 
 -- a run goes on counting from the steps that it has
@@ -108,7 +108,7 @@ some-injective e = cc
 some-none : {k : ℕ} → some k ≡ none → ⊥
 some-none e = let z : _≡_ {A = ℕ} 0 1 = cc in omega arith
 
--- Unshaped, of lengths and budgets; and the first run goes no further than the second, however it ends
+-- Monotone, of lengths and budgets; and the first run goes no further than the second, however it ends
 record Kept (ls ms : List ℕ) (budget budget′ : ℕ) (r t : Ended) : Type 0 where
   same : isStopped (r .answer) ≡ false → t ≡ r
   further : r .steps ≤ t .steps
@@ -166,9 +166,9 @@ module _ (ls ms : List ℕ) (budget budget′ : ℕ) where
         (λ t. run-kept n m (suc k) t (omega arith) (omega arith) (omega arith))
 
 -- within 65,536 bytes, lent lengths are all lendable
-lendable-cons : (l : ℕ) (ls : List ℕ) → l ≤ 65536 → allLendable (l ∷ ls) ≡ allLendable ls
+lendable-cons : (l : ℕ) (ls : List ℕ) → l ≤ mostLent → allLendable (l ∷ ls) ≡ allLendable ls
 unfolding allLendable
-lendable-cons l ls p = rw (le-leb l 65536 p, allLendable)
+lendable-cons l ls p = rw (le-leb l mostLent p, allLendable)
 
 pub lendable-all : (a : Setting) → Lendable a → allLendable (lengths a) ≡ true
 unfolding lengths
@@ -182,26 +182,26 @@ smaller-lendable w p = omega arith
 -- whether a run is admitted is then up to the text
 same-admission : (n : ℕ) (ls ms : List ℕ) → allLendable ls ≡ allLendable ms → allLendable (n ∷ ls) ≡ allLendable (n ∷ ms)
 unfolding allLendable
-same-admission n ls ms e = ap (λ (x : Bool). elim (leb n 65536) as (λ _. Bool) [ true ↦ x | false ↦ false ]) e
+same-admission n ls ms e = ap (λ (x : Bool). elim (leb n mostLent) as (λ _. Bool) [ true ↦ x | false ↦ false ]) e
 
 below : {a b : Setting} → NowhereSmaller a b → Below (lengths a) (lengths b)
 unfolding lengths
 below w = (w .pending, (w .calls, (w .definitions, (w .streams, (w .wrap, (w .errors, (w .output, tt)))))))
 
-unshaped : {a b : Setting} {r t : Ended} → Kept (lengths a) (lengths b) (a .budget) (b .budget) r t → Unshaped a b r t
+monotone : {a b : Setting} {r t : Ended} → Kept (lengths a) (lengths b) (a .budget) (b .budget) r t → Monotone a b r t
 unfolding stoppedBy
-unshaped u = record { same = u .same; further = λ _. u .further; again = u .again }
+monotone u = record { same = u .same; further = λ _. u .further; again = u .again }
 
-admitted-unshaped : (x : Start) (a b : Setting) → NowhereSmaller a b → (p q : Bool) → p ≡ q → Unshaped a b (admitted p x a) (admitted q x b)
+admitted-monotone : (x : Start) (a b : Setting) → NowhereSmaller a b → (p q : Bool) → p ≡ q → Monotone a b (admitted p x a) (admitted q x b)
 unfolding admitted
-admitted-unshaped x a b w true true e =
-    unshaped (run-kept (lengths a) (lengths b) (a .budget) (b .budget) (below w) (a .budget) (b .budget) 0 (startState x) (omega arith) (omega arith) (w .budget))
-admitted-unshaped x a b w true false e = absurd (true≢false e)
-admitted-unshaped x a b w false true e = absurd (false≢true e)
-admitted-unshaped x a b w false false e = unshaped (kept-refl _)
+admitted-monotone x a b w true true e =
+    monotone (run-kept (lengths a) (lengths b) (a .budget) (b .budget) (below w) (a .budget) (b .budget) 0 (startState x) (omega arith) (omega arith) (w .budget))
+admitted-monotone x a b w true false e = absurd (true≢false e)
+admitted-monotone x a b w false true e = absurd (false≢true e)
+admitted-monotone x a b w false false e = monotone (kept-refl _)
 
 -- demand 3, of the definition: any start, any two settings of lendable lengths, the second nowhere smaller
-pub room-never-shapes-text : (x : Start) (a b : Setting) → Lendable b → NowhereSmaller a b → Unshaped a b (run x a) (run x b)
+pub monotone-in-room : (x : Start) (a b : Setting) → Lendable b → NowhereSmaller a b → Monotone a b (run x a) (run x b)
 unfolding run
-room-never-shapes-text x a b p w =
-    admitted-unshaped x a b w _ _ (same-admission (length (x .text)) (lengths a) (lengths b) (lendable-all a (smaller-lendable w p) ∙ sym (lendable-all b p)))
+monotone-in-room x a b p w =
+    admitted-monotone x a b w _ _ (same-admission (length (x .text)) (lengths a) (lengths b) (lendable-all a (smaller-lendable w p) ∙ sym (lendable-all b p)))

@@ -6,7 +6,7 @@ use mathlib.Core.Option.{Option, none, some}
 use lib.Dec.{eqb, leb}
 use lib.IntN.{ℤ, pos, negsuc}
 use lib.ListN.{length, getD, drop}
-use Rattle.rules.specs.Bytes.{Bytes, isDigit}
+use Rattle.rules.specs.Bytes.{Bytes, isDigit, comma}
 use Rattle.rules.specs.Marks.{MarkTexts, quoted}
 use Rattle.rules.specs.Numerals.{number, decimal}
 
@@ -33,7 +33,7 @@ separated b (w ∷ []) = w
 separated b (w ∷ v ∷ more) = w ++ (b ∷ separated b (v ∷ more))
 
 abbrev pub commas : List Bytes → Bytes
-commas args = separated 44 args
+commas args = separated comma args
 
 unfoldable pub quotedEach : MarkTexts → List Bytes → List Bytes
 quotedEach m [] = []

@@ -17,6 +17,16 @@ unfoldable pub bytesOf : String → Bytes
 bytesOf no-more = []
 bytesOf (c before s) = code c ∷ bytesOf s
 
+-- the bytes that open, separate and close a call's arguments
+abbrev pub leftParenthesis : ℕ
+leftParenthesis = code "("
+
+abbrev pub comma : ℕ
+comma = code ","
+
+abbrev pub rightParenthesis : ℕ
+rightParenthesis = code ")"
+
 -- two texts are the same
 unfoldable pub sameBytes : Bytes → Bytes → Bool
 sameBytes [] [] = true

@@ -11,7 +11,7 @@ use Rattle.rules.specs.declared.Token.{Token}
 use Rattle.rules.specs.declared.Token.the-variants as token
 use Rattle.rules.specs.declared.Reading.{Reading}
 use Rattle.rules.specs.declared.Reading.the-variants.{Is, OpenQuote, OpenComment}
-use Rattle.rules.specs.Bytes.{Bytes}
+use Rattle.rules.specs.Bytes.{Bytes, rightParenthesis}
 use Rattle.rules.specs.Answers.{Ending, Fault}
 use Rattle.rules.specs.Source.{ahead}
 use Rattle.rules.specs.Tokens.{readToken}
@@ -48,7 +48,7 @@ rightCall (suc d) c cs s = none
 
 unfoldable pub byteCall : ℕ → List Call → State → Option Calling
 byteCall x [] s = none
-byteCall x (c ∷ cs) s = elim (eqb x 41) [ true ↦ rightCall (c .depth) c cs s | false ↦ none ]
+byteCall x (c ∷ cs) s = elim (eqb x rightParenthesis) [ true ↦ rightCall (c .depth) c cs s | false ↦ none ]
 
 unfoldable pub tokenCall : Token → State → Option Calling
 tokenCall token.End s = none

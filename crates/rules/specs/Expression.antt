@@ -16,7 +16,7 @@ use Rattle.rules.specs.declared.Leading.the-variants as leading
 use Rattle.rules.specs.declared.Operator.{Operator}
 use Rattle.rules.specs.declared.Evaluated.{Evaluated}
 use Rattle.rules.specs.declared.Evaluated.the-variants as evaluated
-use Rattle.rules.specs.Bytes.{Bytes, isBlank, isDigit, nameLength}
+use Rattle.rules.specs.Bytes.{Bytes, isBlank, isDigit, nameLength, leftParenthesis, rightParenthesis}
 use Rattle.rules.specs.Words.{largestBits}
 use Rattle.rules.specs.Numerals.{natural, upTo}
 use Rattle.rules.specs.Operators.{operatorOf, unaryApplied, applied}
@@ -53,7 +53,7 @@ literalAt s at = let n = nameLength (drop at s) in literalRead (literal (take n 
 -- what an operand begins with, of its first two bytes and their place: + and - are unary operators, ++ and -- are not
 unfoldable pub leadingOf : ℕ → ℕ → ℕ → Leading
 leadingOf b c at =
-    cond (eqb b 40) (leading.Parenthesis (at + 1))
+    cond (eqb b leftParenthesis) (leading.Parenthesis (at + 1))
     (cond (eqb b 33) (leading.Sign Not (at + 1))
     (cond (eqb b 126) (leading.Sign Complement (at + 1))
     (cond (eqb b 43) (cond (eqb c 43) leading.Wrong (leading.Sign Plus (at + 1)))
@@ -73,7 +73,7 @@ operatorAt s at =
 -- what was read up to m places behind n must be closed by a parenthesis
 unfoldable pub closedBy : Bytes → ℕ → Parsed → Parsed
 closedBy s n Unreadable = Unreadable
-closedBy s n (Value w m) = let p = pastBlanks s (n + m) in cond (eqb (getD s p 0) 41) (Value w (p + 1)) Unreadable
+closedBy s n (Value w m) = let p = pastBlanks s (n + m) in cond (eqb (getD s p 0) rightParenthesis) (Value w (p + 1)) Unreadable
 
 unfoldable pub signedBy : (Worked → Worked) → ℕ → Parsed → Parsed
 signedBy f n Unreadable = Unreadable

@@ -1,6 +1,7 @@
 -- The book of rules: document 01 as definitions over lists of numbers, in the order of that paper.
 -- What the expander covers, and how a run ends
 pub mod Bytes
+pub mod Places
 pub mod Answers
 -- Reading tokens
 pub mod Marks

@@ -12,7 +12,7 @@ use lib.ListN.{length, take, drop, getD}
 use Rattle.rules.specs.declared.IndexAnswer.{IndexAnswer}
 use Rattle.rules.specs.declared.IndexAnswer.the-variants.{Built, Line, Start, TooLong, Beyond, NoLine, NoRoom}
 use Rattle.rules.specs.Bytes.{Bytes}
-use Rattle.rules.specs.Tokens.{later}
+use Rattle.rules.specs.Places.{plusOne}
 use Rattle.rules.specs.Run.{mostLent}
 use Rattle.rules.specs.Contract.{fronted}
 
@@ -127,8 +127,8 @@ unfoldable pub select : ℕ → ℕ → ℕ → Option ℕ
 select zero before word = none
 select (suc d) before word =
     elim (word % 2) [
-      | zero ↦ later (select d before (word / 2))
-      | suc b ↦ elim before [ zero ↦ some 0 | suc m ↦ later (select d m (word / 2)) ]
+      | zero ↦ plusOne (select d before (word / 2))
+      | suc b ↦ elim before [ zero ↦ some 0 | suc m ↦ plusOne (select d m (word / 2)) ]
     ]
 
 -- the line starts behind its newline in the k-th word; "or its bits run short"
@@ -161,8 +161,8 @@ unfoldable pub behindNewline : ℕ → Bytes → Option ℕ
 behindNewline m [] = none
 behindNewline m (x ∷ xs) =
     elim (newlineBit x) [
-      | zero ↦ later (behindNewline m xs)
-      | suc b ↦ elim m [ zero ↦ some 1 | suc k ↦ later (behindNewline k xs) ]
+      | zero ↦ plusOne (behindNewline m xs)
+      | suc b ↦ elim m [ zero ↦ some 1 | suc k ↦ plusOne (behindNewline k xs) ]
     ]
 
 -- the line that starts there

@@ -6,7 +6,7 @@ use lib.Dec.{leb, eqb}
 use lib.ListN.{length, take}
 use Rattle.rules.specs.declared.Mark.{Mark}
 use Rattle.rules.specs.declared.Marks.{Marks}
-use Rattle.rules.specs.Bytes.{Bytes, isLetter, isDigit, isUnderscore, isBlank, sameBytes}
+use Rattle.rules.specs.Bytes.{Bytes, isLetter, isDigit, isUnderscore, isBlank, sameBytes, leftParenthesis, comma, rightParenthesis}
 
 -- the four marks as texts; an empty begin-comment mark: comments are turned off
 pub record MarkTexts : Type 0 where
@@ -37,7 +37,7 @@ defaultMarks = record { beginQuote = 0x60 ∷ []; endQuote = 0x27 ∷ []; beginC
 
 -- 01 "No byte of it may be a letter, digit, underscore, parenthesis, comma, space, tab or newline"
 unfoldable pub isBarred : ℕ → Bool
-isBarred x = isLetter x || isDigit x || isUnderscore x || eqb x 40 || eqb x 41 || eqb x 44 || isBlank x
+isBarred x = isLetter x || isDigit x || isUnderscore x || eqb x leftParenthesis || eqb x rightParenthesis || eqb x comma || isBlank x
 
 unfoldable pub noneBarred : Bytes → Bool
 noneBarred [] = true

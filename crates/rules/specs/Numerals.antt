@@ -15,18 +15,18 @@ digitWorth x = cond (isDigit x) (some (x - 48)) (cond (isLower x) (some (x - 87)
 
 -- the number that digits write behind the digits of v, if each of them is worth less than the radix. So radix 0 has no digit, radix 1 only 0, and a
 -- radix above 36 none beyond z
-unfoldable pub behind : ℕ → ℕ → Bytes → Option ℕ
-behind radix v [] = some v
-behind radix v (x ∷ xs) =
+unfoldable pub naturalFrom : ℕ → ℕ → Bytes → Option ℕ
+naturalFrom radix v [] = some v
+naturalFrom radix v (x ∷ xs) =
     elim (digitWorth x) [
       | none ↦ none
-      | some d ↦ elim (ltb d radix) [ true ↦ behind radix (v * radix + d) xs | false ↦ none ]
+      | some d ↦ elim (ltb d radix) [ true ↦ naturalFrom radix (v * radix + d) xs | false ↦ none ]
     ]
 
 -- one or more digits of a radix
 unfoldable pub natural : ℕ → Bytes → Option ℕ
 natural radix [] = none
-natural radix (x ∷ xs) = behind radix 0 (x ∷ xs)
+natural radix (x ∷ xs) = naturalFrom radix 0 (x ∷ xs)
 
 -- a number that is at most a limit
 unfoldable pub upTo : ℕ → Option ℕ → Option ℕ

@@ -33,15 +33,15 @@ unfoldable pub isNumber : ℤ → Bool
 isNumber z = leZ (negsuc largest) z && leZ z (pos largest)
 
 -- 01 "Also 7: an incr or decr result outside that range"
-unfoldable pub counted : (ℤ → ℤ) → Option ℤ → Result
-counted f none = fails noNumber
-counted f (some z) = elim (isNumber (f z)) [ true ↦ yields (decimal (f z)) | false ↦ fails noNumber ]
+unfoldable pub changedNumber : (ℤ → ℤ) → Option ℤ → Result
+changedNumber f none = fails noNumber
+changedNumber f (some z) = elim (isNumber (f z)) [ true ↦ yields (decimal (f z)) | false ↦ fails noNumber ]
 
 unfoldable pub decrResult : List Bytes → Result
-decrResult args = counted predℤ (number (arg 1 args))
+decrResult args = changedNumber predℤ (number (arg 1 args))
 
 unfoldable pub incrResult : List Bytes → Result
-incrResult args = counted sucℤ (number (arg 1 args))
+incrResult args = changedNumber sucℤ (number (arg 1 args))
 
 unfoldable pub inFront : Bytes → Result → Result
 inFront w (yields v) = yields (w ++ v)

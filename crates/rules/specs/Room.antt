@@ -1,4 +1,4 @@
--- Room never shapes text: the letter's third demand, of two runs.
+-- Runs are monotone in room and budget: the letter's third demand, "room never shapes text", of two runs.
 use Prim.Native.Nat.{ℕ, suc, _≤_}
 use mathlib.Core.Path.{_≡_}
 use mathlib.Core.Bool.{true, false, cond}
@@ -44,7 +44,7 @@ unfoldable pub stoppedBy : Setting → Answer → ℕ
 stoppedBy a r = stopper (lengths a) (a .budget) (answerNumber r) (answerDetail r)
 
 -- how one text's run r under the setting a and its run t under b, nowhere smaller, must agree: the letter's three sentences
-pub record Unshaped (a b : Setting) (r t : Ended) : Type 0 where
+pub record Monotone (a b : Setting) (r t : Ended) : Type 0 where
   pub same : isStopped (r .answer) ≡ false → t ≡ r
   pub further : isStopped (r .answer) ≡ true → r .steps ≤ t .steps
   pub again : isStopped (r .answer) ≡ true → stoppedBy a (r .answer) ≡ stoppedBy b (r .answer) → t ≡ r

@@ -8,7 +8,7 @@ use lib.ListN.{length}
 use Rattle.rules.specs.declared.Answer.{Answer}
 use Rattle.rules.specs.declared.Answer.the-variants as answer
 use Rattle.rules.specs.Answers.{endingAnswer, faultAnswer}
-use Rattle.rules.specs.Tokens.{later}
+use Rattle.rules.specs.Places.{plusOne}
 use Rattle.rules.specs.Table.{tableCost}
 use Rattle.rules.specs.Streams.{totalLength}
 use Rattle.rules.specs.State.{Call, State, Outcome, next, stop, refused, Start, startState}
@@ -50,7 +50,7 @@ held s =
 unfoldable pub overfull : List ℕ → List ℕ → Option ℕ
 overfull [] ls = none
 overfull (h ∷ hs) [] = none
-overfull (h ∷ hs) (l ∷ ls) = elim (leb h l) [ true ↦ later (overfull hs ls) | false ↦ some 0 ]
+overfull (h ∷ hs) (l ∷ ls) = elim (leb h l) [ true ↦ plusOne (overfull hs ls) | false ↦ some 0 ]
 
 -- how a run ended: the answer, the completed steps and the standing state, which on a refusal is that before the refused step
 pub record Ended : Type 0 where
@@ -61,12 +61,14 @@ pub record Ended : Type 0 where
 unfoldable pub endedWith : Answer → ℕ → State → Ended
 endedWith a steps s = record { answer = a; steps = steps; state = s }
 
--- room is judged on the state t after a step from s: the run goes on from t, or the step is refused
+-- room is judged on the state t that a step from s, after `count` completed ones, led to, by the first buffer that t overfills. `go` says how the run
+-- goes on from a state: where nothing is overfull that is asked of t; else the step is refused, and the run ends in s with the steps before it
 unfoldable pub judged : (State → Ended) → ℕ → State → State → Option ℕ → Ended
 judged go count s t none = go t
 judged go count s t (some b) = endedWith (answer.Room (suc b)) count s
 
--- what follows from the outcome of a step from s, to which `count` completed steps led: 01 "a refused step is not counted, the one that
+-- what follows from the outcome of a step from s, to which `count` completed steps led. Here `go` is the rest of the run, from the state after the
+-- step; a step that ends the run has no rest, and its `go` is that end itself. 01 "a refused step is not counted, the one that
 -- ends in 0 or 1 is", "within a step 5 to 13 come before 4"
 unfoldable pub continued : List ℕ → (State → Ended) → ℕ → State → Outcome → Ended
 continued ls go count s (refused f) = endedWith (faultAnswer f) count s

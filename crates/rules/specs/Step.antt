@@ -9,7 +9,7 @@ use Rattle.rules.specs.declared.Token.{Token}
 use Rattle.rules.specs.declared.Token.the-variants as token
 use Rattle.rules.specs.declared.Reading.{Reading}
 use Rattle.rules.specs.declared.Reading.the-variants.{Is, OpenQuote, OpenComment}
-use Rattle.rules.specs.Bytes.{Bytes, isBlank}
+use Rattle.rules.specs.Bytes.{Bytes, isBlank, leftParenthesis, comma, rightParenthesis}
 use Rattle.rules.specs.Answers.{done, unclosedQuote, unclosedComment, unclosedCall, deep}
 use Rattle.rules.specs.Source.{ahead}
 use Rattle.rules.specs.Tokens.{readToken}
@@ -78,7 +78,7 @@ usedWith (some m) false = unopened m
 
 -- the use of the name that ends at `end` in the text ahead
 unfoldable pub nameUse : Bytes → ℕ → State → NameUse
-nameUse name end s = usedWith (meaningOf name (s .table)) (eqb (getD (ahead (s .source)) end 0) 40)
+nameUse name end s = usedWith (meaningOf name (s .table)) (eqb (getD (ahead (s .source)) end 0) leftParenthesis)
 
 -- 02 "shall stand as plain text": a token that stands for itself; 01 "opens a call, and that byte belongs to the same step"; 01 "is called
 -- at once without arguments"
@@ -101,11 +101,11 @@ commaMet c cs s = elim (leb mostArguments (argumentCount (c ∷ cs))) [ true ↦
 -- 01 "the right parenthesis at depth zero closes"
 unfoldable pub rightMet : ℕ → Call → List Call → State → Outcome
 rightMet zero c cs s = closed c cs s
-rightMet (suc d) c cs s = next (withCalls (collecting (41 ∷ []) d c ∷ cs) s)
+rightMet (suc d) c cs s = next (withCalls (collecting (rightParenthesis ∷ []) d c ∷ cs) s)
 
-unfoldable pub commaAt : ℕ → Call → List Call → State → Outcome
-commaAt zero c cs s = commaMet c cs s
-commaAt (suc d) c cs s = next (withCalls (collecting (44 ∷ []) (suc d) c ∷ cs) s)
+unfoldable pub commaAtDepth : ℕ → Call → List Call → State → Outcome
+commaAtDepth zero c cs s = commaMet c cs s
+commaAtDepth (suc d) c cs s = next (withCalls (collecting (comma ∷ []) (suc d) c ∷ cs) s)
 
 -- 01 "unquoted spaces, tabs and newlines before the first collected token of an argument are dropped"
 unfoldable pub otherMet : ℕ → Call → List Call → State → Outcome
@@ -118,12 +118,12 @@ otherMet x c cs s =
 -- a byte in an argument: 01 "Unquoted parentheses nest"
 unfoldable pub inCall : ℕ → Call → List Call → State → Outcome
 inCall x c cs s =
-    elim (eqb x 40) [
+    elim (eqb x leftParenthesis) [
       | true ↦ next (withCalls (collecting (x ∷ []) (suc (c .depth)) c ∷ cs) s)
       | false ↦
-          elim (eqb x 41) [
+          elim (eqb x rightParenthesis) [
             | true ↦ rightMet (c .depth) c cs s
-            | false ↦ elim (eqb x 44) [ true ↦ commaAt (c .depth) c cs s | false ↦ otherMet x c cs s ]
+            | false ↦ elim (eqb x comma) [ true ↦ commaAtDepth (c .depth) c cs s | false ↦ otherMet x c cs s ]
           ]
     ]
 

@@ -9,6 +9,7 @@ use Rattle.rules.specs.declared.Token.the-variants as token
 use Rattle.rules.specs.declared.Reading.{Reading}
 use Rattle.rules.specs.declared.Reading.the-variants.{Is, OpenQuote, OpenComment}
 use Rattle.rules.specs.Bytes.{Bytes, sameBytes, beginsName, nameLength}
+use Rattle.rules.specs.Places.{plusOne}
 use Rattle.rules.specs.Marks.{MarkTexts, newlineMark}
 
 -- a text stands at the front
@@ -22,36 +23,32 @@ unfoldable pub atMark : Bytes → Bytes → Bool
 atMark [] xs = false
 atMark (m ∷ ms) xs = beginsWith (m ∷ ms) xs
 
-unfoldable pub later : Option ℕ → Option ℕ
-later none = none
-later (some n) = some (suc n)
-
 -- where a text first stands
 unfoldable pub firstPlace : Bytes → Bytes → Option ℕ
 firstPlace m [] = elim (beginsWith m []) [ true ↦ some 0 | false ↦ none ]
-firstPlace m (x ∷ xs) = elim (beginsWith m (x ∷ xs)) [ true ↦ some 0 | false ↦ later (firstPlace m xs) ]
+firstPlace m (x ∷ xs) = elim (beginsWith m (x ∷ xs)) [ true ↦ some 0 | false ↦ plusOne (firstPlace m xs) ]
 
 -- where a quote closes, or how many quotes are open at the end
 pub data QuoteEnd : Type 0 where
   closesAt : ℕ → QuoteEnd
   leftOpen : ℕ → QuoteEnd
 
-unfoldable pub oneOn : QuoteEnd → QuoteEnd
-oneOn (closesAt n) = closesAt (suc n)
-oneOn (leftOpen d) = leftOpen d
+unfoldable pub endPlusOne : QuoteEnd → QuoteEnd
+endPlusOne (closesAt n) = closesAt (suc n)
+endPlusOne (leftOpen d) = leftOpen d
 
 -- 01 "Inside, the end mark is tried first, then the begin mark, which nests": with `inner` quotes open inside the outermost one, and
 -- after `skip` more bytes of a mark that was matched. (How many are open at the end is not in 01: document 02 will ask)
 unfoldable pub quoteEnd : Bytes → Bytes → ℕ → ℕ → Bytes → QuoteEnd
 quoteEnd begin end inner skip [] = leftOpen (suc inner)
-quoteEnd begin end inner (suc k) (x ∷ xs) = oneOn (quoteEnd begin end inner k xs)
+quoteEnd begin end inner (suc k) (x ∷ xs) = endPlusOne (quoteEnd begin end inner k xs)
 quoteEnd begin end inner zero (x ∷ xs) =
     elim (beginsWith end (x ∷ xs)) [
-      | true ↦ elim inner [ zero ↦ closesAt 0 | suc d ↦ oneOn (quoteEnd begin end d (pred (length end)) xs) ]
+      | true ↦ elim inner [ zero ↦ closesAt 0 | suc d ↦ endPlusOne (quoteEnd begin end d (pred (length end)) xs) ]
       | false ↦
           elim (beginsWith begin (x ∷ xs)) [
-            | true ↦ oneOn (quoteEnd begin end (suc inner) (pred (length begin)) xs)
-            | false ↦ oneOn (quoteEnd begin end inner zero xs)
+            | true ↦ endPlusOne (quoteEnd begin end (suc inner) (pred (length begin)) xs)
+            | false ↦ endPlusOne (quoteEnd begin end inner zero xs)
           ]
     ]
 

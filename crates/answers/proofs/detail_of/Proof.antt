@@ -1,19 +1,9 @@
 -- `answers::detail_of` meets its contract: three answers carry a detail, and it is 0 with the others. Assumes nothing.
-use mathlib.Core.Path.{sym, ap}
+use Rattle.rules.proofs.Base.{sym, ap, needs}
 use Rattle.rules.specs.Answers.{answerDetail}
 use Rattle.answers.proofs.Details.{no-detail}
-use borrow.Author.Needs.{needs}
 use Rattle.answers.proofs.detail_of.Statement.{statement}
 use Rattle.answers.proofs.detail_of.Tie as tie
-
-enum-known-a : tie.Need-enum-known-a
-enum-known-a c = search needs
-
-enum-known-a-2 : tie.Need-enum-known-a-2
-enum-known-a-2 c = search needs
-
-enum-known-a-3 : tie.Need-enum-known-a-3
-enum-known-a-3 c = search needs
 
 returns : tie.Need-returns
 unfolding answerDetail
@@ -33,4 +23,4 @@ returns-4 c = no-detail (c .before .args .a) (c .match .keys4)
 pub detail-of-spec : {M : Type 1} → statement M
 detail-of-spec =
     tie.close
-    (tie.spec enum-known-a enum-known-a-2 enum-known-a-3 returns returns-2 returns-3 returns-4)
+    (tie.spec (λ c. search needs) (λ c. search needs) (λ c. search needs) returns returns-2 returns-3 returns-4)

@@ -4,15 +4,9 @@ use borrow.Author.Needs.{needs}
 use Rattle.answers.proofs.numbers_of.Statement.{statement}
 use Rattle.answers.proofs.numbers_of.Tie as tie
 
-number-of-requires : tie.Need-number-of-requires
-number-of-requires c κs = search needs
-
-detail-of-requires : tie.Need-detail-of-requires
-detail-of-requires c κs = search needs
-
 returns : tie.Need-returns
 unfolding numbers
 returns c = search needs
 
 pub numbers-of-spec : {M : Type 1} → statement M
-numbers-of-spec = tie.close (tie.spec number-of-requires detail-of-requires returns)
+numbers-of-spec = tie.close (tie.spec (λ c κs. search needs) (λ c κs. search needs) returns)

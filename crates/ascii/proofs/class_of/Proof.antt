@@ -1,7 +1,5 @@
 -- `ascii::class_of` meets its contract. Assumes nothing.
-use native.Mathlib.Omega.{arith}
-use mathlib.Core.Path.{sym, _∙_}
-use borrow.Author.Needs.{needs}
+use Rattle.rules.proofs.Base.{_∙_, sym, arith, needs}
 use Rattle.rules.proofs.Classes.{class-upper, class-lower, class-digit, class-underscore, class-space, class-tab, class-below, class-above}
 use Rattle.ascii.proofs.class_of.Statement.{statement}
 use Rattle.ascii.proofs.class_of.Tie as tie
@@ -21,14 +19,8 @@ returns-4 c = class-tab _ (omega (arith, c .before .if2 .left)) (omega (arith, c
 returns-5 : tie.Need-returns-5
 returns-5 c = class-digit _ (omega (arith, c .before .if1 .left)) (omega (arith, c .if4 .taken))
 
-is-upper-requires : tie.Need-is-upper-requires
-is-upper-requires c κs = search needs
-
 returns-6 : tie.Need-returns-6
 returns-6 c = class-upper _ (sym (c .before .is-upper .ensures) ∙ c .if5 .taken)
-
-is-lower-requires : tie.Need-is-lower-requires
-is-lower-requires c κs = search needs
 
 returns-7 : tie.Need-returns-7
 returns-7 c = class-lower _ (sym (c .before .before .before .is-upper .ensures) ∙ c .before .before .if5 .left) (sym (c .before .is-lower .ensures) ∙ c .if6 .taken)
@@ -53,9 +45,9 @@ class-of-spec =
     returns-3
     returns-4
     returns-5
-    is-upper-requires
+    (λ c κs. search needs)
     returns-6
-    is-lower-requires
+    (λ c κs. search needs)
     returns-7
     returns-8
     returns-9)

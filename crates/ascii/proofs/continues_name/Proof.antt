@@ -1,16 +1,9 @@
 -- `ascii::continues_name` meets its contract. Assumes nothing.
-use mathlib.Core.Path.{refl}
-use mathlib.Core.List.{[], _∷_}
-use mathlib.Core.Bool.{true, false, _||_}
-use lib.Dec.{eqb}
-use borrow.Author.Needs.{needs}
+use Rattle.rules.proofs.Base.{refl, true, false, _||_, [], _∷_, eqb, needs}
 use Rattle.rules.specs.Bytes.{sameClass, classNumber, isLetter, isDigit, isUnderscore, beginsName, continuesName}
 use Rattle.ascii.proofs.Laws.{arm-says}
 use Rattle.ascii.proofs.continues_name.Statement.{statement}
 use Rattle.ascii.proofs.continues_name.Tie as tie
-
-class-of-requires : tie.Need-class-of-requires
-class-of-requires c κs = search needs
 
 returns : tie.Need-returns
 unfolding continuesName beginsName isLetter isUnderscore isDigit sameClass classNumber
@@ -21,4 +14,4 @@ unfolding continuesName beginsName isLetter isUnderscore isDigit sameClass class
 returns-2 c = arm-says (λ n. (eqb n 0 || eqb n 2) || eqb n 1) false (3 ∷ 4 ∷ []) (c .before .class-of .ensures) (c .match .keys2) refl
 
 pub continues-name-spec : {M : Type 1} → statement M
-continues-name-spec = tie.close (tie.spec class-of-requires returns returns-2)
+continues-name-spec = tie.close (tie.spec (λ c κs. search needs) returns returns-2)

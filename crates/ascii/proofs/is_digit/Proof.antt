@@ -1,19 +1,9 @@
 -- `ascii::is_digit` meets its contract. Assumes nothing.
-use mathlib.Core.Path.{refl}
-use mathlib.Core.List.{[], _∷_}
-use mathlib.Core.Bool.{true, false}
-use lib.Dec.{eqb}
-use borrow.Author.Needs.{needs}
+use Rattle.rules.proofs.Base.{refl, true, false, [], _∷_, eqb, needs}
 use Rattle.rules.specs.Bytes.{sameClass, classNumber, isDigit}
 use Rattle.ascii.proofs.Laws.{arm-says}
 use Rattle.ascii.proofs.is_digit.Statement.{statement}
 use Rattle.ascii.proofs.is_digit.Tie as tie
-
-class-of-requires : tie.Need-class-of-requires
-class-of-requires c κs = search needs
-
-enum-told : tie.Need-enum-told
-enum-told c = search needs
 
 returns : tie.Need-returns
 unfolding isDigit sameClass classNumber
@@ -24,4 +14,4 @@ unfolding isDigit sameClass classNumber
 returns-2 c = arm-says (λ n. eqb n 1) false (0 ∷ 2 ∷ 3 ∷ 4 ∷ []) (c .before .class-of .ensures) (c .match .keys2) refl
 
 pub is-digit-spec : {M : Type 1} → statement M
-is-digit-spec = tie.close (tie.spec class-of-requires enum-told returns returns-2)
+is-digit-spec = tie.close (tie.spec (λ c κs. search needs) (λ c. search needs) returns returns-2)

@@ -1,21 +1,11 @@
 -- `ascii::is_name` meets its contract: what begins a name goes on with it, so the name is as long as the whole. Assumes nothing.
-use mathlib.Core.Path.{sym, _∙_}
+use Rattle.rules.proofs.Base.{_∙_, sym, needs}
 use Rattle.ascii.proofs.Laws.{no-bytes, name-whole, no-name}
-use borrow.Author.Needs.{needs}
 use Rattle.ascii.proofs.is_name.Statement.{statement}
 use Rattle.ascii.proofs.is_name.Tie as tie
 
 returns : tie.Need-returns
 returns c = sym (no-bytes (c .before .before .args .s .now) (c .if1 .taken))
-
-shared-slice-read-begins-name : tie.Need-shared-slice-read-begins-name
-shared-slice-read-begins-name c = search needs
-
-begins-name-requires : tie.Need-begins-name-requires
-begins-name-requires c κs = search needs
-
-name-length-requires : tie.Need-name-length-requires
-name-length-requires c κs = search needs
 
 returns-2 : tie.Need-returns-2
 returns-2 c =
@@ -33,8 +23,8 @@ is-name-spec =
     tie.close
     (tie.spec
     returns
-    shared-slice-read-begins-name
-    begins-name-requires
-    name-length-requires
+    (λ c. search needs)
+    (λ c κs. search needs)
+    (λ c κs. search needs)
     returns-2
     returns-3)

@@ -1,6 +1,5 @@
 -- `ascii::is_upper` meets its contract. Assumes nothing.
-use mathlib.Core.Path.{sym}
-use native.Mathlib.Omega.{arith}
+use Rattle.rules.proofs.Base.{sym, arith}
 use Rattle.rules.specs.Bytes.{isUpper}
 use Rattle.rules.proofs.Classes.{in-range, off-range}
 use Rattle.ascii.proofs.is_upper.Statement.{statement}

@@ -1,11 +1,7 @@
 -- `ascii::name_length` meets its contract: the loop keeps that the name goes on from the place i. Assumes nothing.
-use Prim.Native.Nat.{_+_, _-_, _≤_}
-use native.Mathlib.Nat.{zero-add}
-use mathlib.Core.Path.{_≡_, sym, _∙_}
-use lib.ListN.{length, drop}
+use Rattle.rules.proofs.Base.{_≤_, _+_, _-_, _∙_, sym, _≡_, zero-add, length, drop, needs}
 use Rattle.rules.specs.Bytes.{nameLength}
 use Rattle.ascii.proofs.Laws.{name-on, name-off, name-end}
-use borrow.Author.Needs.{needs}
 use Rattle.ascii.proofs.name_length.Statement.{statement}
 use Rattle.ascii.proofs.name_length.Tie as tie
 
@@ -14,21 +10,6 @@ Inv-loop s i₀ i = (i ≤ length s) × (i + nameLength (drop i s) ≡ nameLengt
 
 abbrev μ-loop : tie.MeasureT-loop
 μ-loop s i₀ i = length s - i
-
-loop-holds : tie.Need-loop-holds Inv-loop μ-loop
-loop-holds c = (search needs, zero-add _)
-
-shared-slice-read-continues-name : tie.Need-shared-slice-read-continues-name Inv-loop μ-loop
-shared-slice-read-continues-name c = search needs
-
-continues-name-requires : tie.Need-continues-name-requires Inv-loop μ-loop
-continues-name-requires c κs = search needs
-
-add-i : tie.Need-add-i Inv-loop μ-loop
-add-i c = search needs
-
-loop-less : tie.Need-loop-less Inv-loop μ-loop
-loop-less c = search needs
 
 loop-again : tie.Need-loop-again Inv-loop μ-loop
 loop-again c =
@@ -54,11 +35,11 @@ name-length-spec =
     (tie.spec
     Inv-loop
     μ-loop
-    loop-holds
-    shared-slice-read-continues-name
-    continues-name-requires
-    add-i
-    loop-less
+    (λ c. (search needs, zero-add _))
+    (λ c. search needs)
+    (λ c κs. search needs)
+    (λ c. search needs)
+    (λ c. search needs)
     loop-again
     returns
     returns-2)

@@ -1,5 +1,4 @@
-use mathlib.Core.Bool.{true, false}
-use native.Mathlib.Omega.{arith}
+use Rattle.rules.proofs.Base.{true, false, arith}
 use Rattle.expander.proofs.RunLaws.{lend-stops, lend-goes, lend-all}
 use Rattle.expander.proofs.lendable.Statement.{statement}
 use Rattle.expander.proofs.lendable.Tie as tie

@@ -1,20 +1,10 @@
 -- `evaluate` meets its contract. Assumes nothing.
-use borrow.Author.Needs.{needs}
-use lib.ListN.{length}
+use Rattle.rules.proofs.Base.{length, needs}
 use Rattle.rules.specs.Expression.{workedOut}
 use Rattle.expression.proofs.Parts.{within}
 use Rattle.expression.proofs.Chains as chains
 use Rattle.expression.proofs.evaluate.Statement.{statement}
 use Rattle.expression.proofs.evaluate.Tie as tie
-
-expression-requires : tie.Need-expression-requires
-expression-requires c κs = search needs
-
-enum-known-w : tie.Need-enum-known-w
-enum-known-w c = search needs
-
-enum-told : tie.Need-enum-told
-enum-told c = search needs
 
 returns : tie.Need-returns
 returns c = chains.not-read (c .before .before .before .before .args .s .now) (c .before .before .expression .ensures .0) (c .enum-told .given .1)
@@ -28,12 +18,6 @@ returns-2 c =
     let w = c .before .before .before .w in
     let p = c .before .past-blanks in
     chains.not-whole (c .before .before .before .before .before .before .before .args .s .now) (r .ensures .0) (w .given .0 .0) (w .given .0 .1 .0) (p .result) (w .given .1) (p .ensures .0) (c .if1 .taken)
-
-enum-known-w-2 : tie.Need-enum-known-w-2
-enum-known-w-2 c = search needs
-
-enum-told-2 : tie.Need-enum-told-2
-enum-told-2 c = search needs
 
 returns-3 : tie.Need-returns-3
 unfolding workedOut
@@ -55,13 +39,13 @@ pub evaluate-spec : {M : Type 1} → statement M
 evaluate-spec =
     tie.close
     (tie.spec
-    expression-requires
-    enum-known-w
-    enum-told
+    (λ c κs. search needs)
+    (λ c. search needs)
+    (λ c. search needs)
     returns
     past-blanks-requires
     returns-2
-    enum-known-w-2
-    enum-told-2
+    (λ c. search needs)
+    (λ c. search needs)
     returns-3
     returns-4)

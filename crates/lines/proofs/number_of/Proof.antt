@@ -1,22 +1,9 @@
 -- `lines::number_of` meets its contract: each refusal has its number, and it is 0 with the others. Assumes nothing.
-use mathlib.Core.Path.{sym, ap}
+use Rattle.rules.proofs.Base.{sym, ap, needs}
 use Rattle.rules.specs.Lines.{indexNumber}
 use Rattle.lines.proofs.Numbers.{no-number}
-use borrow.Author.Needs.{needs}
 use Rattle.lines.proofs.number_of.Statement.{statement}
 use Rattle.lines.proofs.number_of.Tie as tie
-
-enum-told : tie.Need-enum-told
-enum-told c = search needs
-
-enum-told-2 : tie.Need-enum-told-2
-enum-told-2 c = search needs
-
-enum-told-3 : tie.Need-enum-told-3
-enum-told-3 c = search needs
-
-enum-told-4 : tie.Need-enum-told-4
-enum-told-4 c = search needs
 
 returns : tie.Need-returns
 unfolding indexNumber
@@ -41,10 +28,10 @@ pub number-of-spec : {M : Type 1} → statement M
 number-of-spec =
     tie.close
     (tie.spec
-    enum-told
-    enum-told-2
-    enum-told-3
-    enum-told-4
+    (λ c. search needs)
+    (λ c. search needs)
+    (λ c. search needs)
+    (λ c. search needs)
     returns
     returns-2
     returns-3

@@ -1,10 +1,8 @@
 -- `lines::start_of` meets its contract: what it refuses, in its order, and else the loop keeps in which words the line's newline is still to be
 -- sought. Assumes nothing.
-use Prim.Native.Nat.{_-_}
-use native.Mathlib.Omega.{arith}
+use Rattle.rules.proofs.Base.{_-_, arith, needs}
 use Rattle.lines.proofs.Judged.{has, lacks}
 use Rattle.lines.proofs.Questions.{start-too-long, start-no-room, start-zero, start-one, Seeking, seek-start, seek-none, seek-on, seek-place, seek-short, seek-found}
-use borrow.Author.Needs.{needs}
 use Rattle.lines.proofs.start_of.Statement.{statement}
 use Rattle.lines.proofs.start_of.Tie as tie
 
@@ -17,9 +15,6 @@ abbrev μ-loop : tie.MeasureT-loop
 returns : tie.Need-returns Inv-loop μ-loop
 returns c = start-too-long (c .before .before .before .args .length) (c .before .before .before .args .words .now) (c .before .before .before .args .totals .now) (c .before .before .before .args .line) (c .if1 .taken)
 
-has-room-requires : tie.Need-has-room-requires Inv-loop μ-loop
-has-room-requires c κs = search needs
-
 returns-2 : tie.Need-returns-2 Inv-loop μ-loop
 returns-2 c = start-no-room (c .before .before .before .before .before .args .length) (c .before .before .before .before .before .args .words .now) (c .before .before .before .before .before .args .totals .now) (c .before .before .before .before .before .args .line) (c .before .before .if1 .left) (lacks (c .before .has-room .ensures) (c .if2 .taken))
 
@@ -31,9 +26,6 @@ returns-3 c =
     (has (c .before .before .has-room .ensures) (c .before .if2 .left))
     (c .if3 .taken)
 
-sub-newline : tie.Need-sub-newline Inv-loop μ-loop
-sub-newline c = search needs
-
 returns-4 : tie.Need-returns-4 Inv-loop μ-loop
 returns-4 c =
     start-one
@@ -41,9 +33,6 @@ returns-4 c =
     (c .before .before .before .before .if1 .left)
     (has (c .before .before .before .has-room .ensures) (c .before .before .if2 .left))
     (omega (arith, c .if4 .taken, c .before .if3 .left))
-
-add-k : tie.Need-add-k Inv-loop μ-loop
-add-k c = search needs
 
 loop-holds : tie.Need-loop-holds Inv-loop μ-loop
 loop-holds c =
@@ -53,32 +42,8 @@ loop-holds c =
     (has (c .before .before .before .has-room .ensures) (c .before .before .if2 .left))
     (omega (arith, c .if4 .left, c .before .if3 .left))
 
-sub-k : tie.Need-sub-k Inv-loop μ-loop
-sub-k c = search needs
-
-mul-total : tie.Need-mul-total Inv-loop μ-loop
-mul-total c = omega (arith, c .before .loop .inv .below, c .before .loop .inv .short)
-
-shared-slice-read-total : tie.Need-shared-slice-read-total Inv-loop μ-loop
-shared-slice-read-total c = omega (arith, c .before .before .loop .inv .below, c .before .before .loop .inv .room .1)
-
-cast-total : tie.Need-cast-total Inv-loop μ-loop
-cast-total c = omega (arith, c .shared-slice-known3 .given (c .before .before .loop .k - 1))
-
-mul-select : tie.Need-mul-select Inv-loop μ-loop
-mul-select c = omega (arith, c .before .before .before .loop .inv .below, c .before .before .before .loop .inv .short)
-
 shared-slice-read-select : tie.Need-shared-slice-read-select Inv-loop μ-loop
 shared-slice-read-select c = omega (arith, c .before .before .before .before .loop .inv .below, c .before .before .before .before .loop .inv .room .0)
-
-sub-select : tie.Need-sub-select Inv-loop μ-loop
-sub-select c = omega (arith, c .before .if5 .taken)
-
-sub-select-2 : tie.Need-sub-select-2 Inv-loop μ-loop
-sub-select-2 c = omega (arith, c .before .if5 .taken)
-
-select-requires : tie.Need-select-requires Inv-loop μ-loop
-select-requires c κs = search needs
 
 returns-5 : tie.Need-returns-5 Inv-loop μ-loop
 returns-5 c =
@@ -105,9 +70,6 @@ returns-6 c =
     (c .before .select .ensures)
     (c .if6 .left)
 
-loop-less : tie.Need-loop-less Inv-loop μ-loop
-loop-less c = search needs
-
 loop-again : tie.Need-loop-again Inv-loop μ-loop
 loop-again c = seek-on (c .before .before .before .loop .inv) (omega (arith, c .before .before .loop-test .taken)) (c .if5 .left)
 
@@ -121,27 +83,27 @@ start-of-spec =
     Inv-loop
     μ-loop
     returns
-    has-room-requires
+    (λ c κs. search needs)
     returns-2
     returns-3
-    sub-newline
+    (λ c. search needs)
     returns-4
-    add-k
+    (λ c. search needs)
     loop-holds
-    sub-k
-    mul-total
-    shared-slice-read-total
-    cast-total
-    mul-select
+    (λ c. search needs)
+    (λ c. omega (arith, c .before .loop .inv .below, c .before .loop .inv .short))
+    (λ c. omega (arith, c .before .before .loop .inv .below, c .before .before .loop .inv .room .1))
+    (λ c. omega (arith, c .shared-slice-known3 .given (c .before .before .loop .k - 1)))
+    (λ c. omega (arith, c .before .before .before .loop .inv .below, c .before .before .before .loop .inv .short))
     shared-slice-read-select
-    sub-select
-    sub-select-2
-    select-requires
+    (λ c. omega (arith, c .before .if5 .taken))
+    (λ c. omega (arith, c .before .if5 .taken))
+    (λ c κs. search needs)
     returns-5
     mul-t17
     add-t23
     add-t24
     returns-6
-    loop-less
+    (λ c. search needs)
     loop-again
     returns-7)

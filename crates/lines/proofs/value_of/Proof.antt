@@ -1,16 +1,9 @@
 -- `lines::value_of` meets its contract: a line and a start are values, and it is 0 with the others. Assumes nothing.
-use mathlib.Core.Path.{sym, ap}
+use Rattle.rules.proofs.Base.{sym, ap, needs}
 use Rattle.rules.specs.Lines.{indexValue}
 use Rattle.lines.proofs.Numbers.{no-value}
-use borrow.Author.Needs.{needs}
 use Rattle.lines.proofs.value_of.Statement.{statement}
 use Rattle.lines.proofs.value_of.Tie as tie
-
-enum-known-a : tie.Need-enum-known-a
-enum-known-a c = search needs
-
-enum-known-a-2 : tie.Need-enum-known-a-2
-enum-known-a-2 c = search needs
 
 returns : tie.Need-returns
 unfolding indexValue
@@ -24,4 +17,4 @@ returns-3 : tie.Need-returns-3
 returns-3 c = no-value (c .before .args .a) (c .match .keys3)
 
 pub value-of-spec : {M : Type 1} → statement M
-value-of-spec = tie.close (tie.spec enum-known-a enum-known-a-2 returns returns-2 returns-3)
+value-of-spec = tie.close (tie.spec (λ c. search needs) (λ c. search needs) returns returns-2 returns-3)

@@ -1,8 +1,6 @@
 -- `matching::first_place` meets its contract: a law of the answer for each way out. Assumes nothing.
-use native.Mathlib.Omega.{arith}
-use mathlib.Core.Path.{_∙_}
+use Rattle.rules.proofs.Base.{_∙_, arith, needs}
 use Rattle.matching.proofs.Places.{placed-nowhere, placed-empty, placed-first, placed-long}
-use borrow.Author.Needs.{needs}
 use Rattle.matching.proofs.first_place.Statement.{statement}
 use Rattle.matching.proofs.first_place.Tie as tie
 
@@ -16,16 +14,10 @@ returns-2 c =
     let a = c .before .before .before .before .args in
     placed-empty (a .needle .now) (a .text .now) (c .before .if1 .left) (c .if2 .taken)
 
-place-short-requires : tie.Need-place-short-requires
-place-short-requires c κs = search needs
-
 returns-3 : tie.Need-returns-3
 returns-3 c =
     let a = c .before .before .before .before .before .before .args in
     c .place-short .ensures ∙ placed-first (a .needle .now) (a .text .now) (omega arith) (omega arith)
-
-place-long-requires : tie.Need-place-long-requires
-place-long-requires c κs = search needs
 
 returns-4 : tie.Need-returns-4
 returns-4 c =
@@ -43,8 +35,8 @@ first-place-spec =
     (tie.spec
     returns
     returns-2
-    place-short-requires
+    (λ c κs. search needs)
     returns-3
-    place-long-requires
+    (λ c κs. search needs)
     returns-4
     returns-5)

@@ -1,8 +1,6 @@
 -- `numerals::digit_count` meets its contract: the loop keeps that n digits are counted, the first of what is left among them. Assumes nothing.
-use Prim.Native.Nat.{_+_, _≤_}
-use native.Mathlib.Omega.{arith}
+use Rattle.rules.proofs.Base.{_≤_, _+_, arith, needs}
 use Rattle.numerals.proofs.Writing.{Counted, counts-first, counts-on, counts-all, quotient-less}
-use borrow.Author.Needs.{needs}
 use Rattle.numerals.proofs.digit_count.Statement.{statement}
 use Rattle.numerals.proofs.digit_count.Tie as tie
 
@@ -14,15 +12,6 @@ abbrev μ-loop : tie.MeasureT-loop
 
 loop-holds : tie.Need-loop-holds Inv-loop μ-loop
 loop-holds c = (search needs, search needs, counts-first _ _)
-
-div-left : tie.Need-div-left Inv-loop μ-loop
-div-left c = search needs
-
-add-n : tie.Need-add-n Inv-loop μ-loop
-add-n c = search needs
-
-loop-less : tie.Need-loop-less Inv-loop μ-loop
-loop-less c = quotient-less (c .before .before .args .radix) (c .before .loop .left) (search needs) (search needs)
 
 loop-again : tie.Need-loop-again Inv-loop μ-loop
 loop-again c =
@@ -39,4 +28,4 @@ returns c =
 
 pub digit-count-spec : {M : Type 1} → statement M
 digit-count-spec =
-    tie.close (tie.spec Inv-loop μ-loop loop-holds div-left add-n loop-less loop-again returns)
+    tie.close (tie.spec Inv-loop μ-loop loop-holds (λ c. search needs) (λ c. search needs) (λ c. quotient-less (c .before .before .args .radix) (c .before .loop .left) (search needs) (search needs)) loop-again returns)

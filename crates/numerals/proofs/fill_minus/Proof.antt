@@ -1,27 +1,8 @@
 -- `numerals::fill_minus` meets its contract. Assumes nothing.
-use native.Mathlib.Omega.{arith}
-use mathlib.Core.Path.{ap, _∙_}
-use mathlib.Core.List.{_∷_}
-use lib.ListN.{length, length-set}
+use Rattle.rules.proofs.Base.{_∙_, ap, _∷_, arith, length, length-set, needs}
 use Rattle.numerals.proofs.Writing.{part-length, put-behind}
-use borrow.Author.Needs.{needs}
 use Rattle.numerals.proofs.fill_minus.Statement.{statement}
 use Rattle.numerals.proofs.fill_minus.Tie as tie
-
-slice-write-out : tie.Need-slice-write-out
-slice-write-out c = search needs
-
-sub-fill : tie.Need-sub-fill
-sub-fill c = simp length-set (omega arith)
-
-part-fill-start : tie.Need-part-fill-start
-part-fill-start c = simp length-set (omega arith)
-
-part-fill-end : tie.Need-part-fill-end
-part-fill-end c = search needs
-
-fill-requires : tie.Need-fill-requires
-fill-requires c κs = (search needs, search needs, omega (arith, part-length (c .before .before .args .out .now) (omega arith)))
 
 same-length : tie.Need-same-length
 same-length c =
@@ -38,10 +19,10 @@ pub fill-minus-spec : {M : Type 1} → statement M
 fill-minus-spec =
     tie.close
     (tie.spec
-    slice-write-out
-    sub-fill
-    part-fill-start
-    part-fill-end
-    fill-requires
+    (λ c. search needs)
+    (λ c. simp length-set (omega arith))
+    (λ c. simp length-set (omega arith))
+    (λ c. search needs)
+    (λ c κs. (search needs, search needs, omega (arith, part-length (c .before .before .args .out .now) (omega arith))))
     same-length
     returns)

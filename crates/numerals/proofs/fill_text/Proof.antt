@@ -1,12 +1,8 @@
 -- `numerals::fill_text` meets its contract. Assumes nothing.
-use native.Mathlib.Omega.{arith}
+use Rattle.rules.proofs.Base.{arith, needs}
 use Rattle.numerals.proofs.Writing.{plain-length, fills-plain, minus-length, fills-minus}
-use borrow.Author.Needs.{needs}
 use Rattle.numerals.proofs.fill_text.Statement.{statement}
 use Rattle.numerals.proofs.fill_text.Tie as tie
-
-magnitude-requires : tie.Need-magnitude-requires
-magnitude-requires c κs = search needs
 
 fill-requires : tie.Need-fill-requires
 fill-requires c κs =
@@ -20,17 +16,11 @@ fill-minus-requires c κs =
     let m = c .before .before .magnitude in
     (search needs, search needs, omega (arith, minus-length (a .x) (a .radix) (m .result) (m .ensures) (c .before .if1 .left) 0))
 
-same-length : tie.Need-same-length
-same-length c = search needs
-
 returns : tie.Need-returns
 returns c =
     let a = c .before .before .before .before .before .before .before .args in
     let m = c .before .before .before .before .before .magnitude in
     λ least. fills-plain (a .x) (a .radix) (m .result) (m .ensures) (c .before .before .before .before .if1 .taken) least (a .out .now) (c .before .before .fill .last .0) (c .before .before .fill .ensures)
-
-same-length-2 : tie.Need-same-length-2
-same-length-2 c = search needs
 
 returns-2 : tie.Need-returns-2
 returns-2 c =
@@ -42,10 +32,10 @@ pub fill-text-spec : {M : Type 1} → statement M
 fill-text-spec =
     tie.close
     (tie.spec
-    magnitude-requires
+    (λ c κs. search needs)
     fill-requires
     fill-minus-requires
-    same-length
+    (λ c. search needs)
     returns
-    same-length-2
+    (λ c. search needs)
     returns-2)

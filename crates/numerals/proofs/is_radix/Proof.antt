@@ -1,6 +1,5 @@
 -- `numerals::is_radix` meets its contract. Assumes nothing.
-use native.Mathlib.Omega.{arith}
-use borrow.Author.Tests.{le-leb, lt-leb}
+use Rattle.rules.proofs.Base.{arith, le-leb, lt-leb}
 use Rattle.numerals.specs.Answers.{isRadix}
 use Rattle.numerals.proofs.is_radix.Statement.{statement}
 use Rattle.numerals.proofs.is_radix.Tie as tie

@@ -1,23 +1,8 @@
 -- `numerals::length_in` meets its contract. Assumes nothing.
-use native.Mathlib.Omega.{arith}
-use Prim.Native.Nat.{max, _+_}
-use mathlib.Core.Path.{sym, ap, _∙_}
+use Rattle.rules.proofs.Base.{_+_, max, _∙_, sym, ap, arith, needs}
 use Rattle.numerals.proofs.Writing.{plain-length, minus-length}
-use borrow.Author.Needs.{needs}
 use Rattle.numerals.proofs.length_in.Statement.{statement}
 use Rattle.numerals.proofs.length_in.Tie as tie
-
-magnitude-requires : tie.Need-magnitude-requires
-magnitude-requires c κs = search needs
-
-digit-count-requires : tie.Need-digit-count-requires
-digit-count-requires c κs = search needs
-
-larger-requires : tie.Need-larger-requires
-larger-requires c κs = search needs
-
-add-result : tie.Need-add-result
-add-result c = search needs
 
 returns : tie.Need-returns
 returns c =
@@ -35,4 +20,4 @@ returns-2 c =
 pub length-in-spec : {M : Type 1} → statement M
 length-in-spec =
     tie.close
-    (tie.spec magnitude-requires digit-count-requires larger-requires add-result returns returns-2)
+    (tie.spec (λ c κs. search needs) (λ c κs. search needs) (λ c κs. search needs) (λ c. search needs) returns returns-2)

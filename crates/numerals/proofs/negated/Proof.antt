@@ -1,22 +1,11 @@
 -- `numerals::negated` meets its contract. Assumes nothing.
-use native.Mathlib.Omega.{arith}
-use lib.IntN.{pos, negℤ}
+use Rattle.rules.proofs.Base.{arith, pos, negℤ, needs}
 use Rattle.numerals.proofs.Reading.{no-number, one-number, number-beyond, wrapped-neg}
-use borrow.Author.Needs.{needs}
 use Rattle.numerals.proofs.negated.Statement.{statement}
 use Rattle.numerals.proofs.negated.Tie as tie
 
-enum-known-n : tie.Need-enum-known-n
-enum-known-n c = search needs
-
-enum-told : tie.Need-enum-told
-enum-told c = search needs
-
 returns : tie.Need-returns
 returns c = no-number (λ m. negℤ (pos m)) 2147483648 (c .enum-told .given .1)
-
-wrapping-sub-u32-requires : tie.Need-wrapping-sub-u32-requires
-wrapping-sub-u32-requires c κs = search needs
 
 returns-2 : tie.Need-returns-2
 returns-2 c =
@@ -32,4 +21,4 @@ returns-3 c =
 pub negated-spec : {M : Type 1} → statement M
 negated-spec =
     tie.close
-    (tie.spec enum-known-n enum-told returns wrapping-sub-u32-requires returns-2 returns-3)
+    (tie.spec (λ c. search needs) (λ c. search needs) returns (λ c κs. search needs) returns-2 returns-3)

@@ -1,13 +1,8 @@
 -- `numerals::one_more` meets its contract. Assumes nothing.
-use native.Mathlib.Omega.{arith}
-use mathlib.Core.Logic.{inl, inr}
+use Rattle.rules.proofs.Base.{inl, inr, arith, needs}
 use Rattle.numerals.proofs.Reading.{fits-wide, no-digit, one-digit, one-beyond}
-use borrow.Author.Needs.{needs}
 use Rattle.numerals.proofs.one_more.Statement.{statement}
 use Rattle.numerals.proofs.one_more.Tie as tie
-
-digit-worth-requires : tie.Need-digit-worth-requires
-digit-worth-requires c κs = search needs
 
 returns : tie.Need-returns
 returns c =
@@ -25,15 +20,6 @@ mul-n c =
     let h = fits-wide {v = a .v} {radix = a .radix} {d = 0} (search needs) (search needs) (omega arith) in
     omega arith
 
-cast-n : tie.Need-cast-n
-cast-n c = search needs
-
-add-n : tie.Need-add-n
-add-n c = record { fits = fits-wide (search needs) (search needs) (search needs) }
-
-cast-t12 : tie.Need-cast-t12
-cast-t12 c = search needs
-
 returns-3 : tie.Need-returns-3
 returns-3 c =
     let a = c .before .before .before .before .args in
@@ -50,12 +36,12 @@ pub one-more-spec : {M : Type 1} → statement M
 one-more-spec =
     tie.close
     (tie.spec
-    digit-worth-requires
+    (λ c κs. search needs)
     returns
     returns-2
     mul-n
-    cast-n
-    add-n
-    cast-t12
+    (λ c. search needs)
+    (λ c. record { fits = fits-wide (search needs) (search needs) (search needs) })
+    (λ c. search needs)
     returns-3
     returns-4)

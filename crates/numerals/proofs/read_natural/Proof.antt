@@ -1,8 +1,6 @@
 -- `numerals::read_natural` meets its contract: the loop keeps that the whole is what the rest writes behind v. Assumes nothing.
-use Prim.Native.Nat.{_-_, _≤_}
-use lib.ListN.{length}
+use Rattle.rules.proofs.Base.{_≤_, _-_, length, needs}
 use Rattle.numerals.proofs.Reading.{Reads, reads-first, reads-none, reads-on, reads-off, reads-end}
-use borrow.Author.Needs.{needs}
 use Rattle.numerals.proofs.read_natural.Statement.{statement}
 use Rattle.numerals.proofs.read_natural.Tie as tie
 
@@ -18,29 +16,11 @@ returns c = reads-none (c .before .before .args .radix) (c .before .before .args
 loop-holds : tie.Need-loop-holds Inv-loop μ-loop
 loop-holds c = (search needs, search needs, reads-first (c .before .before .args .radix) (c .before .before .args .s .now) (c .if1 .left))
 
-shared-slice-read-one-more : tie.Need-shared-slice-read-one-more Inv-loop μ-loop
-shared-slice-read-one-more c = search needs
-
-one-more-requires : tie.Need-one-more-requires Inv-loop μ-loop
-one-more-requires c κs = search needs
-
-enum-known-n : tie.Need-enum-known-n Inv-loop μ-loop
-enum-known-n c = search needs
-
-enum-told : tie.Need-enum-told Inv-loop μ-loop
-enum-told c = search needs
-
 returns-2 : tie.Need-returns-2 Inv-loop μ-loop
 returns-2 c =
     let a = c .before .before .before .before .before .before .before .before .args in
     let l = c .before .before .before .before .before .loop in
     reads-off (a .radix) (a .s .now) (l .v) (l .i) (l .inv .2) (c .before .before .before .before .loop-test .taken) (c .before .before .one-more .ensures) (c .enum-told .given .1)
-
-add-i : tie.Need-add-i Inv-loop μ-loop
-add-i c = search needs
-
-loop-less : tie.Need-loop-less Inv-loop μ-loop
-loop-less c = search needs
 
 loop-again : tie.Need-loop-again Inv-loop μ-loop
 loop-again c =
@@ -65,12 +45,12 @@ read-natural-spec =
     μ-loop
     returns
     loop-holds
-    shared-slice-read-one-more
-    one-more-requires
-    enum-known-n
-    enum-told
+    (λ c. search needs)
+    (λ c κs. search needs)
+    (λ c. search needs)
+    (λ c. search needs)
     returns-2
-    add-i
-    loop-less
+    (λ c. search needs)
+    (λ c. search needs)
     loop-again
     returns-3)

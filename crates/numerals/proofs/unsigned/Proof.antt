@@ -1,16 +1,8 @@
 -- `numerals::unsigned` meets its contract. Assumes nothing.
-use native.Mathlib.Omega.{arith}
-use lib.IntN.{pos}
+use Rattle.rules.proofs.Base.{arith, pos, needs}
 use Rattle.numerals.proofs.Reading.{no-number, one-number, number-beyond, wrapped-pos}
-use borrow.Author.Needs.{needs}
 use Rattle.numerals.proofs.unsigned.Statement.{statement}
 use Rattle.numerals.proofs.unsigned.Tie as tie
-
-enum-known-n : tie.Need-enum-known-n
-enum-known-n c = search needs
-
-enum-told : tie.Need-enum-told
-enum-told c = search needs
 
 returns : tie.Need-returns
 returns c = no-number pos 2147483647 (c .enum-told .given .1)
@@ -26,4 +18,4 @@ returns-3 c =
     number-beyond pos 2147483647 (n .0 .0) (n .1) (omega arith)
 
 pub unsigned-spec : {M : Type 1} → statement M
-unsigned-spec = tie.close (tie.spec enum-known-n enum-told returns returns-2 returns-3)
+unsigned-spec = tie.close (tie.spec (λ c. search needs) (λ c. search needs) returns returns-2 returns-3)

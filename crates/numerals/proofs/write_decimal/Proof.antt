@@ -5,15 +5,9 @@ use borrow.Author.Needs.{needs}
 use Rattle.numerals.proofs.write_decimal.Statement.{statement}
 use Rattle.numerals.proofs.write_decimal.Tie as tie
 
-write-number-requires : tie.Need-write-number-requires
-write-number-requires c κs = search needs
-
-same-length : tie.Need-same-length
-same-length c = search needs
-
 returns : tie.Need-returns
 unfolding decimal isRadix
 returns c = c .before .before .write-number .ensures
 
 pub write-decimal-spec : {M : Type 1} → statement M
-write-decimal-spec = tie.close (tie.spec write-number-requires same-length returns)
+write-decimal-spec = tie.close (tie.spec (λ c κs. search needs) (λ c. search needs) returns)

@@ -1,19 +1,9 @@
 -- `numerals::write_number` meets its contract. Assumes nothing.
-use native.Mathlib.Omega.{arith}
+use Rattle.rules.proofs.Base.{arith, needs}
 use Rattle.rules.specs.Words.{signedValue}
 use Rattle.numerals.proofs.Writing.{room-text, bad-radix, bad-room, good-room}
-use borrow.Author.Needs.{needs}
 use Rattle.numerals.proofs.write_number.Statement.{statement}
 use Rattle.numerals.proofs.write_number.Tie as tie
-
-written-length-requires : tie.Need-written-length-requires
-written-length-requires c κs = search needs
-
-enum-known-n : tie.Need-enum-known-n
-enum-known-n c = search needs
-
-enum-told : tie.Need-enum-told
-enum-told c = search needs
 
 returns : tie.Need-returns
 returns c =
@@ -24,9 +14,6 @@ fill-text-requires : tie.Need-fill-text-requires
 fill-text-requires c κs =
     let a = c .before .before .before .before .before .before .before .args in
     room-text (a .radix) (a .least) (signedValue (a .x)) (a .out .now) (c .before .before .before .before .before .written-length .ensures) (c .before .before .before .n .given .1) (omega arith)
-
-same-length : tie.Need-same-length
-same-length c = search needs
 
 returns-2 : tie.Need-returns-2
 returns-2 c =
@@ -43,11 +30,11 @@ pub write-number-spec : {M : Type 1} → statement M
 write-number-spec =
     tie.close
     (tie.spec
-    written-length-requires
-    enum-known-n
-    enum-told
+    (λ c κs. search needs)
+    (λ c. search needs)
+    (λ c. search needs)
     returns
     fill-text-requires
-    same-length
+    (λ c. search needs)
     returns-2
     returns-3)

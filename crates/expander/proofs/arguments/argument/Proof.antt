@@ -1,12 +1,9 @@
 -- `expander::arguments::argument` meets its contract: what `place_of` says of the buffer that is there. Assumes nothing.
 use Rattle.rules.specs.Arguments.{arg}
 use Rattle.expander.specs.Arguments.{SpanIs}
-use borrow.Author.Needs.{needs}
+use Rattle.rules.proofs.Base.{needs}
 use Rattle.expander.proofs.arguments.argument.Statement.{statement}
 use Rattle.expander.proofs.arguments.argument.Tie as tie
-
-place-of-requires : tie.Need-place-of-requires
-place-of-requires c κs = search needs
 
 -- the part that `place_of` found
 place : (c : tie.After-place-of) → let s = c .before .before .before in SpanIs (s .args .bytes .now) (c .place-of .result) (arg (s .args .n) (s .pre .0 .args))
@@ -14,18 +11,9 @@ place c =
     let s = c .before .before .before in
     c .place-of .ensures (s .args .bytes .now) (s .pre .0 .args) (s .pre .0 .holds)
 
-sub-result : tie.Need-sub-result
-sub-result c = place c .ordered
-
-part-result-start : tie.Need-part-result-start
-part-result-start c = place c .ordered
-
-part-result-end : tie.Need-part-result-end
-part-result-end c = place c .inside
-
 returns : tie.Need-returns
 returns c = λ args h. c .before .place-of .ensures (c .before .before .before .before .args .bytes .now) args h .is
 
 pub argument-spec : {M : Type 1} → statement M
 argument-spec =
-    tie.close (tie.spec place-of-requires sub-result part-result-start part-result-end returns)
+    tie.close (tie.spec (λ c κs. search needs) (λ c. place c .ordered) (λ c. place c .ordered) (λ c. place c .inside) returns)

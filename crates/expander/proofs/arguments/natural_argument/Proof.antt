@@ -1,18 +1,11 @@
 -- `expander::arguments::natural_argument` meets its contract. Assumes nothing.
-use mathlib.Core.Path.{ap, _∙_}
+use Rattle.rules.proofs.Base.{_∙_, ap, needs}
 use Rattle.rules.specs.Numerals.{number}
 use Rattle.rules.specs.Arguments.{arg}
 use Rattle.expander.specs.Arguments.{bitsWithin}
 use Rattle.expander.proofs.ArgumentLaws.{number-range, within-bits}
-use borrow.Author.Needs.{needs}
 use Rattle.expander.proofs.arguments.natural_argument.Statement.{statement}
 use Rattle.expander.proofs.arguments.natural_argument.Tie as tie
-
-decimal-argument-requires : tie.Need-decimal-argument-requires
-decimal-argument-requires c κs = search needs
-
-within-requires : tie.Need-within-requires
-within-requires c κs = search needs
 
 returns : tie.Need-returns
 returns c =
@@ -24,4 +17,4 @@ returns c =
     ∙ within-bits (a .low) (a .high) (number (arg (a .n) args)) (s .pre .3) (number-range (arg (a .n) args))
 
 pub natural-argument-spec : {M : Type 1} → statement M
-natural-argument-spec = tie.close (tie.spec decimal-argument-requires within-requires returns)
+natural-argument-spec = tie.close (tie.spec (λ c κs. search needs) (λ c κs. search needs) returns)

@@ -1,18 +1,10 @@
 -- `expander::arguments::natural_or` meets its contract. Assumes nothing.
-use mathlib.Core.Path.{ap, _∙_}
-use lib.IntN.{pos}
+use Rattle.rules.proofs.Base.{_∙_, ap, pos, needs}
 use Rattle.rules.specs.Arguments.{numberOr}
 use Rattle.expander.specs.Arguments.{bitsWithin}
 use Rattle.expander.proofs.ArgumentLaws.{number-or-range, within-bits}
-use borrow.Author.Needs.{needs}
 use Rattle.expander.proofs.arguments.natural_or.Statement.{statement}
 use Rattle.expander.proofs.arguments.natural_or.Tie as tie
-
-decimal-or-requires : tie.Need-decimal-or-requires
-decimal-or-requires c κs = search needs
-
-within-requires : tie.Need-within-requires
-within-requires c κs = search needs
 
 returns : tie.Need-returns
 returns c =
@@ -24,4 +16,4 @@ returns c =
     ∙ within-bits (a .low) (a .high) (numberOr (pos (a .default)) (a .n) args) (s .pre .4) (λ z. number-or-range (a .default) (a .n) args (s .pre .1) z (s .pre .3))
 
 pub natural-or-spec : {M : Type 1} → statement M
-natural-or-spec = tie.close (tie.spec decimal-or-requires within-requires returns)
+natural-or-spec = tie.close (tie.spec (λ c κs. search needs) (λ c κs. search needs) returns)

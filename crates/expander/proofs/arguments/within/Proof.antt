@@ -1,14 +1,8 @@
 -- `expander::arguments::within` meets its contract. Assumes nothing.
 use Rattle.expander.proofs.ArgumentLaws.{no-bits, bits-low, bits-high, bits-in}
-use borrow.Author.Needs.{needs}
+use Rattle.rules.proofs.Base.{needs}
 use Rattle.expander.proofs.arguments.within.Statement.{statement}
 use Rattle.expander.proofs.arguments.within.Tie as tie
-
-enum-known-d : tie.Need-enum-known-d
-enum-known-d c = search needs
-
-enum-told : tie.Need-enum-told
-enum-told c = search needs
 
 returns : tie.Need-returns
 returns c =
@@ -31,4 +25,4 @@ returns-4 c =
     bits-in (a .low) (a .high) _ (c .before .before .before .d .given .1) (c .before .if1 .left) (c .if2 .left)
 
 pub within-spec : {M : Type 1} → statement M
-within-spec = tie.close (tie.spec enum-known-d enum-told returns returns-2 returns-3 returns-4)
+within-spec = tie.close (tie.spec (λ c. search needs) (λ c. search needs) returns returns-2 returns-3 returns-4)

@@ -1,37 +1,15 @@
 -- `expander::defining::pushdef` meets its contract. Assumes nothing.
-use native.Mathlib.Omega.{arith}
+use Rattle.rules.proofs.Base.{arith, needs}
 use Rattle.rules.specs.Table.{pushed}
-use Rattle.expander.proofs.Rows.{sound}
+use Rattle.expander.proofs.Rows.{valid}
 use Rattle.expander.proofs.DefiningLaws.{name-long, cost-pushed, pushdef-is, unnamed, overfilled, named}
-use borrow.Author.Needs.{needs}
 use Rattle.expander.proofs.defining.pushdef.Statement.{statement}
 use Rattle.expander.proofs.defining.pushdef.Tie as tie
-
-argument-requires : tie.Need-argument-requires
-argument-requires c κs = search needs
-
-argument-requires-2 : tie.Need-argument-requires-2
-argument-requires-2 c κs = search needs
-
-is-name-requires : tie.Need-is-name-requires
-is-name-requires c κs = search needs
-
-refused-requires : tie.Need-refused-requires
-refused-requires c κs = search needs
 
 returns : tie.Need-returns
 returns c =
     let k = c .before in
     λ a s b args r h. unnamed r args pushed (pushdef-is args s) (k .before .before .before .argument .ensures args h) (k .before .is-name .ensures) (k .if1 .taken) (c .refused .ensures)
-
-add-size : tie.Need-add-size
-add-size c = search needs
-
-sub-if2 : tie.Need-sub-if2
-sub-if2 c = search needs
-
-refused-requires-2 : tie.Need-refused-requires-2
-refused-requires-2 c κs = search needs
 
 returns-2 : tie.Need-returns-2
 returns-2 c =
@@ -46,21 +24,9 @@ returns-2 c =
 push-requires : tie.Need-push-requires
 push-requires c κs =
     let k = c .before .before .before .before .before in
-    let h = k .before .before .before .before .before .before .before .before .pre .0 .means .table .holds in
+    let h = k .before .before .before .before .before .before .before .before .pre .0 .represents .table .holds in
     let l = name-long (k .before .before .before .argument .result .now) (k .before .is-name .ensures) (k .if1 .left) in
-    (sound h, (l, omega (arith, c .before .before .if2 .left, h .packs .used-in)))
-
-with-table-requires : tie.Need-with-table-requires
-with-table-requires c κs = search needs
-
-on-requires : tie.Need-on-requires
-on-requires c κs = search needs
-
-same-length : tie.Need-same-length
-same-length c = search needs
-
-same-length-2 : tie.Need-same-length-2
-same-length-2 c = search needs
+    (valid h, (l, omega (arith, c .before .before .if2 .left, h .packs .used-in)))
 
 returns-3 : tie.Need-returns-3
 returns-3 c =
@@ -77,18 +43,18 @@ pub pushdef-spec : {M : Type 1} → statement M
 pushdef-spec =
     tie.close
     (tie.spec
-    argument-requires
-    argument-requires-2
-    is-name-requires
-    refused-requires
+    (λ c κs. search needs)
+    (λ c κs. search needs)
+    (λ c κs. search needs)
+    (λ c κs. search needs)
     returns
-    add-size
-    sub-if2
-    refused-requires-2
+    (λ c. search needs)
+    (λ c. search needs)
+    (λ c κs. search needs)
     returns-2
     push-requires
-    with-table-requires
-    on-requires
-    same-length
-    same-length-2
+    (λ c κs. search needs)
+    (λ c κs. search needs)
+    (λ c. search needs)
+    (λ c. search needs)
     returns-3)

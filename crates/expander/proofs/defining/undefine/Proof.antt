@@ -1,18 +1,13 @@
 -- `expander::defining::undefine` meets its contract: the loop keeps what is left to do, for all tables that the buffers may hold. Assumes nothing.
-use Prim.Native.Nat.{_-_, _≤_}
-use native.Mathlib.Omega.{arith}
-use mathlib.Core.Path.{_≡_, refl, _∙_}
-use mathlib.Core.List.{List}
-use lib.ListN.{length}
+use Rattle.rules.proofs.Base.{_≤_, _-_, _∙_, refl, _≡_, List, arith, length, needs}
 use Rattle.rules.specs.Bytes.{Bytes}
 use Rattle.rules.specs.Table.{Table, undefined}
 use Rattle.expander.specs.Limits.{callEndsLength}
 use Rattle.expander.specs.Arguments.{ArgumentsIn}
 use Rattle.expander.specs.Table.{TableIn}
 use Rattle.expander.proofs.ArgumentLaws.{few-arguments}
-use Rattle.expander.proofs.Rows.{sound}
+use Rattle.expander.proofs.Rows.{valid}
 use Rattle.expander.proofs.DefiningLaws.{undefine-is, removed, InTurn, turns-begin, turns-on, turns-end}
-use borrow.Author.Needs.{needs}
 use Rattle.expander.proofs.defining.undefine.Statement.{statement}
 use Rattle.expander.proofs.defining.undefine.Tie as tie
 
@@ -23,12 +18,6 @@ Inv-loop calls ends definitions₀ table-ends₀ m x have t₀ k₀ definitions 
 
 abbrev μ-loop : tie.MeasureT-loop
 μ-loop calls ends definitions₀ table-ends₀ m x have t₀ k₀ definitions table-ends t k = have - k
-
-count-requires : tie.Need-count-requires Inv-loop μ-loop
-count-requires c κs = search needs
-
-loop-holds : tie.Need-loop-holds Inv-loop μ-loop
-loop-holds c = (refl, refl, λ args u h k. turns-begin undefined args k)
 
 abbrev entry : tie.In-loop Inv-loop μ-loop → tie.Start Inv-loop μ-loop
 entry c = c .before .before .before .before .before .before .before .before
@@ -42,20 +31,11 @@ have-few c =
     let g = entry c .pre .1 in
     omega (arith, have-is c (g .args) (g .holds), few-arguments (g .holds))
 
-add-k : tie.Need-add-k Inv-loop μ-loop
-add-k c = omega (arith, c .loop-test .taken, have-few c)
-
-argument-requires : tie.Need-argument-requires Inv-loop μ-loop
-argument-requires c κs = (entry c .pre .1, omega arith, omega (arith, c .loop-test .taken, have-few c))
-
 undefine-requires : tie.Need-undefine-requires Inv-loop μ-loop
 undefine-requires c κs =
     let l = c .before .before .before in
     let s = entry l in
-    sound (l .before .loop .inv .2 (s .pre .1 .args) (s .pre .0 .state .table) (s .pre .1 .holds) (s .pre .0 .means .table) .holds .holds)
-
-loop-less : tie.Need-loop-less Inv-loop μ-loop
-loop-less c = omega (arith, c .before .before .before .before .before .before .before .before .loop-test .taken)
+    valid (l .before .loop .inv .2 (s .pre .1 .args) (s .pre .0 .state .table) (s .pre .1 .holds) (s .pre .0 .represents .table) .holds .holds)
 
 loop-again : tie.Need-loop-again Inv-loop μ-loop
 loop-again c =
@@ -67,18 +47,6 @@ loop-again c =
       d .kept .1 .1 .0 ∙ i .inv .1,
       λ args u h k. turns-on (i .inv .2 args u h k) (w .result .now) (omega (arith, l .loop-test .taken, have-is l args h)) (w .ensures args h) (d .ensures),
     )
-
-with-table-requires : tie.Need-with-table-requires Inv-loop μ-loop
-with-table-requires c κs = search needs
-
-on-requires : tie.Need-on-requires Inv-loop μ-loop
-on-requires c κs = search needs
-
-same-length : tie.Need-same-length Inv-loop μ-loop
-same-length c = search needs
-
-same-length-2 : tie.Need-same-length-2 Inv-loop μ-loop
-same-length-2 c = search needs
 
 returns : tie.Need-returns Inv-loop μ-loop
 returns c =
@@ -94,15 +62,15 @@ undefine-spec =
     (tie.spec
     Inv-loop
     μ-loop
-    count-requires
-    loop-holds
-    add-k
-    argument-requires
+    (λ c κs. search needs)
+    (λ c. (refl, refl, λ args u h k. turns-begin undefined args k))
+    (λ c. omega (arith, c .loop-test .taken, have-few c))
+    (λ c κs. (entry c .pre .1, omega arith, omega (arith, c .loop-test .taken, have-few c)))
     undefine-requires
-    loop-less
+    (λ c. omega (arith, c .before .before .before .before .before .before .before .before .loop-test .taken))
     loop-again
-    with-table-requires
-    on-requires
-    same-length
-    same-length-2
+    (λ c κs. search needs)
+    (λ c κs. search needs)
+    (λ c. search needs)
+    (λ c. search needs)
     returns)

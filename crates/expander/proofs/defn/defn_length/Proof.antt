@@ -1,7 +1,5 @@
 -- `expander::defn::defn_length` meets its contract: the loop keeps that the whole is longer than the rest by what is counted. Assumes nothing.
-use Prim.Native.Nat.{_-_, _*_, _≤_}
-use native.Mathlib.Omega.{arith}
-use mathlib.Core.List.{List}
+use Rattle.rules.proofs.Base.{_≤_, _-_, _*_, List, arith, needs}
 use Rattle.rules.specs.Bytes.{Bytes}
 use Rattle.rules.specs.Marks.{markTexts}
 use Rattle.rules.specs.Table.{Table}
@@ -10,7 +8,6 @@ use Rattle.expander.specs.Arguments.{ArgumentsIn}
 use Rattle.expander.specs.Table.{TableIn}
 use Rattle.expander.proofs.ArgumentLaws.{few-arguments}
 use Rattle.expander.proofs.DefnLaws.{Measured, measured-begins, measured-on, measured-none, measured-ends}
-use borrow.Author.Needs.{needs}
 use Rattle.expander.proofs.defn.defn_length.Statement.{statement}
 use Rattle.expander.proofs.defn.defn_length.Tie as tie
 
@@ -23,12 +20,6 @@ Inv-loop bytes ends x marks definitions table-ends t have total₀ k₀ total k 
 abbrev μ-loop : tie.MeasureT-loop
 μ-loop bytes ends x marks definitions table-ends t have total₀ k₀ total k = have - k
 
-count-requires : tie.Need-count-requires Inv-loop μ-loop
-count-requires c κs = search needs
-
-loop-holds : tie.Need-loop-holds Inv-loop μ-loop
-loop-holds c = (omega arith, omega arith, λ args u a h. measured-begins _ u args)
-
 counted : (c : tie.After-count Inv-loop μ-loop) → c .count .result ≤ callEndsLength
 counted c =
     let k = c .before .before .before .before .before .pre .0 in
@@ -37,22 +28,10 @@ counted c =
 piece-most : (c : tie.After-known-told Inv-loop μ-loop) → c .before .n .given .0 .0 ≤ 65546
 piece-most c = c .before .before .before .named-length .ensures .1 _ (c .before .n .given .1)
 
-add-k : tie.Need-add-k Inv-loop μ-loop
-add-k c = search needs
-
 argument-requires : tie.Need-argument-requires Inv-loop μ-loop
 argument-requires c κs =
     let s = c .before .before .before .before .before .before .before in
     (s .pre .0, omega arith, omega (arith, counted (c .before .before), c .loop-test .taken))
-
-named-length-requires : tie.Need-named-length-requires Inv-loop μ-loop
-named-length-requires c κs = search needs
-
-enum-known-n : tie.Need-enum-known-n Inv-loop μ-loop
-enum-known-n c = search needs
-
-enum-told : tie.Need-enum-told Inv-loop μ-loop
-enum-told c = search needs
 
 returns : tie.Need-returns Inv-loop μ-loop
 returns c =
@@ -63,9 +42,6 @@ returns c =
 
 add-total : tie.Need-add-total Inv-loop μ-loop
 add-total c = omega (arith, piece-most c, counted (c .before .before .before .before .before .before .before), c .before .before .before .before .before .before .loop .inv .1, c .before .before .before .before .before .loop-test .taken)
-
-loop-less : tie.Need-loop-less Inv-loop μ-loop
-loop-less c = omega (arith, c .before .before .before .before .before .loop-test .taken)
 
 loop-again : tie.Need-loop-again Inv-loop μ-loop
 loop-again c =
@@ -89,15 +65,15 @@ defn-length-spec =
     (tie.spec
     Inv-loop
     μ-loop
-    count-requires
-    loop-holds
-    add-k
+    (λ c κs. search needs)
+    (λ c. (omega arith, omega arith, λ args u a h. measured-begins _ u args))
+    (λ c. search needs)
     argument-requires
-    named-length-requires
-    enum-known-n
-    enum-told
+    (λ c κs. search needs)
+    (λ c. search needs)
+    (λ c. search needs)
     returns
     add-total
-    loop-less
+    (λ c. omega (arith, c .before .before .before .before .before .loop-test .taken))
     loop-again
     returns-2)

@@ -1,9 +1,5 @@
 -- `expander::defn::fill_defn` meets its contract: the loop keeps that what is written stands in front of the rest's result. Assumes nothing.
-use Prim.Native.Nat.{_-_, _≤_}
-use native.Mathlib.Omega.{arith}
-use mathlib.Core.Path.{_≡_, refl}
-use mathlib.Core.List.{List}
-use lib.ListN.{length}
+use Rattle.rules.proofs.Base.{_≤_, _-_, refl, _≡_, List, arith, length, needs}
 use Rattle.rules.specs.Bytes.{Bytes}
 use Rattle.rules.specs.Marks.{markTexts}
 use Rattle.rules.specs.Table.{Table}
@@ -11,7 +7,6 @@ use Rattle.expander.specs.Arguments.{ArgumentsIn}
 use Rattle.expander.specs.Table.{TableIn}
 use Rattle.expander.proofs.ArgumentLaws.{few-arguments}
 use Rattle.expander.proofs.DefnLaws.{Joining, joining-begins, joining-room, joining-on, joining-ends}
-use borrow.Author.Needs.{needs}
 use Rattle.expander.proofs.defn.fill_defn.Statement.{statement}
 use Rattle.expander.proofs.defn.fill_defn.Tie as tie
 
@@ -24,14 +19,8 @@ Inv-loop bytes ends x marks definitions table-ends t dst₀ have at₀ k₀ dst 
 abbrev μ-loop : tie.MeasureT-loop
 μ-loop bytes ends x marks definitions table-ends t dst₀ have at₀ k₀ dst at k = have - k
 
-count-requires : tie.Need-count-requires Inv-loop μ-loop
-count-requires c κs = search needs
-
 loop-holds : tie.Need-loop-holds Inv-loop μ-loop
 loop-holds c = (omega arith, refl, λ args u a h. joining-begins (c .before .before .before .before .before .before .pre .1 args u a h))
-
-add-k : tie.Need-add-k Inv-loop μ-loop
-add-k c = search needs
 
 argument-requires : tie.Need-argument-requires Inv-loop μ-loop
 argument-requires c κs =
@@ -48,9 +37,6 @@ fill-named-requires c κs =
           (omega (arith, c .before .before .loop-test .taken, c .before .before .before .before .count .ensures _ _ (k .args) (k .holds))) e,
     )
 
-loop-less : tie.Need-loop-less Inv-loop μ-loop
-loop-less c = omega (arith, c .before .before .before .before .before .loop-test .taken)
-
 loop-again : tie.Need-loop-again Inv-loop μ-loop
 loop-again c =
     let l = c .before .before .before .before .before .before .loop in
@@ -63,9 +49,6 @@ loop-again c =
           (λ w e. f .ensures u w h e) (omega (arith, f .kept)),
     )
 
-same-length : tie.Need-same-length Inv-loop μ-loop
-same-length c = c .before .loop .inv .1
-
 returns : tie.Need-returns Inv-loop μ-loop
 returns c =
     let l = c .before .loop in
@@ -77,12 +60,12 @@ fill-defn-spec =
     (tie.spec
     Inv-loop
     μ-loop
-    count-requires
+    (λ c κs. search needs)
     loop-holds
-    add-k
+    (λ c. search needs)
     argument-requires
     fill-named-requires
-    loop-less
+    (λ c. omega (arith, c .before .before .before .before .before .loop-test .taken))
     loop-again
-    same-length
+    (λ c. c .before .loop .inv .1)
     returns)

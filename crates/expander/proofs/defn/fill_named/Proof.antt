@@ -1,20 +1,12 @@
 -- `expander::defn::fill_named` meets its contract: a case for each thing that looking a name up answers. Assumes nothing.
-use Prim.Native.Nat.{_+_, _*_, _<_}
-use native.Mathlib.Omega.{arith}
+use Rattle.rules.proofs.Base.{_+_, _<_, _*_, arith, needs}
 use Rattle.expander.specs.Table.{rows}
 use Rattle.expander.proofs.Changing.{few-strings}
-use Rattle.expander.proofs.DefnLaws.{named-text, named-predefined, named-undefined, sound-table, text-within, same-text, no-text, nothing-lays}
+use Rattle.expander.proofs.DefnLaws.{named-text, named-predefined, named-undefined, valid-table, text-within, same-text, no-text, nothing-lays}
 use Rattle.expander.proofs.Packing.{formed}
 use Rattle.expander.proofs.SubstitutionLaws.{lays-as}
-use borrow.Author.Needs.{needs}
 use Rattle.expander.proofs.defn.fill_named.Statement.{statement}
 use Rattle.expander.proofs.defn.fill_named.Tie as tie
-
-look-up-requires : tie.Need-look-up-requires
-look-up-requires c κs = search needs
-
-enum-known-meaning : tie.Need-enum-known-meaning
-enum-known-meaning c = search needs
 
 abbrev entry : tie.After-known-told → tie.Start
 entry c = c .before .before .before .before .before .before .before .before .before
@@ -23,32 +15,14 @@ entry c = c .before .before .before .before .before .before .before .before .bef
 within-for : (c : tie.After-known-told) → 2 * c .before .meaning .given .0 .0 + 1 < entry c .args .t .packed .count
 within-for c = text-within (entry c .pre .0 .1) (entry c .pre .0 .2) (entry c .args .name .now) (c .before .before .before .look-up .ensures) (c .before .meaning .given .1)
 
-mul-k : tie.Need-mul-k
-mul-k c = omega (arith, within-for c, few-strings (entry c .pre .0 .1 .holds))
-
-add-k : tie.Need-add-k
-add-k c = omega (arith, within-for c, few-strings (entry c .pre .0 .1 .holds))
-
-string-requires : tie.Need-string-requires
-string-requires c κs = (formed (entry c .pre .0 .1 .holds .packs), within-for c)
-
 fill-quoted-requires : tie.Need-fill-quoted-requires
 fill-quoted-requires c κs =
     let k = c .before .before in
     let s = entry k in
-    let h = sound-table (s .pre .0 .1) (s .pre .0 .2) in (
+    let h = valid-table (s .pre .0 .1) (s .pre .0 .2) in (
       s .pre .0 .0,
       s .pre .1 _ _ h (named-text _ _ _ (c .before .before .before .before .before .look-up .ensures _ h) (k .before .meaning .given .1) (c .before .string .ensures _ (h .holds .packs))),
     )
-
-enum-told : tie.Need-enum-told
-enum-told c = search needs
-
-enum-told-2 : tie.Need-enum-told-2
-enum-told-2 c = search needs
-
-same-length : tie.Need-same-length
-same-length c = search needs
 
 returns : tie.Need-returns
 returns c =
@@ -71,15 +45,15 @@ pub fill-named-spec : {M : Type 1} → statement M
 fill-named-spec =
     tie.close
     (tie.spec
-    look-up-requires
-    enum-known-meaning
-    mul-k
-    add-k
-    string-requires
+    (λ c κs. search needs)
+    (λ c. search needs)
+    (λ c. omega (arith, within-for c, few-strings (entry c .pre .0 .1 .holds)))
+    (λ c. omega (arith, within-for c, few-strings (entry c .pre .0 .1 .holds)))
+    (λ c κs. (formed (entry c .pre .0 .1 .holds .packs), within-for c))
     fill-quoted-requires
-    enum-told
-    enum-told-2
-    same-length
+    (λ c. search needs)
+    (λ c. search needs)
+    (λ c. search needs)
     returns
     returns-2
     returns-3)

@@ -1,8 +1,5 @@
 -- `expander::defn::named_length` meets its contract: a case for each thing that looking a name up answers. Assumes nothing.
-use Prim.Native.Nat.{_+_, _*_, _≤_, _<_}
-use native.Mathlib.Omega.{arith}
-use mathlib.Core.Path.{sym, ap, _∙_}
-use lib.ListN.{length}
+use Rattle.rules.proofs.Base.{_≤_, _+_, _<_, _*_, _∙_, sym, ap, arith, length, needs}
 use Rattle.expander.specs.Limits.{mostLent}
 use Rattle.expander.specs.Table.{rows}
 use Rattle.expander.specs.Defn.{measuredAs}
@@ -10,15 +7,8 @@ use Rattle.expander.specs.declared.defn.DefnLength.the-variants as defnL
 use Rattle.expander.proofs.Changing.{few-strings}
 use Rattle.expander.proofs.DefnLaws.{same-bytes, no-length, named-text, named-predefined, named-undefined, text-within}
 use Rattle.expander.proofs.Packing.{formed, string-fits}
-use borrow.Author.Needs.{needs}
 use Rattle.expander.proofs.defn.named_length.Statement.{statement}
 use Rattle.expander.proofs.defn.named_length.Tie as tie
-
-look-up-requires : tie.Need-look-up-requires
-look-up-requires c κs = search needs
-
-enum-known-meaning : tie.Need-enum-known-meaning
-enum-known-meaning c = search needs
 
 abbrev entry : tie.After-known-told → tie.Start
 entry c = c .before .before .before .before .before .before .before .before
@@ -37,27 +27,6 @@ text-most c =
       d .holds .packs .used-in,
       d .holds .bytes-most,
     )
-
-mul-k : tie.Need-mul-k
-mul-k c = omega (arith, within-for c, few-strings (entry c .pre .1 .holds))
-
-add-k : tie.Need-add-k
-add-k c = omega (arith, within-for c, few-strings (entry c .pre .1 .holds))
-
-string-requires : tie.Need-string-requires
-string-requires c κs = (formed (entry c .pre .1 .holds .packs), within-for c)
-
-quotes-length-requires : tie.Need-quotes-length-requires
-quotes-length-requires c κs = search needs
-
-add-n : tie.Need-add-n
-add-n c = omega (arith, c .quotes-length .ensures .1, text-most (c .before))
-
-enum-told : tie.Need-enum-told
-enum-told c = search needs
-
-enum-told-2 : tie.Need-enum-told-2
-enum-told-2 c = search needs
 
 returns : tie.Need-returns
 unfolding measuredAs
@@ -82,15 +51,15 @@ pub named-length-spec : {M : Type 1} → statement M
 named-length-spec =
     tie.close
     (tie.spec
-    look-up-requires
-    enum-known-meaning
-    mul-k
-    add-k
-    string-requires
-    quotes-length-requires
-    add-n
-    enum-told
-    enum-told-2
+    (λ c κs. search needs)
+    (λ c. search needs)
+    (λ c. omega (arith, within-for c, few-strings (entry c .pre .1 .holds)))
+    (λ c. omega (arith, within-for c, few-strings (entry c .pre .1 .holds)))
+    (λ c κs. (formed (entry c .pre .1 .holds .packs), within-for c))
+    (λ c κs. search needs)
+    (λ c. omega (arith, c .quotes-length .ensures .1, text-most (c .before)))
+    (λ c. search needs)
+    (λ c. search needs)
     returns
     returns-2
     returns-3)

@@ -1,56 +1,40 @@
 -- `expander::delivering::deliver` meets its contract: to the current stream where no call is open, else to the innermost call. Assumes nothing.
-use native.Mathlib.Omega.{arith}
-use lib.ListN.{take, drop}
+use Rattle.rules.proofs.Base.{arith, drop, take, needs}
 use Rattle.rules.specs.Source.{ahead}
 use Rattle.rules.specs.State.{taking}
 use Rattle.expander.specs.Machine.{callsAt, sinksAt}
 use Rattle.expander.proofs.DeliveringLaws.{delivers-out, delivers-in}
-use borrow.Author.Needs.{needs}
 use Rattle.expander.proofs.delivering.deliver.Statement.{statement}
 use Rattle.expander.proofs.delivering.deliver.Tie as tie
 
+-- ways back
+abbrev start : tie.After-struct-known → tie.Start
+start c = c .before .before .before .before .before .before .before .before .before
+
 emit-token-requires : tie.Need-emit-token-requires
 emit-token-requires c κs =
-    let e = c .before .before .before .before .before .before .before .before .before .before .before .before .before in
+    let e = start (c .before .before .before .before) in
     let u = e .pre .0 in
-    (record { others = callsAt (e .args .calls .now) (e .args .ends .now) (e .args .stack .now) (u .others); setting = u .setting; state = u .state; means = u .means }, e .pre .1)
-
-same-length : tie.Need-same-length
-same-length c = search needs
-
-same-length-2 : tie.Need-same-length-2
-same-length-2 c = search needs
-
-same-length-3 : tie.Need-same-length-3
-same-length-3 c = search needs
+    (record { others = callsAt (e .args .calls .now) (e .args .ends .now) (e .args .stack .now) (u .others); setting = u .setting; state = u .state; represents = u .represents }, e .pre .1)
 
 returns : tie.Need-returns
 returns c =
-    let e = c .before .before .before .before .before .before .before .before .before .before .before .before .before .before .before .before .before .before .before .before in
+    let e = start (c .before .before .before .before .before .before .before .before .before .before .before) in
     λ a s b r.
     delivers-out r (take (e .args .n) (drop (e .args .start) (ahead (s .source)))) (taking (e .args .width) s) (c .before .before .before .before .before .before .before .before .before .before .if1 .taken)
     (c .before .before .before .before .before .before .emit-token .ensures a s (callsAt (e .args .calls .now) (e .args .ends .now) (e .args .stack .now) b) r)
 
 collect-token-requires : tie.Need-collect-token-requires
 collect-token-requires c κs =
-    let e = c .before .before .before .before .before .before .before .before .before .before .before .before .before in
+    let e = start (c .before .before .before .before) in
     let u = e .pre .0 in (
-      record { others = sinksAt (e .args .streams .now) (e .args .owners .now) (e .args .output .now) (u .others); setting = u .setting; state = u .state; means = u .means },
+      record { others = sinksAt (e .args .streams .now) (e .args .owners .now) (e .args .output .now) (u .others); setting = u .setting; state = u .state; represents = u .represents },
       (e .pre .1, omega (arith, c .before .before .before .if1 .left)),
     )
 
-same-length-4 : tie.Need-same-length-4
-same-length-4 c = search needs
-
-same-length-5 : tie.Need-same-length-5
-same-length-5 c = search needs
-
-same-length-6 : tie.Need-same-length-6
-same-length-6 c = search needs
-
 returns-2 : tie.Need-returns-2
 returns-2 c =
-    let e = c .before .before .before .before .before .before .before .before .before .before .before .before .before .before .before .before .before .before .before .before in
+    let e = start (c .before .before .before .before .before .before .before .before .before .before .before) in
     λ a s b r.
     delivers-in r (take (e .args .n) (drop (e .args .start) (ahead (s .source)))) (taking (e .args .width) s) (c .before .before .before .before .before .before .before .before .before .before .if1 .left)
     (λ x xs q. c .before .before .before .before .before .before .collect-token .ensures a s (sinksAt (e .args .streams .now) (e .args .owners .now) (e .args .output .now) b) x xs r q)
@@ -60,12 +44,12 @@ deliver-spec =
     tie.close
     (tie.spec
     emit-token-requires
-    same-length
-    same-length-2
-    same-length-3
+    (λ c. search needs)
+    (λ c. search needs)
+    (λ c. search needs)
     returns
     collect-token-requires
-    same-length-4
-    same-length-5
-    same-length-6
+    (λ c. search needs)
+    (λ c. search needs)
+    (λ c. search needs)
     returns-2)

@@ -1,32 +1,23 @@
--- `expander::diverting::count_streams` meets its contract: the loop keeps what the turns before add, for all streams and arguments that are meant. Assumes nothing.
-use Prim.Native.Nat.{ℕ, _+_, _-_, _*_, _≤_, _<_}
-use native.Mathlib.Omega.{arith}
-use mathlib.Core.Path.{sym, subst, subst₂}
-use mathlib.Core.List.{List}
-use lib.ListN.{length, getD}
+-- `expander::diverting::count_streams` meets its contract: the loop keeps what the turns before add, for all streams and arguments that the buffers may hold. Assumes nothing.
+use Rattle.expander.specs.Limits.{mostLent}
+use Rattle.rules.proofs.Base.{_≤_, _+_, ℕ, _-_, _<_, _*_, sym, subst, subst₂, List, arith, length, getD}
 use Rattle.rules.specs.Bytes.{Bytes}
 use Rattle.rules.specs.Streams.{Streams}
 use Rattle.expander.specs.Arguments.{ArgumentsIn}
 use Rattle.expander.specs.Streams.{IsStream}
 use Rattle.expander.specs.Diverting.{turns, Leaving}
 use Rattle.expander.proofs.Fitting.{Counting, count-less, counting-begins, counting-on, counting-ends}
-use Rattle.expander.proofs.Turns.{turn-each, few-turns}
+use Rattle.expander.proofs.UndivertOrder.{turn-each, few-turns}
 use Rattle.expander.proofs.diverting.count_streams.Statement.{statement}
 use Rattle.expander.proofs.diverting.count_streams.Tie as tie
 
 abbrev Inv-loop : tie.InvT-loop
 Inv-loop calls ends counts₀ x n sum₀ j₀ counts sum j =
-    (j ≤ n) × (sum ≤ j * 65536) × ((i : ℕ) → i < 10 → getD counts i 0 ≤ 65536)
+    (j ≤ n) × (sum ≤ j * mostLent) × ((i : ℕ) → i < 10 → getD counts i 0 ≤ mostLent)
     × ((u : Streams) (args : List Bytes) → Leaving counts₀ u → ArgumentsIn calls ends x args → Counting counts (turns args) j sum u)
 
 abbrev μ-loop : tie.MeasureT-loop
 μ-loop calls ends counts₀ x n sum₀ j₀ counts sum j = n - j
-
-turn-count-requires : tie.Need-turn-count-requires Inv-loop μ-loop
-turn-count-requires c κs = c .before .before .pre .1 .given .holds .base-in
-
-loop-holds : tie.Need-loop-holds Inv-loop μ-loop
-loop-holds c = (omega arith, omega arith, c .before .before .before .pre .0, λ u args l h. counting-begins (turns args) l)
 
 abbrev entry : tie.In-loop Inv-loop μ-loop → tie.Start Inv-loop μ-loop
 entry c = c .before .before .before .before .before
@@ -51,23 +42,11 @@ is-stream c =
     let h = in-turn l a (p .given .holds) in
     subst IsStream (sym (c .turn-stream .ensures a (p .given .holds) h)) (turn-each a (p .named a (p .given .holds)) (l .before .loop .j) h)
 
-turn-stream-requires : tie.Need-turn-stream-requires Inv-loop μ-loop
-turn-stream-requires c κs = (entry c .pre .1 .given, omega (arith, few c))
-
-count-out-requires : tie.Need-count-out-requires Inv-loop μ-loop
-count-out-requires c κs = is-stream (c .before)
-
 add-sum : tie.Need-add-sum Inv-loop μ-loop
 add-sum c =
     let s = c .before .before in
     let i = s .before .before .loop in
     omega (arith, few (s .before), i .inv .1, c .count-out .ensures .0, i .inv .2 (s .turn-stream .result) (omega (arith, is-stream s .high)))
-
-add-j : tie.Need-add-j Inv-loop μ-loop
-add-j c = omega (arith, few (c .before .before .before))
-
-loop-less : tie.Need-loop-less Inv-loop μ-loop
-loop-less c = omega (arith, c .before .before .before .loop-test .taken)
 
 loop-again : tie.Need-loop-again Inv-loop μ-loop
 loop-again c =
@@ -78,7 +57,7 @@ loop-again c =
     let r = c .count-out .ensures in (
       omega (arith, l .loop-test .taken),
       omega (arith, i .inv .1, r .0, i .inv .2 n (omega (arith, is-stream s .high))),
-      λ k q. subst (λ (ns : List ℕ). getD ns k 0 ≤ 65536) (sym (r .1)) (omega (arith, count-less (i .counts) n k, i .inv .2 k q)),
+      λ k q. subst (λ (ns : List ℕ). getD ns k 0 ≤ mostLent) (sym (r .1)) (omega (arith, count-less (i .counts) n k, i .inv .2 k q)),
       λ u args m h.
           let o = in-turn l args h in
           subst₂ (λ (ns : List ℕ) (k : ℕ). Counting ns (turns args) (i .j + 1) (i .sum + k) u) (sym (r .1)) (sym (r .0))
@@ -97,12 +76,12 @@ count-streams-spec =
     (tie.spec
     Inv-loop
     μ-loop
-    turn-count-requires
-    loop-holds
-    turn-stream-requires
-    count-out-requires
+    (λ c κs. c .before .before .pre .1 .given .holds .base-in)
+    (λ c. (omega arith, omega arith, c .before .before .before .pre .0, λ u args l h. counting-begins (turns args) l))
+    (λ c κs. (entry c .pre .1 .given, omega (arith, few c)))
+    (λ c κs. is-stream (c .before))
     add-sum
-    add-j
-    loop-less
+    (λ c. omega (arith, few (c .before .before .before)))
+    (λ c. omega (arith, c .before .before .before .loop-test .taken))
     loop-again
     returns)

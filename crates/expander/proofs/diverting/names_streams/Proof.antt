@@ -1,15 +1,10 @@
 -- `expander::diverting::names_streams` meets its contract: the loop keeps that the arguments left to try decide. Assumes nothing.
-use Prim.Native.Nat.{_-_, _≤_}
-use native.Mathlib.Omega.{arith}
-use mathlib.Core.Path.{_≡_, refl, sym, _∙_}
-use mathlib.Core.List.{List}
-use lib.ListN.{drop}
+use Rattle.rules.proofs.Base.{_≤_, _-_, _∙_, refl, sym, _≡_, List, arith, drop, needs}
 use Rattle.rules.specs.Bytes.{Bytes}
 use Rattle.expander.specs.Arguments.{ArgumentsIn}
 use Rattle.expander.specs.Diverting.{allNamed}
 use Rattle.expander.proofs.ArgumentLaws.{few-arguments}
-use Rattle.expander.proofs.Turns.{named-on, named-not, named-all}
-use borrow.Author.Needs.{needs}
+use Rattle.expander.proofs.UndivertOrder.{named-on, named-not, named-all}
 use Rattle.expander.proofs.diverting.names_streams.Statement.{statement}
 use Rattle.expander.proofs.diverting.names_streams.Tie as tie
 
@@ -18,15 +13,6 @@ Inv-loop calls ends x n k₀ k = (k ≤ n) × ((args : List Bytes) → Arguments
 
 abbrev μ-loop : tie.MeasureT-loop
 μ-loop calls ends x n k₀ k = n - k
-
-count-requires : tie.Need-count-requires Inv-loop μ-loop
-count-requires c κs = search needs
-
-loop-holds : tie.Need-loop-holds Inv-loop μ-loop
-loop-holds c = (omega arith, λ args h. refl)
-
-add-stream-argument : tie.Need-add-stream-argument Inv-loop μ-loop
-add-stream-argument c = search needs
 
 stream-argument-requires : tie.Need-stream-argument-requires Inv-loop μ-loop
 stream-argument-requires c κs =
@@ -40,12 +26,6 @@ returns c =
     λ args h.
     let n = c .before .before .before .before .count .ensures (e .args .calls .now) (e .args .ends .now) args h in
     named-not args (c .before .before .before .loop .k) (c .before .before .before .loop .inv .1 args h) (omega (arith, n, c .before .before .loop-test .taken)) (sym (c .before .stream-argument .ensures args h) ∙ c .if1 .taken)
-
-add-k : tie.Need-add-k Inv-loop μ-loop
-add-k c = search needs
-
-loop-less : tie.Need-loop-less Inv-loop μ-loop
-loop-less c = omega (arith, c .before .before .loop-test .taken)
 
 loop-again : tie.Need-loop-again Inv-loop μ-loop
 loop-again c =
@@ -69,12 +49,12 @@ names-streams-spec =
     (tie.spec
     Inv-loop
     μ-loop
-    count-requires
-    loop-holds
-    add-stream-argument
+    (λ c κs. search needs)
+    (λ c. (omega arith, λ args h. refl))
+    (λ c. search needs)
     stream-argument-requires
     returns
-    add-k
-    loop-less
+    (λ c. search needs)
+    (λ c. omega (arith, c .before .before .loop-test .taken))
     loop-again
     returns-2)

@@ -1,19 +1,9 @@
 -- `expander::diverting::stream_argument` meets its contract: a number from 1 to 9, or none. Assumes nothing.
-use mathlib.Core.Path.{sym, _∙_}
+use Rattle.rules.proofs.Base.{_∙_, sym, needs}
 use Rattle.rules.specs.Arguments.{arg}
-use Rattle.expander.proofs.Turns.{stream-named, stream-unnamed}
-use borrow.Author.Needs.{needs}
+use Rattle.expander.proofs.UndivertOrder.{stream-named, stream-unnamed}
 use Rattle.expander.proofs.diverting.stream_argument.Statement.{statement}
 use Rattle.expander.proofs.diverting.stream_argument.Tie as tie
-
-natural-argument-requires : tie.Need-natural-argument-requires
-natural-argument-requires c κs = search needs
-
-enum-known-i : tie.Need-enum-known-i
-enum-known-i c = search needs
-
-enum-told : tie.Need-enum-told
-enum-told c = search needs
 
 returns : tie.Need-returns
 returns c = λ args h. stream-unnamed (arg (c .before .before .before .before .before .args .n) args) (sym (c .before .before .natural-argument .ensures args h) ∙ c .enum-told .given .1)
@@ -23,4 +13,4 @@ returns-2 c = λ args h. stream-named (arg (c .before .before .before .before .b
 
 pub stream-argument-spec : {M : Type 1} → statement M
 stream-argument-spec =
-    tie.close (tie.spec natural-argument-requires enum-known-i enum-told returns returns-2)
+    tie.close (tie.spec (λ c κs. search needs) (λ c. search needs) (λ c. search needs) returns returns-2)

@@ -1,12 +1,8 @@
 -- `expander::diverting::turn_count` meets its contract: nine without arguments. Assumes nothing.
-use mathlib.Core.Path.{sym, _∙_}
-use Rattle.expander.proofs.Turns.{turns-none, turns-some}
-use borrow.Author.Needs.{needs}
+use Rattle.rules.proofs.Base.{_∙_, sym, needs}
+use Rattle.expander.proofs.UndivertOrder.{turns-none, turns-some}
 use Rattle.expander.proofs.diverting.turn_count.Statement.{statement}
 use Rattle.expander.proofs.diverting.turn_count.Tie as tie
-
-count-requires : tie.Need-count-requires
-count-requires c κs = search needs
 
 returns : tie.Need-returns
 returns c = λ bytes ends args h. turns-none args (sym (c .before .count .ensures bytes ends args h) ∙ c .if1 .taken)
@@ -18,4 +14,4 @@ returns-2 c =
     e ∙ turns-some args (λ q. c .if1 .left (e ∙ q))
 
 pub turn-count-spec : {M : Type 1} → statement M
-turn-count-spec = tie.close (tie.spec count-requires returns returns-2)
+turn-count-spec = tie.close (tie.spec (λ c κs. search needs) returns returns-2)

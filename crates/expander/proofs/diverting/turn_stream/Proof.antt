@@ -1,29 +1,13 @@
 -- `expander::diverting::turn_stream` meets its contract: the number of the turn itself without arguments. Assumes nothing.
-use mathlib.Core.Path.{sym, _∙_}
-use Rattle.expander.proofs.Turns.{turn-none, turn-some}
-use borrow.Author.Needs.{needs}
+use Rattle.rules.proofs.Base.{_∙_, sym, needs}
+use Rattle.expander.proofs.UndivertOrder.{turn-none, turn-some}
 use Rattle.expander.proofs.diverting.turn_stream.Statement.{statement}
 use Rattle.expander.proofs.diverting.turn_stream.Tie as tie
-
-count-requires : tie.Need-count-requires
-count-requires c κs = search needs
-
-add-i : tie.Need-add-i
-add-i c = search needs
-
-cast-result : tie.Need-cast-result
-cast-result c = search needs
 
 returns : tie.Need-returns
 returns c =
     let a = c .before .before .before .before .args in
     λ args h l. turn-none args (a .k) (sym (c .before .count .ensures (a .calls .now) (a .ends .now) args h) ∙ c .if1 .taken) l
-
-add-stream-argument : tie.Need-add-stream-argument
-add-stream-argument c = search needs
-
-stream-argument-requires : tie.Need-stream-argument-requires
-stream-argument-requires c κs = search needs
 
 returns-2 : tie.Need-returns-2
 returns-2 c =
@@ -34,10 +18,10 @@ pub turn-stream-spec : {M : Type 1} → statement M
 turn-stream-spec =
     tie.close
     (tie.spec
-    count-requires
-    add-i
-    cast-result
+    (λ c κs. search needs)
+    (λ c. search needs)
+    (λ c. search needs)
     returns
-    add-stream-argument
-    stream-argument-requires
+    (λ c. search needs)
+    (λ c κs. search needs)
     returns-2)

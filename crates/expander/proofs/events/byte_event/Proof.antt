@@ -1,7 +1,5 @@
 -- `expander::events::byte_event` meets its contract. Assumes nothing.
-use Prim.Native.Nat.{_≤_}
-use native.Mathlib.Omega.{arith}
-use mathlib.Core.Path.{_≡_}
+use Rattle.rules.proofs.Base.{_≤_, _≡_, arith, needs}
 use Rattle.rules.specs.declared.Token.the-variants as token
 use Rattle.rules.specs.Bytes.{Bytes}
 use Rattle.rules.specs.Run.{Setting}
@@ -10,10 +8,9 @@ use Rattle.rules.specs.Step.{act, step}
 use Rattle.expander.specs.declared.events.Role.{Role}
 use Rattle.expander.specs.declared.events.Role.the-variants as role
 use Rattle.expander.specs.Events.{PlainWithin, EventWithin, EventIs}
-use Rattle.expander.specs.Machine.{Memory, Means, aheadOf, stackAt}
+use Rattle.expander.specs.Machine.{Memory, Represents, aheadOf, stackAt}
 use Rattle.expander.proofs.EventLaws.{roleEvent, role-within, role-event, emit-is}
 use Rattle.expander.proofs.StepLaws.{depth-few}
-use borrow.Author.Needs.{needs}
 use Rattle.expander.proofs.events.byte_event.Statement.{statement}
 use Rattle.expander.proofs.events.byte_event.Tie as tie
 
@@ -24,7 +21,7 @@ entry c = c .before .before .before .before .before .before
 met :
     (c : tie.After-role-of) (w : Role) → c .role-of .result ≡ w
     → ((text pending : Bytes) → 1 ≤ aheadOf text pending (entry c .args .m .source) → EventWithin text pending (entry c .args .m) (roleEvent (entry c .args .x) w))
-    × ((a : Setting) (s : State) (b : Memory) → Means a (stackAt (entry c .args .stack .now) b) (entry c .args .m) s
+    × ((a : Setting) (s : State) (b : Memory) → Represents a (stackAt (entry c .args .stack .now) b) (entry c .args .m) s
     → step s ≡ act (token.Byte (entry c .args .x)) s → EventIs s (roleEvent (entry c .args .x) w))
 met c w q =
     let p = c .before in
@@ -37,29 +34,11 @@ returns : tie.Need-returns
 unfolding EventWithin PlainWithin
 returns c = (λ text pending h. h, λ a s b r e. emit-is r _ e (c .if1 .taken))
 
-depth-requires : tie.Need-depth-requires
-depth-requires c κs = search needs
-
-has-collected-requires : tie.Need-has-collected-requires
-has-collected-requires c κs = search needs
-
 role-of-requires : tie.Need-role-of-requires
 role-of-requires c κs =
     let p = c .before in
     let q = p .before in
-    depth-few (q .before .before .before .pre .means) _ (omega (arith, q .if1 .left)) (p .depth .ensures)
-
-enum-told : tie.Need-enum-told
-enum-told c = search needs
-
-enum-known-d : tie.Need-enum-known-d
-enum-known-d c = search needs
-
-enum-told-2 : tie.Need-enum-told-2
-enum-told-2 c = search needs
-
-enum-told-3 : tie.Need-enum-told-3
-enum-told-3 c = search needs
+    depth-few (q .before .before .before .pre .represents) _ (omega (arith, q .if1 .left)) (p .depth .ensures)
 
 returns-2 : tie.Need-returns-2
 unfolding roleEvent
@@ -82,13 +61,13 @@ byte-event-spec =
     tie.close
     (tie.spec
     returns
-    depth-requires
-    has-collected-requires
+    (λ c κs. search needs)
+    (λ c κs. search needs)
     role-of-requires
-    enum-told
-    enum-known-d
-    enum-told-2
-    enum-told-3
+    (λ c. search needs)
+    (λ c. search needs)
+    (λ c. search needs)
+    (λ c. search needs)
     returns-2
     returns-3
     returns-4

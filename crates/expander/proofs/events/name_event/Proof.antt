@@ -1,30 +1,17 @@
 -- `expander::events::name_event` meets its contract. Assumes nothing.
-use mathlib.Core.Path.{_≡_, sym, ap, _∙_}
+use Rattle.rules.proofs.Base.{_∙_, sym, ap, _≡_, needs}
 use denote.Enum.Declared.{tagOf}
 use Rattle.expander.proofs.table.Meaning.{the-type}
 use Rattle.expander.specs.declared.table.Meaning.the-variants as looked
 use Rattle.expander.specs.Events.{PlainWithin, SpecialWithin, EventWithin}
 use Rattle.expander.proofs.EventLaws.{within-as, is-as, undefined-is, open-is, unopened-is, bare-is}
 use Rattle.expander.proofs.StepLaws.{reach-open, not-third}
-use borrow.Author.Needs.{needs}
 use Rattle.expander.proofs.events.name_event.Statement.{statement}
 use Rattle.expander.proofs.events.name_event.Tie as tie
 
 -- the name means something
 defined : (c : tie.At-match-keys2) → c .before .before .before .meaning-ahead .result ≡ looked.Undefined → ⊥
 defined c e = not-third (c .match .keys2) (ap (tagOf the-type) e)
-
-meaning-ahead-requires : tie.Need-meaning-ahead-requires
-meaning-ahead-requires c κs = search needs
-
-enum-told : tie.Need-enum-told
-enum-told c = search needs
-
-whole-requires : tie.Need-whole-requires
-whole-requires c κs = search needs
-
-same-length : tie.Need-same-length
-same-length c = search needs
 
 returns : tie.Need-returns
 unfolding EventWithin PlainWithin
@@ -35,31 +22,16 @@ returns c =
       λ a s b r e. is-as (c .whole .ensures) s (undefined-is s _ e (p .meaning-ahead .ensures a s b r) (c .before .enum-told .given .1)),
     )
 
-opens-requires : tie.Need-opens-requires
-opens-requires c κs = search needs
-
-same-length-2 : tie.Need-same-length-2
-same-length-2 c = search needs
-
 returns-2 : tie.Need-returns-2
 unfolding EventWithin PlainWithin
 returns-2 c =
     let p = c .before in
     let q = p .before .before .before .before in
     let u = q .before .before .before .before .before .before .before in
-    let x = u .pre .0 .means .source in (
+    let x = u .pre .0 .represents .source in (
       reach-open x (u .pre .1 .0) (p .opens .ensures _ x) (c .if1 .taken),
       λ a s b r e. open-is s _ e (q .meaning-ahead .ensures a s b r) (defined (p .before)) (p .opens .ensures _ (r .source)) (c .if1 .taken),
     )
-
-plain-unopened-requires : tie.Need-plain-unopened-requires
-plain-unopened-requires c κs = search needs
-
-whole-requires-2 : tie.Need-whole-requires-2
-whole-requires-2 c κs = search needs
-
-same-length-3 : tie.Need-same-length-3
-same-length-3 c = search needs
 
 returns-3 : tie.Need-returns-3
 unfolding EventWithin PlainWithin
@@ -74,9 +46,6 @@ returns-3 c =
           (unopened-is s _ e (q .meaning-ahead .ensures a s b r) (defined (p .before)) (p .opens .ensures _ (r .source)) (asked .before .if1 .left)
           (sym (asked .plain-unopened .ensures) ∙ c .before .if2 .taken)),
     )
-
-same-length-4 : tie.Need-same-length-4
-same-length-4 c = search needs
 
 returns-4 : tie.Need-returns-4
 unfolding EventWithin SpecialWithin
@@ -95,17 +64,17 @@ pub name-event-spec : {M : Type 1} → statement M
 name-event-spec =
     tie.close
     (tie.spec
-    meaning-ahead-requires
-    enum-told
-    whole-requires
-    same-length
+    (λ c κs. search needs)
+    (λ c. search needs)
+    (λ c κs. search needs)
+    (λ c. search needs)
     returns
-    opens-requires
-    same-length-2
+    (λ c κs. search needs)
+    (λ c. search needs)
     returns-2
-    plain-unopened-requires
-    whole-requires-2
-    same-length-3
+    (λ c κs. search needs)
+    (λ c κs. search needs)
+    (λ c. search needs)
     returns-3
-    same-length-4
+    (λ c. search needs)
     returns-4)

@@ -1,24 +1,14 @@
 -- `expander::events::role_of` meets its contract. Assumes nothing.
-use mathlib.Core.Path.{sym, _∙_}
+use Rattle.rules.proofs.Base.{_∙_, sym, needs}
 use Rattle.expander.proofs.StepLaws.{role-left, role-closes, role-right, role-separates, role-comma, role-dropped, role-blank, role-other}
-use borrow.Author.Needs.{needs}
 use Rattle.expander.proofs.events.role_of.Statement.{statement}
 use Rattle.expander.proofs.events.role_of.Tie as tie
-
-add-t5 : tie.Need-add-t5
-add-t5 c = search needs
 
 returns : tie.Need-returns
 returns c = role-closes _ _ _ (c .before .match .keys2) (c .if1 .taken)
 
-sub-t7 : tie.Need-sub-t7
-sub-t7 c = search needs
-
 returns-2 : tie.Need-returns-2
 returns-2 c = role-separates _ _ _ (c .before .match .keys3) (c .if2 .taken)
-
-is-blank-requires : tie.Need-is-blank-requires
-is-blank-requires c κs = search needs
 
 returns-3 : tie.Need-returns-3
 returns-3 c =
@@ -53,11 +43,11 @@ pub role-of-spec : {M : Type 1} → statement M
 role-of-spec =
     tie.close
     (tie.spec
-    add-t5
+    (λ c. search needs)
     returns
-    sub-t7
+    (λ c. search needs)
     returns-2
-    is-blank-requires
+    (λ c κs. search needs)
     returns-3
     returns-4
     returns-5

@@ -1,24 +1,11 @@
 -- `expander::events::token_event` meets its contract. Assumes nothing.
-use mathlib.Core.Path.{refl, _∙_}
+use Rattle.rules.proofs.Base.{_∙_, refl, needs}
 use Rattle.expander.specs.Events.{PlainWithin, SpecialWithin, EventWithin}
 use Rattle.expander.specs.Machine.{textAt, pendingAt, stackAt, definitionsAt}
 use Rattle.expander.proofs.EventLaws.{within-as, is-as, end-is, comment-is, quoted-is, byte-ahead}
 use Rattle.expander.proofs.StepLaws.{lends, acts, end-place, reach-comment, reach-quoted, reach-name, quoted-order}
-use borrow.Author.Needs.{needs}
 use Rattle.expander.proofs.events.token_event.Statement.{statement}
 use Rattle.expander.proofs.events.token_event.Tie as tie
-
-enum-told : tie.Need-enum-told
-enum-told c = search needs
-
-enum-known-token : tie.Need-enum-known-token
-enum-known-token c = search needs
-
-whole-requires : tie.Need-whole-requires
-whole-requires c κs = search needs
-
-enum-known-token-2 : tie.Need-enum-known-token-2
-enum-known-token-2 c = search needs
 
 sub-t17 : tie.Need-sub-t17
 sub-t17 c =
@@ -26,17 +13,11 @@ sub-t17 c =
     let a = u .args in
     quoted-order (a .text .now) (a .pending .now) (a .m .source) (c .before .token2 .given .1) (u .pre .1 .0)
 
-enum-known-token-3 : tie.Need-enum-known-token-3
-enum-known-token-3 c = search needs
-
 name-event-requires : tie.Need-name-event-requires
 name-event-requires c κs =
     let p = c .before .before in
     let u = p .before .before .before .before .before .before .before .before in
     (lends (u .pre .0) refl, (reach-name (p .token3 .given .1) (u .pre .1 .0), u .pre .1 .1))
-
-enum-known-token-4 : tie.Need-enum-known-token-4
-enum-known-token-4 c = search needs
 
 byte-event-requires : tie.Need-byte-event-requires
 byte-event-requires c κs =
@@ -48,7 +29,7 @@ unfolding EventWithin SpecialWithin
 returns c =
     let u = c .before .before .before .before .before .before .before .before in
     let q = c .enum-told .given .1 in
-    (end-place (u .pre .0 .means .source) q (u .pre .1 .0), λ a s b r e. end-is s e q)
+    (end-place (u .pre .0 .represents .source) q (u .pre .1 .0), λ a s b r e. end-is s e q)
 
 returns-2 : tie.Need-returns-2
 unfolding EventWithin PlainWithin
@@ -64,9 +45,6 @@ returns-3 c =
     let u = c .before .before .before .before .before .before .before .before .before in
     let q = c .before .token2 .given .1 in
     (reach-quoted q (u .pre .1 .0), λ a s b r e. quoted-is s e q)
-
-same-length : tie.Need-same-length
-same-length c = search needs
 
 returns-4 : tie.Need-returns-4
 returns-4 c =
@@ -87,18 +65,18 @@ pub token-event-spec : {M : Type 1} → statement M
 token-event-spec =
     tie.close
     (tie.spec
-    enum-told
-    enum-known-token
-    whole-requires
-    enum-known-token-2
+    (λ c. search needs)
+    (λ c. search needs)
+    (λ c κs. search needs)
+    (λ c. search needs)
     sub-t17
-    enum-known-token-3
+    (λ c. search needs)
     name-event-requires
-    enum-known-token-4
+    (λ c. search needs)
     byte-event-requires
     returns
     returns-2
     returns-3
-    same-length
+    (λ c. search needs)
     returns-4
     returns-5)

@@ -1,44 +1,16 @@
 -- `expander::giving::give_number` meets its contract: a number of a good radix has a length; it is written into the part before the pending text. Assumes nothing.
-use Prim.Native.Nat.{_≤_}
-use mathlib.Core.Path.{_≡_, sym, _∙_}
-use native.Mathlib.Omega.{arith}
-use lib.ListN.{length}
+use Rattle.rules.proofs.Base.{_≤_, _∙_, sym, _≡_, arith, length, needs}
 use Rattle.rules.specs.Words.{signedValue}
 use Rattle.rules.specs.Numerals.{writtenIn}
 use Rattle.expander.proofs.GivingLaws.{giving-room, giving-part, number-long, number-measured, number-written, gap-long}
-use borrow.Author.Needs.{needs}
 use Rattle.expander.proofs.giving.give_number.Statement.{statement}
 use Rattle.expander.proofs.giving.give_number.Tie as tie
-
-written-length-requires : tie.Need-written-length-requires
-written-length-requires c κs = search needs
-
-enum-known-n : tie.Need-enum-known-n
-enum-known-n c = search needs
-
-enum-told : tie.Need-enum-told
-enum-told c = search needs
 
 returns : tie.Need-returns
 returns c = λ a s b m r g. absurd (number-measured _ _ (c .before .before .written-length .ensures) g (c .enum-told .given .1))
 
 returns-2 : tie.Need-returns-2
 returns-2 c = λ a s b m r g. giving-room r _ _ (number-long _ _ (c .before .before .before .before .written-length .ensures) g (c .before .before .n .given .1)) (c .if1 .taken)
-
-sub-write-number : tie.Need-sub-write-number
-sub-write-number c = search needs
-
-part-write-number-start : tie.Need-part-write-number-start
-part-write-number-start c = search needs
-
-part-write-number-end : tie.Need-part-write-number-end
-part-write-number-end c = search needs
-
-write-number-requires : tie.Need-write-number-requires
-write-number-requires c κs = search needs
-
-same-length : tie.Need-same-length
-same-length c = search needs
 
 returns-3 : tie.Need-returns-3
 returns-3 c =
@@ -57,14 +29,14 @@ pub give-number-spec : {M : Type 1} → statement M
 give-number-spec =
     tie.close
     (tie.spec
-    written-length-requires
-    enum-known-n
-    enum-told
+    (λ c κs. search needs)
+    (λ c. search needs)
+    (λ c. search needs)
     returns
     returns-2
-    sub-write-number
-    part-write-number-start
-    part-write-number-end
-    write-number-requires
-    same-length
+    (λ c. search needs)
+    (λ c. search needs)
+    (λ c. search needs)
+    (λ c κs. search needs)
+    (λ c. search needs)
     returns-3)

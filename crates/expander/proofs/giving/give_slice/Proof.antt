@@ -1,21 +1,12 @@
 -- `expander::giving::give_slice` meets its contract: the slice is pushed in front of the pending text. Assumes nothing.
-use mathlib.Core.Path.{refl}
-use native.Mathlib.Omega.{arith}
-use lib.ListN.{length}
+use Rattle.rules.proofs.Base.{refl, arith, length, needs}
 use Rattle.expander.proofs.GivingLaws.{giving-room, giving-front}
-use borrow.Author.Needs.{needs}
 use Rattle.expander.proofs.giving.give_slice.Statement.{statement}
 use Rattle.expander.proofs.giving.give_slice.Tie as tie
 
 returns : tie.Need-returns
 returns c =
     λ a u b m r. let w = c .before .before .before .args .s .now in giving-room r w (length w) refl (c .if1 .taken)
-
-push-requires : tie.Need-push-requires
-push-requires c κs = search needs
-
-same-length : tie.Need-same-length
-same-length c = search needs
 
 returns-2 : tie.Need-returns-2
 returns-2 c =
@@ -29,6 +20,6 @@ give-slice-spec =
     tie.close
     (tie.spec
     returns
-    push-requires
-    same-length
+    (λ c κs. search needs)
+    (λ c. search needs)
     returns-2)

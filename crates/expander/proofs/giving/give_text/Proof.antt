@@ -1,29 +1,16 @@
 -- `expander::giving::give_text` meets its contract: the text is written into the part before the pending text. Assumes nothing.
-use Prim.Native.Nat.{_≤_}
-use mathlib.Core.Path.{sym, _∙_}
-use native.Mathlib.Omega.{arith}
-use lib.ListN.{length}
+use Rattle.rules.proofs.Base.{_≤_, _∙_, sym, arith, length, needs}
 use Rattle.expander.specs.Limits.{mostLent}
 use denote.Ref.{now}
-use Rattle.expander.proofs.GivingLaws.{giving-room, giving-part, gap-long, text-short, text-gives}
-use Rattle.expander.proofs.MacroLaws.{gives-as}
-use borrow.Author.Needs.{needs}
+use Rattle.expander.proofs.SteppedLaws.{refines-as}
+use Rattle.expander.proofs.GivingLaws.{giving-room, giving-part, gap-long, text-short, text-refines}
 use Rattle.expander.proofs.giving.give_text.Statement.{statement}
 use Rattle.expander.proofs.giving.give_text.Tie as tie
-
-mul-k : tie.Need-mul-k
-mul-k c = search needs
-
-add-k : tie.Need-add-k
-add-k c = search needs
-
-string-requires : tie.Need-string-requires
-string-requires c κs = search needs
 
 body-short : (c : tie.After-string) → length (now (c .string .result)) ≤ mostLent
 body-short c =
     let pre = c .before .before .before .before .before .before .before .pre in
-    let h = pre .0 .sound .means .table .holds in
+    let h = pre .0 .valid .represents .table .holds in
     text-short h _ (omega (arith, pre .1 .1 .1)) (c .string .ensures _ (h .packs))
 
 substituted-length-requires : tie.Need-substituted-length-requires
@@ -32,46 +19,34 @@ substituted-length-requires c κs = let pre = c .before .before .before .before 
 returns : tie.Need-returns
 returns c =
     λ a s b m args r x.
-    gives-as (text-gives s args (r .marks) _ (c .before .before .string .ensures _ (r .table .holds .packs)))
+    refines-as (text-refines s args (r .marks) _ (c .before .before .string .ensures _ (r .table .holds .packs)))
     (giving-room r _ _ (sym (c .before .substituted-length .ensures _ args x)) (c .if1 .taken))
-
-sub-fill-substituted : tie.Need-sub-fill-substituted
-sub-fill-substituted c = search needs
-
-part-fill-substituted-start : tie.Need-part-fill-substituted-start
-part-fill-substituted-start c = search needs
-
-part-fill-substituted-end : tie.Need-part-fill-substituted-end
-part-fill-substituted-end c = search needs
 
 fill-substituted-requires : tie.Need-fill-substituted-requires
 fill-substituted-requires c κs =
     let start = c .before .before .before .before .before .before .before .before .before .before in
     let n = c .before .before .substituted-length in
-    let l = gap-long (start .args .pending .now) (start .args .p .from) (n .result) (omega (arith, c .before .if1 .left)) (start .pre .0 .sound .means .source .from-in) in
+    let l = gap-long (start .args .pending .now) (start .args .p .from) (n .result) (omega (arith, c .before .if1 .left)) (start .pre .0 .valid .represents .source .from-in) in
     ((start .pre .1 .0, search needs, start .pre .1 .1 .0, body-short (c .before .before .before)), λ args x. l ∙ n .ensures _ args x)
-
-same-length : tie.Need-same-length
-same-length c = search needs
 
 returns-2 : tie.Need-returns-2
 returns-2 c =
     λ a s b m args r x.
-    gives-as (text-gives s args (r .marks) _ (c .before .before .before .before .before .before .string .ensures _ (r .table .holds .packs)))
+    refines-as (text-refines s args (r .marks) _ (c .before .before .before .before .before .before .string .ensures _ (r .table .holds .packs)))
     (giving-part r _ _ (sym (c .before .before .before .before .before .substituted-length .ensures _ args x)) (omega (arith, c .before .before .before .before .if1 .left)) (c .before .before .fill-substituted .ensures args x))
 
 pub give-text-spec : {M : Type 1} → statement M
 give-text-spec =
     tie.close
     (tie.spec
-    mul-k
-    add-k
-    string-requires
+    (λ c. search needs)
+    (λ c. search needs)
+    (λ c κs. search needs)
     substituted-length-requires
     returns
-    sub-fill-substituted
-    part-fill-substituted-start
-    part-fill-substituted-end
+    (λ c. search needs)
+    (λ c. search needs)
+    (λ c. search needs)
     fill-substituted-requires
-    same-length
+    (λ c. search needs)
     returns-2)

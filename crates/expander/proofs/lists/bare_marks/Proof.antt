@@ -1,7 +1,6 @@
 -- `expander::lists::bare_marks` meets its contract. Assumes nothing.
-use mathlib.Core.Path.{refl}
+use Rattle.rules.proofs.Base.{refl, needs}
 use Rattle.expander.proofs.ListLaws.{bare-each}
-use borrow.Author.Needs.{needs}
 use Rattle.expander.proofs.lists.bare_marks.Statement.{statement}
 use Rattle.expander.proofs.lists.bare_marks.Tie as tie
 

@@ -1,9 +1,5 @@
 -- `expander::lists::fill_list` meets its contract: the loop keeps that what is left of the list follows. Assumes nothing.
-use Prim.Native.Nat.{_-_, _≤_}
-use native.Mathlib.Omega.{arith}
-use mathlib.Core.Path.{sym, subst, _∙_}
-use mathlib.Core.List.{List}
-use lib.ListN.{length}
+use Rattle.rules.proofs.Base.{_≤_, _-_, _∙_, sym, subst, List, arith, length, needs}
 use Rattle.rules.specs.Bytes.{Bytes}
 use Rattle.rules.specs.Marks.{markTexts}
 use Rattle.expander.specs.Limits.{callEndsLength}
@@ -12,7 +8,6 @@ use Rattle.expander.specs.Filled.{Filled}
 use Rattle.expander.proofs.ArgumentLaws.{arguments-counted}
 use Rattle.expander.proofs.FilledLaws.{filled-long, filled-nothing}
 use Rattle.expander.proofs.ListLaws.{leftFrom, left-none, list-none, Writing, writing-long, written-all, next-room, next-written, first-room, list-begun, list-written}
-use borrow.Author.Needs.{needs}
 use Rattle.expander.proofs.lists.fill_list.Statement.{statement}
 use Rattle.expander.proofs.lists.fill_list.Tie as tie
 
@@ -30,9 +25,6 @@ few c =
     let g = s .pre .0 .0 in
     omega (arith, c .count .ensures (s .args .bytes .now) (s .args .ends .now) (g .args) (g .holds), arguments-counted (g .holds), g .holds .few)
 
-count-requires : tie.Need-count-requires Inv-loop μ-loop
-count-requires c κs = search needs
-
 returns : tie.Need-returns Inv-loop μ-loop
 returns c =
     let s = c .before .before .before .before .before in
@@ -40,12 +32,6 @@ returns c =
     λ args h.
     let e = list-none h (markTexts (a .marks)) (a .gap) (a .skip) (omega (arith, c .before .count .ensures (a .bytes .now) (a .ends .now) args h)) in
     subst (λ (w : Bytes). Filled (a .dst .now) (a .at) w (a .dst .now)) (sym e) (filled-nothing (a .dst .now) (a .at) (omega (arith, s .pre .1 args h)))
-
-add-k : tie.Need-add-k Inv-loop μ-loop
-add-k c = search needs
-
-argument-requires : tie.Need-argument-requires Inv-loop μ-loop
-argument-requires c κs = (c .before .before .before .before .before .pre .0 .0, omega arith, omega (arith, few (c .before)))
 
 fill-quoted-requires : tie.Need-fill-quoted-requires Inv-loop μ-loop
 fill-quoted-requires c κs =
@@ -66,31 +52,27 @@ loop-holds c =
     list-begun (markTexts (a .marks)) (a .gap) (a .skip) args (omega (arith, c .before .before .before .before .before .before .count .ensures (a .bytes .now) (a .ends .now) args h))
     (c .before .before .before .before .argument .ensures args h) (q .0) (q .1) (s .pre .1 args h)
 
-add-k-2 : tie.Need-add-k-2 Inv-loop μ-loop
-add-k-2 c = omega (arith, few (c .before .before .before .before .before .before .before .before))
-
 fill-next-requires : tie.Need-fill-next-requires Inv-loop μ-loop
 fill-next-requires c κs =
-    let s = c .before .before .before .before .before .before .before .before .before .before .before .before .before in
-    let a = s .args in
+    let at-count = c .before .before .before .before .before .before .before .before .before in let begun = at-count .before .before .before .before in
+    let a = begun .args in
     let l = c .before .before .loop in (
-      (s .pre .0 .0, s .pre .0 .1, omega arith, omega (arith, few (c .before .before .before .before .before .before .before .before .before))),
+      (begun .pre .0 .0, begun .pre .0 .1, omega arith, omega (arith, few at-count)),
       λ args h.
           next-room (markTexts (a .marks)) (a .gap) args (l .k) (l .inv args h)
-          (omega (arith, c .before .before .before .before .before .before .before .before .before .count .ensures (a .bytes .now) (a .ends .now) args h)),
+          (omega (arith, at-count .count .ensures (a .bytes .now) (a .ends .now) args h)),
     )
-
-loop-less : tie.Need-loop-less Inv-loop μ-loop
-loop-less c = search needs
 
 loop-again : tie.Need-loop-again Inv-loop μ-loop
 loop-again c =
-    let a = c .before .before .before .before .before .before .before .before .before .before .before .before .before .before .before .before .args in
-    let l = c .before .before .before .before .before .loop in
+    let at-loop-place = c .before .before .before .before .before in let at-count = at-loop-place .before .before .before .before .before .before .before in
+    let begun = at-count .before .before .before .before in
+    let a = begun .args in
+    let l = at-loop-place .loop in
     λ args h.
     let f = c .before .before .fill-next .ensures args h in
     next-written (markTexts (a .marks)) (a .gap) args (l .k) (l .inv args h)
-    (omega (arith, c .before .before .before .before .before .before .before .before .before .before .before .before .count .ensures (a .bytes .now) (a .ends .now) args h)) (f .0) (f .1)
+    (omega (arith, at-count .count .ensures (a .bytes .now) (a .ends .now) args h)) (f .0) (f .1)
 
 same-length : tie.Need-same-length Inv-loop μ-loop
 same-length c =
@@ -114,15 +96,15 @@ fill-list-spec =
     (tie.spec
     Inv-loop
     μ-loop
-    count-requires
+    (λ c κs. search needs)
     returns
-    add-k
-    argument-requires
+    (λ c. search needs)
+    (λ c κs. (c .before .before .before .before .before .pre .0 .0, omega arith, omega (arith, few (c .before))))
     fill-quoted-requires
     loop-holds
-    add-k-2
+    (λ c. omega (arith, few (c .before .before .before .before .before .before .before .before)))
     fill-next-requires
-    loop-less
+    (λ c. search needs)
     loop-again
     same-length
     returns-2)

@@ -1,29 +1,15 @@
 -- `expander::lists::fill_next` meets its contract. Assumes nothing.
-use Prim.Native.Nat.{_+_, _≤_}
-use native.Mathlib.Omega.{arith}
-use mathlib.Core.Path.{ap, _∙_}
-use mathlib.Core.List.{_∷_}
-use lib.ListN.{length, length-set}
+use Rattle.rules.proofs.Base.{_≤_, _+_, _∙_, ap, _∷_, arith, length, length-set, needs}
 use Rattle.rules.specs.Bytes.{Bytes}
 use Rattle.rules.specs.Marks.{markTexts, quoted}
 use Rattle.rules.specs.Arguments.{arg}
 use Rattle.expander.proofs.FilledLaws.{filled-long}
 use Rattle.expander.proofs.ListLaws.{next-fills}
-use borrow.Author.Needs.{needs}
 use Rattle.expander.proofs.lists.fill_next.Statement.{statement}
 use Rattle.expander.proofs.lists.fill_next.Tie as tie
 
 room : (c : tie.Start) → let a = c .args in a .at + length (a .gap ∷ quoted (markTexts (a .marks)) (arg (a .n) (c .pre .0 .0 .args))) ≤ length (a .dst .now)
 room c = c .pre .1 (c .pre .0 .0 .args) (c .pre .0 .0 .holds)
-
-add-text : tie.Need-add-text
-add-text c = omega (arith, room (c .before .before .before))
-
-slice-write-dst : tie.Need-slice-write-dst
-slice-write-dst c = omega (arith, room (c .before .before .before))
-
-argument-requires : tie.Need-argument-requires
-argument-requires c κs = search needs
 
 fill-quoted-requires : tie.Need-fill-quoted-requires
 fill-quoted-requires c κs =
@@ -52,4 +38,4 @@ returns c =
 pub fill-next-spec : {M : Type 1} → statement M
 fill-next-spec =
     tie.close
-    (tie.spec add-text slice-write-dst argument-requires fill-quoted-requires same-length returns)
+    (tie.spec (λ c. omega (arith, room (c .before .before .before))) (λ c. omega (arith, room (c .before .before .before))) (λ c κs. search needs) fill-quoted-requires same-length returns)

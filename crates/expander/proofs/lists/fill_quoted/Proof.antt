@@ -1,12 +1,8 @@
 -- `expander::lists::fill_quoted` meets its contract: three texts, one behind the other. Assumes nothing.
-use Prim.Native.Nat.{_+_}
-use native.Mathlib.Omega.{arith}
-use mathlib.Core.Path.{_≡_}
-use lib.ListN.{length}
+use Rattle.rules.proofs.Base.{_+_, _≡_, arith, length, needs}
 use Rattle.rules.specs.Marks.{markTexts, quoted}
 use Rattle.expander.proofs.FilledLaws.{filled-long}
 use Rattle.expander.proofs.ListLaws.{QuotesAre, quotes-are, quoted-size, quoted-fills}
-use borrow.Author.Needs.{needs}
 use Rattle.expander.proofs.lists.fill_quoted.Statement.{statement}
 use Rattle.expander.proofs.lists.fill_quoted.Tie as tie
 
@@ -38,9 +34,6 @@ fill-mark-requires-2 c κs =
     let b = c .before .before .before .before .before .before .before .fill-mark .ensures in
     (s .pre .0 .end-most, omega (arith, s .pre .1, size s, b .1, filled-long (b .0), filled-long (c .before .before .before .fill-slice .ensures)))
 
-same-length : tie.Need-same-length
-same-length c = search needs
-
 returns : tie.Need-returns
 returns c =
     let s = c .before .before .before .before .before .before .before .before .before .before .before .before .before .before in
@@ -56,5 +49,5 @@ fill-quoted-spec =
     add-end
     fill-slice-requires
     fill-mark-requires-2
-    same-length
+    (λ c. search needs)
     returns)

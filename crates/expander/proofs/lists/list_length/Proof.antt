@@ -1,17 +1,10 @@
 -- `expander::lists::list_length` meets its contract: a list is as long as its strings, its gaps and its marks. Assumes nothing.
-use Prim.Native.Nat.{_+_, _-_}
-use native.Mathlib.Omega.{arith}
-use mathlib.Core.Path.{_≡_, sym, ap, _∙_}
-use lib.ListN.{length}
+use Rattle.rules.proofs.Base.{_+_, _-_, _∙_, sym, ap, _≡_, arith, length, needs}
 use Rattle.rules.specs.Marks.{markTexts}
 use Rattle.expander.proofs.ArgumentLaws.{arguments-counted}
 use Rattle.expander.proofs.ListLaws.{QuotesAre, quotes-are, Measured, list-measured, list-none, list-long}
-use borrow.Author.Needs.{needs}
 use Rattle.expander.proofs.lists.list_length.Statement.{statement}
 use Rattle.expander.proofs.lists.list_length.Tie as tie
-
-count-requires : tie.Need-count-requires
-count-requires c κs = search needs
 
 abbrev entry : tie.After-struct-known4 → tie.Start
 entry c = c .before .before .before .before .before .before .before .before
@@ -42,39 +35,6 @@ returns c =
       search needs,
     )
 
-sub-n : tie.Need-sub-n
-sub-n c = search needs
-
-add-k : tie.Need-add-k
-add-k c = search needs
-
-start-requires : tie.Need-start-requires
-start-requires c κs = omega (arith, counted (c .before .before), c .before .before .before .before .pre .0 .holds .packs .count-in)
-
-cast-begin : tie.Need-cast-begin
-cast-begin c = search needs
-
-cast-end : tie.Need-cast-end
-cast-end c = search needs
-
-add-quotes : tie.Need-add-quotes
-add-quotes c = search needs
-
-sub-text : tie.Need-sub-text
-sub-text c = measured c .started
-
-sub-gaps : tie.Need-sub-gaps
-sub-gaps c = search needs
-
-mul-around : tie.Need-mul-around
-mul-around c = omega (arith, measured c)
-
-add-result : tie.Need-add-result
-add-result c = omega (arith, measured c)
-
-add-result-2 : tie.Need-add-result-2
-add-result-2 c = omega (arith, measured c)
-
 returns-2 : tie.Need-returns-2
 returns-2 c =
     let s = entry c in
@@ -90,17 +50,17 @@ pub list-length-spec : {M : Type 1} → statement M
 list-length-spec =
     tie.close
     (tie.spec
-    count-requires
+    (λ c κs. search needs)
     returns
-    sub-n
-    add-k
-    start-requires
-    cast-begin
-    cast-end
-    add-quotes
-    sub-text
-    sub-gaps
-    mul-around
-    add-result
-    add-result-2
+    (λ c. search needs)
+    (λ c. search needs)
+    (λ c κs. omega (arith, counted (c .before .before), c .before .before .before .before .pre .0 .holds .packs .count-in))
+    (λ c. search needs)
+    (λ c. search needs)
+    (λ c. search needs)
+    (λ c. measured c .started)
+    (λ c. search needs)
+    (λ c. omega (arith, measured c))
+    (λ c. omega (arith, measured c))
+    (λ c. omega (arith, measured c))
     returns-2)

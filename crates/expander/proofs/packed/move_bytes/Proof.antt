@@ -1,27 +1,8 @@
 -- `expander::packed::move_bytes` meets its contract: the bytes go down, up or stay. Assumes nothing.
-use native.Mathlib.Omega.{arith}
-use Rattle.expander.proofs.Moving.{unmoved-at}
-use borrow.Author.Needs.{needs}
+use Rattle.rules.proofs.Base.{arith, needs}
+use Rattle.expander.proofs.Overwriting.{unmoved-at}
 use Rattle.expander.proofs.packed.move_bytes.Statement.{statement}
 use Rattle.expander.proofs.packed.move_bytes.Tie as tie
-
-move-down-requires : tie.Need-move-down-requires
-move-down-requires c κs = search needs
-
-same-length : tie.Need-same-length
-same-length c = search needs
-
-returns : tie.Need-returns
-returns c = search needs
-
-move-up-requires : tie.Need-move-up-requires
-move-up-requires c κs = search needs
-
-same-length-2 : tie.Need-same-length-2
-same-length-2 c = search needs
-
-returns-2 : tie.Need-returns-2
-returns-2 c = search needs
 
 returns-3 : tie.Need-returns-3
 returns-3 c =
@@ -33,10 +14,10 @@ pub move-bytes-spec : {M : Type 1} → statement M
 move-bytes-spec =
     tie.close
     (tie.spec
-    move-down-requires
-    same-length
-    returns
-    move-up-requires
-    same-length-2
-    returns-2
+    (λ c κs. search needs)
+    (λ c. search needs)
+    (λ c. search needs)
+    (λ c κs. search needs)
+    (λ c. search needs)
+    (λ c. search needs)
     returns-3)

@@ -1,10 +1,6 @@
 -- `expander::packed::move_up` meets its contract: a turn writes one more of the bytes that move, from the back. Assumes nothing.
-use Prim.Native.Nat.{_+_, _-_}
-use native.Mathlib.Omega.{arith}
-use mathlib.Core.Path.{_≡_, sym, _∙_}
-use lib.ListN.{length, take, drop}
-use Rattle.expander.proofs.Moving.{part-length, part-read, Backed, back-none, before, one-before, all-back}
-use borrow.Author.Needs.{needs}
+use Rattle.rules.proofs.Base.{_+_, _-_, _∙_, sym, _≡_, arith, length, drop, take, needs}
+use Rattle.expander.proofs.Overwriting.{part-length, part-read, Backed, back-none, before, one-before, all-back}
 use Rattle.expander.proofs.packed.move_up.Statement.{statement}
 use Rattle.expander.proofs.packed.move_up.Tie as tie
 
@@ -14,32 +10,11 @@ Inv-loop bytes₀ to from end j₀ bytes j = (length (drop from (take end bytes�
 abbrev μ-loop : tie.MeasureT-loop
 μ-loop bytes₀ to from end j₀ bytes j = j
 
-sub-j : tie.Need-sub-j Inv-loop μ-loop
-sub-j c = search needs
-
 loop-holds : tie.Need-loop-holds Inv-loop μ-loop
 loop-holds c =
     let a = c .args in
     let e = part-length (a .bytes .now) (a .from) (a .end) (omega arith) in
     (e, back-none (a .bytes .now) (a .to) (drop (a .from) (take (a .end) (a .bytes .now))) (a .end - a .from) (omega arith) (omega arith))
-
-sub-i : tie.Need-sub-i Inv-loop μ-loop
-sub-i c = search needs
-
-add-bytes : tie.Need-add-bytes Inv-loop μ-loop
-add-bytes c = search needs
-
-slice-read-bytes : tie.Need-slice-read-bytes Inv-loop μ-loop
-slice-read-bytes c = search needs
-
-add-bytes-2 : tie.Need-add-bytes-2 Inv-loop μ-loop
-add-bytes-2 c = search needs
-
-slice-write-bytes : tie.Need-slice-write-bytes Inv-loop μ-loop
-slice-write-bytes c = search needs
-
-loop-less : tie.Need-loop-less Inv-loop μ-loop
-loop-less c = search needs
 
 loop-again : tie.Need-loop-again Inv-loop μ-loop
 loop-again c =
@@ -51,9 +26,6 @@ loop-again c =
           (before (l .inv .1) (a .from + i) (omega arith) ∙ sym (part-read (a .bytes .now) (a .from) (a .end) i (omega arith))),
     )
 
-same-length : tie.Need-same-length Inv-loop μ-loop
-same-length c = search needs
-
 returns : tie.Need-returns Inv-loop μ-loop
 returns c = all-back (c .before .loop .inv .1) (omega arith)
 
@@ -63,14 +35,14 @@ move-up-spec =
     (tie.spec
     Inv-loop
     μ-loop
-    sub-j
+    (λ c. search needs)
     loop-holds
-    sub-i
-    add-bytes
-    slice-read-bytes
-    add-bytes-2
-    slice-write-bytes
-    loop-less
+    (λ c. search needs)
+    (λ c. search needs)
+    (λ c. search needs)
+    (λ c. search needs)
+    (λ c. search needs)
+    (λ c. search needs)
     loop-again
-    same-length
+    (λ c. search needs)
     returns)

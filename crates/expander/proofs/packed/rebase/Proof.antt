@@ -1,12 +1,7 @@
 -- `expander::packed::rebase` meets its contract: a turn writes one more of the ends that move. Assumes nothing.
-use Prim.Native.Nat.{_+_, _-_, _<_}
-use native.Mathlib.Omega.{arith}
-use mathlib.Core.Path.{_≡_, refl, sym, ap, _∙_}
-use mathlib.Core.List.{map}
-use lib.ListN.{length, take, drop, getD}
+use Rattle.rules.proofs.Base.{_+_, _-_, _<_, _∙_, refl, sym, ap, _≡_, map, arith, length, drop, take, getD, needs}
 use Rattle.expander.specs.Packed.{rebased}
-use Rattle.expander.proofs.Moving.{mapped-length, mapped-read, Fronted, front-none, behind, one-more, all-there}
-use borrow.Author.Needs.{needs}
+use Rattle.expander.proofs.Overwriting.{mapped-length, mapped-read, Fronted, front-none, behind, one-more, all-there}
 use Rattle.expander.proofs.packed.rebase.Statement.{statement}
 use Rattle.expander.proofs.packed.rebase.Tie as tie
 
@@ -16,9 +11,6 @@ Inv-loop ends₀ to from count less more n j₀ ends j = (n ≡ count - from) ×
 abbrev μ-loop : tie.MeasureT-loop
 μ-loop ends₀ to from count less more n j₀ ends j = n - j
 
-sub-n : tie.Need-sub-n Inv-loop μ-loop
-sub-n c = search needs
-
 long : (c : tie.Start Inv-loop μ-loop) → length (map (rebased (c .args .less) (c .args .more)) (drop (c .args .from) (take (c .args .count) (c .args .ends .now)))) ≡ c .args .count - c .args .from
 long c = mapped-length (rebased (c .args .less) (c .args .more)) (c .args .ends .now) (c .args .from) (c .args .count) (omega arith)
 
@@ -26,18 +18,6 @@ loop-holds : tie.Need-loop-holds Inv-loop μ-loop
 loop-holds c =
     let a = c .args in
     (refl, front-none (a .ends .now) (a .to) (map (rebased (a .less) (a .more)) (drop (a .from) (take (a .count) (a .ends .now)))) (omega (arith, long c)))
-
-add-e : tie.Need-add-e Inv-loop μ-loop
-add-e c = search needs
-
-mul-e : tie.Need-mul-e Inv-loop μ-loop
-mul-e c = search needs
-
-slice-read-e : tie.Need-slice-read-e Inv-loop μ-loop
-slice-read-e c = search needs
-
-cast-e : tie.Need-cast-e Inv-loop μ-loop
-cast-e c = omega (arith, c .slice-known .given (c .before .before .before .args .from + c .before .before .loop .j))
 
 -- what a turn reads is as at entry
 read : (c : tie.In-loop Inv-loop μ-loop)
@@ -56,27 +36,6 @@ sub-moved c =
     let s = c .before .before .before in
     omega (arith, read (c .before), s .pre .1 (s .args .from + c .before .before .loop .j) (omega arith) (omega arith))
 
-add-moved : tie.Need-add-moved Inv-loop μ-loop
-add-moved c = omega (arith, fits-for (c .before))
-
-cast-ends : tie.Need-cast-ends Inv-loop μ-loop
-cast-ends c = record { fits = fits-for (c .before) }
-
-add-ends : tie.Need-add-ends Inv-loop μ-loop
-add-ends c = search needs
-
-mul-ends : tie.Need-mul-ends Inv-loop μ-loop
-mul-ends c = search needs
-
-slice-write-ends : tie.Need-slice-write-ends Inv-loop μ-loop
-slice-write-ends c = search needs
-
-add-j : tie.Need-add-j Inv-loop μ-loop
-add-j c = search needs
-
-loop-less : tie.Need-loop-less Inv-loop μ-loop
-loop-less c = search needs
-
 loop-again : tie.Need-loop-again Inv-loop μ-loop
 unfolding rebased
 loop-again c =
@@ -88,9 +47,6 @@ loop-again c =
           (ap (rebased (a .less) (a .more)) (read (c .before)) ∙ sym (mapped-read (rebased (a .less) (a .more)) (a .ends .now) (a .from) (a .count) (l .j) (omega arith) (omega arith))),
     )
 
-same-length : tie.Need-same-length Inv-loop μ-loop
-same-length c = search needs
-
 returns : tie.Need-returns Inv-loop μ-loop
 returns c = all-there (c .before .loop .inv .1) (omega (arith, long (c .before .before)))
 
@@ -100,20 +56,20 @@ rebase-spec =
     (tie.spec
     Inv-loop
     μ-loop
-    sub-n
+    (λ c. search needs)
     loop-holds
-    add-e
-    mul-e
-    slice-read-e
-    cast-e
+    (λ c. search needs)
+    (λ c. search needs)
+    (λ c. search needs)
+    (λ c. omega (arith, c .slice-known .given (c .before .before .before .args .from + c .before .before .loop .j)))
     sub-moved
-    add-moved
-    cast-ends
-    add-ends
-    mul-ends
-    slice-write-ends
-    add-j
-    loop-less
+    (λ c. omega (arith, fits-for (c .before)))
+    (λ c. record { fits = fits-for (c .before) })
+    (λ c. search needs)
+    (λ c. search needs)
+    (λ c. search needs)
+    (λ c. search needs)
+    (λ c. search needs)
     loop-again
-    same-length
+    (λ c. search needs)
     returns)

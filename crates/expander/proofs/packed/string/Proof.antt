@@ -1,21 +1,10 @@
 -- `expander::packed::string` meets its contract: the law `lies`, at what `start` returned. Assumes nothing.
-use mathlib.Core.List.{List, []}
-use lib.ListN.{getD}
+use Rattle.rules.proofs.Base.{List, [], getD, needs}
 use Rattle.rules.specs.Bytes.{Bytes}
 use Rattle.expander.specs.Packed.{Packs}
 use Rattle.expander.proofs.Packing.{Lies, lies}
-use borrow.Author.Needs.{needs}
 use Rattle.expander.proofs.packed.string.Statement.{statement}
 use Rattle.expander.proofs.packed.string.Tie as tie
-
-start-requires : tie.Need-start-requires
-start-requires c κs = search needs
-
-add-start : tie.Need-add-start
-add-start c = search needs
-
-start-requires-2 : tie.Need-start-requires-2
-start-requires-2 c κs = search needs
 
 abbrev entry : tie.After-start2 → tie.Start
 entry c = c .before .before .before .before
@@ -30,15 +19,6 @@ at : (c : tie.After-start2)
     → Lies (entry c .args .bytes .now) (entry c .args .p .used) (c .before .start .result) (c .start2 .result) (getD (entry c .pre .0 .strings) (entry c .args .k) [])
 at c = lies-for c (entry c .pre .0 .strings) (entry c .pre .0 .packs)
 
-sub-result : tie.Need-sub-result
-sub-result c = at c .ordered
-
-part-result-start : tie.Need-part-result-start
-part-result-start c = at c .ordered
-
-part-result-end : tie.Need-part-result-end
-part-result-end c = at c .within
-
 returns : tie.Need-returns
 returns c = λ ss h. lies-for (c .before) ss h .is
 
@@ -46,10 +26,10 @@ pub string-spec : {M : Type 1} → statement M
 string-spec =
     tie.close
     (tie.spec
-    start-requires
-    add-start
-    start-requires-2
-    sub-result
-    part-result-start
-    part-result-end
+    (λ c κs. search needs)
+    (λ c. search needs)
+    (λ c κs. search needs)
+    (λ c. at c .ordered)
+    (λ c. at c .ordered)
+    (λ c. at c .within)
     returns)

@@ -1,17 +1,11 @@
 -- `expander::run::run` meets its contract. Assumes nothing.
-use Prim.Native.Nat.{ℕ, _+_, _-_, _≤_, _<_}
-use native.Mathlib.Nat.{le-trans, le-of-lt}
-use mathlib.Core.Path.{_≡_, refl, ap, _∙_}
-use mathlib.Core.List.{List, []}
-use native.Mathlib.Omega.{arith}
-use lib.ListN.{length}
+use Rattle.rules.proofs.Base.{_≤_, _+_, ℕ, _-_, _<_, _∙_, refl, ap, _≡_, List, [], le-trans, le-of-lt, arith, length, needs}
 use Rattle.rules.specs.State.{freshStart, startState}
 use Rattle.rules.specs.Step.{step}
 use Rattle.rules.specs.Run.{Setting, Ended, lengths, runFrom}
-use Rattle.expander.specs.Machine.{Memory, memory, Limits, Gives, wrapAt, errorsAt}
-use Rattle.expander.specs.Run.{Running, Stretched, SpecialNext}
+use Rattle.expander.specs.Machine.{Memory, memory, Limits, Refines, wrapAt, errorsAt}
+use Rattle.expander.specs.Run.{Running, AfterPlainSteps, SpecialNext}
 use Rattle.expander.proofs.RunLaws.{begun, run-spent, run-refused, run-ended, run-on, recount, leaves-recount, reached-stop, reached-special, counted, counted-one, one-less, step-fits, none-left, all-counted}
-use borrow.Author.Needs.{needs}
 use Rattle.expander.proofs.run.run.Statement.{statement}
 use Rattle.expander.proofs.run.run.Tie as tie
 
@@ -61,10 +55,10 @@ plain c = c .before .before .before .before .before .before .before .before .bef
 abbrev stop : tie.After-special-step Inv-loop μ-loop → tie.After-stop2 Inv-loop μ-loop
 stop c = c .before .before .before .before .before .before .before .before .before .before .before .before .before .before
 
-abbrev refused : tie.After-went Inv-loop μ-loop → tie.After-special-step Inv-loop μ-loop
+abbrev refused : tie.After-progress Inv-loop μ-loop → tie.After-special-step Inv-loop μ-loop
 refused c = c .before .before .before .before .before .before .before .before .before .before .before .before .before .before .before .before .before .before .before .before
 
-abbrev ended : tie.After-went2 Inv-loop μ-loop → tie.After-special-step Inv-loop μ-loop
+abbrev ended : tie.After-progress2 Inv-loop μ-loop → tie.After-special-step Inv-loop μ-loop
 ended c = c .before .before .before .before .before .before .before .before .before .before .before .before .before .before .before .before .before .before .before .before
 
 abbrev on : tie.After-enum-told Inv-loop μ-loop → tie.After-special-step Inv-loop μ-loop
@@ -108,15 +102,15 @@ kept-special c =
     (k .1 .0 ∙ i .0, i .1, i .2, i .3, k .1 .1 .1 .1 .1 .0 ∙ i .4, k .1 .1 .1 .1 .1 .1 .0 ∙ i .5, k .1 .1 .1 .1 .1 .1 .1 .0 ∙ i .6, k .1 .1 .1 .1 .1 .1 .1 .1 .0 ∙ i .7, k .1 .1 .1 .1 .1 .1 .1 .1 .1 .0 ∙ i .8, k .1 .1 .1 .1 .1 .1 .1 .1 .1 .1 .0 ∙ i .9, k .1 .1 .1 .1 .1 .1 .1 .1 .1 .1 .1 .0 ∙ i .10, k .1 .1 .1 .1 .1 .1 .1 .1 .1 .1 .1 .1 .0 ∙ i .11)
 
 -- what the plain steps came to
-stretched : (c : tie.After-run-plain Inv-loop μ-loop) (a : Setting) → Limits a (lent (begin (head c))) → Stretched a (after-plain c) (whole (head c) a) (head c .loop .left) (begin (head c) .args .budget - head c .loop .left) (c .run-plain .result)
-stretched c a l =
+plain-ran : (c : tie.After-run-plain Inv-loop μ-loop) (a : Setting) → Limits a (lent (begin (head c))) → AfterPlainSteps a (after-plain c) (whole (head c) a) (head c .loop .left) (begin (head c) .args .budget - head c .loop .left) (c .run-plain .result)
+plain-ran c a l =
     let o = head c .loop in
     c .run-plain .ensures a (wrapAt (o .wrap) (errorsAt (o .errors) none-other)) (whole (head c) a) (begin (head c) .args .budget - o .left) (o .inv .0 a l)
 
 few : (c : tie.After-run-plain Inv-loop μ-loop) → c .run-plain .result .left ≤ head c .loop .left
 few c =
     let p = begin (head c) .pre .0 in
-    stretched c (p .setting) (p .limits) .few
+    plain-ran c (p .setting) (p .limits) .few
 
 few-of-all : (c : tie.After-run-plain Inv-loop μ-loop) → c .run-plain .result .left ≤ begin (head c) .args .budget
 few-of-all c = le-trans (few c) (head c .loop .inv .2)
@@ -130,20 +124,17 @@ count-is c = counted (few c) (head c .loop .inv .2)
 
 -- the special step is next
 next : (c : tie.After-stop2 Inv-loop μ-loop) (a : Setting) → Limits a (lent (begin (head (plain c)))) → SpecialNext a (after-plain (plain c)) (whole (head (plain c)) a) (count (plain c)) (plain c .run-plain .result) (c .stop2 .given .0 .0)
-next c a l = reached-special (stretched (plain c) a l) (c .stop2 .given .1)
+next c a l = reached-special (plain-ran (plain c) a l) (c .stop2 .given .1)
 
 more : (c : tie.After-stop2 Inv-loop μ-loop) → 0 < plain c .run-plain .result .left
 more c =
     let p = begin (head (plain c)) .pre .0 in
     next c (p .setting) (p .limits) .more
 
-gives : (c : tie.After-special-step Inv-loop μ-loop) (a : Setting) (l : Limits a (lent (begin (head (plain (stop c)))))) → Gives a (after-plain (plain (stop c))) (step (next (stop c) a l .running .state)) (after-special c) (c .special-step .result)
+gives : (c : tie.After-special-step Inv-loop μ-loop) (a : Setting) (l : Limits a (lent (begin (head (plain (stop c)))))) → Refines a (after-plain (plain (stop c))) (step (next (stop c) a l .running .state)) (after-special c) (c .special-step .result)
 gives c a l =
     let g = next (stop c) a l in
-    c .special-step .ensures a (g .running .state) none-other (g .running .means) (g .is)
-
-start-requires : tie.Need-start-requires Inv-loop μ-loop
-start-requires c κs = search needs
+    c .special-step .ensures a (g .running .state) none-other (g .running .represents) (g .is)
 
 loop-holds : tie.Need-loop-holds Inv-loop μ-loop
 loop-holds c =
@@ -154,48 +145,27 @@ run-plain-requires c κs =
     let h = c .before .before .before .before .before .before .before .before .before .before .before in
     let p = begin h .pre .0 in
     let u = h .loop .inv .0 (p .setting) (p .limits) in
-    (record { others = wrapAt (h .loop .wrap) (errorsAt (h .loop .errors) none-other); setting = p .setting; state = u .state; means = u .means }, h .loop .inv .1 .11 ∙ begin h .pre .1)
-
-enum-known-stop : tie.Need-enum-known-stop Inv-loop μ-loop
-enum-known-stop c = search needs
-
-sub-steps : tie.Need-sub-steps Inv-loop μ-loop
-sub-steps c = few-of-all (plain-stopped (c .before))
+    (record { others = wrapAt (h .loop .wrap) (errorsAt (h .loop .errors) none-other); setting = p .setting; state = u .state; represents = u .represents }, h .loop .inv .1 .11 ∙ begin h .pre .1)
 
 returns : tie.Need-returns Inv-loop μ-loop
 returns c =
     λ a l.
     let p = plain-stopped (c .before) in
-    leaves-recount (count-is p) (reached-stop (stretched p a l) (c .before .stop .given .1))
-
-enum-known-stop-2 : tie.Need-enum-known-stop-2 Inv-loop μ-loop
-enum-known-stop-2 c = search needs
+    leaves-recount (count-is p) (reached-stop (plain-ran p a l) (c .before .stop .given .1))
 
 special-step-requires : tie.Need-special-step-requires Inv-loop μ-loop
 special-step-requires c κs =
     let s = c .before .before .before .before .before .before .before .before .before .before .before .before .before in
     let p = begin (head (plain s)) .pre .0 in
     let g = next s (p .setting) (p .limits) in
-    (record { sound = record { others = none-other; setting = p .setting; state = g .running .state; means = g .running .means }; is = g .is }, (g .within, kept-plain (plain s) .11 ∙ begin (head (plain s)) .pre .1))
-
-enum-known-went : tie.Need-enum-known-went Inv-loop μ-loop
-enum-known-went c = search needs
-
-sub-steps-2 : tie.Need-sub-steps-2 Inv-loop μ-loop
-sub-steps-2 c = few-of-all (plain (stop (refused (c .before))))
+    (record { valid = record { others = none-other; setting = p .setting; state = g .running .state; represents = g .running .represents }; is = g .is }, (g .within, kept-plain (plain s) .11 ∙ begin (head (plain s)) .pre .1))
 
 returns-2 : tie.Need-returns-2 Inv-loop μ-loop
 returns-2 c =
     λ a l.
     let t = refused (c .before) in
     let g = next (stop t) a l in
-    leaves-recount (count-is (plain (stop t))) (run-refused (g .running) (g .more) (gives t a l) _ (c .before .went .given .1))
-
-enum-known-went-2 : tie.Need-enum-known-went-2 Inv-loop μ-loop
-enum-known-went-2 c = search needs
-
-sub-steps-3 : tie.Need-sub-steps-3 Inv-loop μ-loop
-sub-steps-3 c = few-of-all (plain (stop (ended (c .before .before))))
+    leaves-recount (count-is (plain (stop t))) (run-refused (g .running) (g .more) (gives t a l) _ (c .before .progress .given .1))
 
 add-steps : tie.Need-add-steps Inv-loop μ-loop
 add-steps c =
@@ -208,13 +178,7 @@ returns-3 c =
     λ a l.
     let t = ended (c .before .before) in
     let g = next (stop t) a l in
-    leaves-recount (ap (λ (n : ℕ). n + 1) (count-is (plain (stop t)))) (run-ended (g .running) (g .more) (gives t a l) _ (c .before .before .went2 .given .1))
-
-enum-told : tie.Need-enum-told Inv-loop μ-loop
-enum-told c = search needs
-
-sub-left : tie.Need-sub-left Inv-loop μ-loop
-sub-left c = more (stop (on (c .before)))
+    leaves-recount (ap (λ (n : ℕ). n + 1) (count-is (plain (stop t)))) (run-ended (g .running) (g .more) (gives t a l) _ (c .before .before .progress2 .given .1))
 
 loop-less : tie.Need-loop-less Inv-loop μ-loop
 loop-less c =
@@ -247,11 +211,11 @@ run-spec =
     (tie.spec
     Inv-loop
     μ-loop
-    start-requires
+    (λ c κs. search needs)
     loop-holds
     run-plain-requires
-    enum-known-stop
-    sub-steps
+    (λ c. search needs)
+    (λ c. few-of-all (plain-stopped (c .before)))
     (λ c. kept-plain (plain-stopped (c .before)) .0)
     (λ c. kept-plain (plain-stopped (c .before)) .1)
     (λ c. kept-plain (plain-stopped (c .before)) .2)
@@ -265,10 +229,10 @@ run-spec =
     (λ c. kept-plain (plain-stopped (c .before)) .10)
     (λ c. kept-plain (plain-stopped (c .before)) .11)
     returns
-    enum-known-stop-2
+    (λ c. search needs)
     special-step-requires
-    enum-known-went
-    sub-steps-2
+    (λ c. search needs)
+    (λ c. few-of-all (plain (stop (refused (c .before)))))
     (λ c. kept-special (refused (c .before)) .0)
     (λ c. kept-special (refused (c .before)) .1)
     (λ c. kept-special (refused (c .before)) .2)
@@ -282,8 +246,8 @@ run-spec =
     (λ c. kept-special (refused (c .before)) .10)
     (λ c. kept-special (refused (c .before)) .11)
     returns-2
-    enum-known-went-2
-    sub-steps-3
+    (λ c. search needs)
+    (λ c. few-of-all (plain (stop (ended (c .before .before)))))
     add-steps
     (λ c. kept-special (ended (c .before .before)) .0)
     (λ c. kept-special (ended (c .before .before)) .1)
@@ -298,8 +262,8 @@ run-spec =
     (λ c. kept-special (ended (c .before .before)) .10)
     (λ c. kept-special (ended (c .before .before)) .11)
     returns-3
-    enum-told
-    sub-left
+    (λ c. search needs)
+    (λ c. more (stop (on (c .before))))
     loop-less
     loop-again
     (λ c. c .before .loop .inv .1 .0)

@@ -1,12 +1,8 @@
 -- `expander::streams::compact` meets its contract: the loop keeps what is kept and what is left, of bytes and owners. Assumes nothing.
-use Prim.Native.Nat.{ℕ, _-_, _≤_, _<_}
-use native.Mathlib.Omega.{arith}
-use mathlib.Core.Path.{_≡_, ap, _∙_}
-use lib.ListN.{length, take, getD, length-take}
+use Rattle.rules.proofs.Base.{_≤_, ℕ, _-_, _<_, _∙_, ap, _≡_, arith, length, take, getD, length-take, needs}
 use Rattle.expander.specs.Streams.{ownsOne}
 use Rattle.expander.proofs.Passes.{Closing, closes-first, closes-read, closes-by, closes-end, closed-count}
 use Rattle.expander.proofs.Waiting.{compacted}
-use borrow.Author.Needs.{needs}
 use Rattle.expander.proofs.streams.compact.Statement.{statement}
 use Rattle.expander.proofs.streams.compact.Tie as tie
 
@@ -22,33 +18,6 @@ loop-holds c =
     let os = take (a .used) (a .owners .now) in
     (search needs, search needs, closes-first (a .i) os (a .bytes .now) (a .used), closes-first (a .i) os (a .owners .now) (a .used))
 
-slice-read-o : tie.Need-slice-read-o Inv-loop μ-loop
-slice-read-o c = search needs
-
-slice-read-bytes : tie.Need-slice-read-bytes Inv-loop μ-loop
-slice-read-bytes c = search needs
-
-slice-write-bytes : tie.Need-slice-write-bytes Inv-loop μ-loop
-slice-write-bytes c = search needs
-
-slice-write-owners : tie.Need-slice-write-owners Inv-loop μ-loop
-slice-write-owners c = search needs
-
-of-stream-requires : tie.Need-of-stream-requires Inv-loop μ-loop
-of-stream-requires c κs = search needs
-
-sub-n : tie.Need-sub-n Inv-loop μ-loop
-sub-n c = omega arith
-
-add-n : tie.Need-add-n Inv-loop μ-loop
-add-n c = search needs
-
-add-k : tie.Need-add-k Inv-loop μ-loop
-add-k c = search needs
-
-loop-less : tie.Need-loop-less Inv-loop μ-loop
-loop-less c = search needs
-
 loop-again : tie.Need-loop-again Inv-loop μ-loop
 loop-again c =
     let a = c .before .before .before .before .before .before .before .args in
@@ -63,12 +32,6 @@ loop-again c =
       closes-by (a .i) os (a .bytes .now) (l .bytes) (a .used) (l .n) (l .k) (l .inv .2) (omega arith) h ls (omega arith) (c .of-stream .result) e,
       closes-by (a .i) os (a .owners .now) (l .owners) (a .used) (l .n) (l .k) (l .inv .3) (omega arith) h ls (omega arith) (c .of-stream .result) e,
     )
-
-same-length : tie.Need-same-length Inv-loop μ-loop
-same-length c = search needs
-
-same-length-2 : tie.Need-same-length-2 Inv-loop μ-loop
-same-length-2 c = search needs
 
 returns : tie.Need-returns Inv-loop μ-loop
 returns c =
@@ -89,16 +52,16 @@ compact-spec =
     Inv-loop
     μ-loop
     loop-holds
-    slice-read-o
-    slice-read-bytes
-    slice-write-bytes
-    slice-write-owners
-    of-stream-requires
-    sub-n
-    add-n
-    add-k
-    loop-less
+    (λ c. search needs)
+    (λ c. search needs)
+    (λ c. search needs)
+    (λ c. search needs)
+    (λ c κs. search needs)
+    (λ c. omega arith)
+    (λ c. search needs)
+    (λ c. search needs)
+    (λ c. search needs)
     loop-again
-    same-length
-    same-length-2
+    (λ c. search needs)
+    (λ c. search needs)
     returns)

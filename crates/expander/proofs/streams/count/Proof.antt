@@ -1,12 +1,7 @@
 -- `expander::streams::count` meets its contract: the loop keeps what is counted and what is left. Assumes nothing.
-use Prim.Native.Nat.{_+_, _-_, _≤_}
-use native.Mathlib.Nat.{zero-add}
-use native.Mathlib.Omega.{arith}
-use mathlib.Core.Path.{_≡_}
-use lib.ListN.{take, drop}
+use Rattle.rules.proofs.Base.{_≤_, _+_, _-_, _≡_, zero-add, arith, drop, take, needs}
 use Rattle.expander.specs.Streams.{ownedCount}
 use Rattle.expander.proofs.Passes.{counts-on, counts-end}
-use borrow.Author.Needs.{needs}
 use Rattle.expander.proofs.streams.count.Statement.{statement}
 use Rattle.expander.proofs.streams.count.Tie as tie
 
@@ -18,21 +13,6 @@ abbrev μ-loop : tie.MeasureT-loop
 
 loop-holds : tie.Need-loop-holds Inv-loop μ-loop
 loop-holds c = (search needs, search needs, zero-add (ownedCount (c .before .args .i) (take (c .before .args .used) (c .before .args .owners .now))))
-
-shared-slice-read-of-stream : tie.Need-shared-slice-read-of-stream Inv-loop μ-loop
-shared-slice-read-of-stream c = search needs
-
-of-stream-requires : tie.Need-of-stream-requires Inv-loop μ-loop
-of-stream-requires c κs = search needs
-
-add-n : tie.Need-add-n Inv-loop μ-loop
-add-n c = omega arith
-
-add-k : tie.Need-add-k Inv-loop μ-loop
-add-k c = search needs
-
-loop-less : tie.Need-loop-less Inv-loop μ-loop
-loop-less c = search needs
 
 loop-again : tie.Need-loop-again Inv-loop μ-loop
 loop-again c =
@@ -56,10 +36,10 @@ count-spec =
     Inv-loop
     μ-loop
     loop-holds
-    shared-slice-read-of-stream
-    of-stream-requires
-    add-n
-    add-k
-    loop-less
+    (λ c. search needs)
+    (λ c κs. search needs)
+    (λ c. omega arith)
+    (λ c. search needs)
+    (λ c. search needs)
     loop-again
     returns)

@@ -1,10 +1,6 @@
 -- `expander::streams::extract` meets its contract: the loop keeps what is taken out and what is left. Assumes nothing.
-use Prim.Native.Nat.{_-_, _≤_, _<_}
-use native.Mathlib.Omega.{arith}
-use mathlib.Core.Path.{_≡_, refl, _∙_}
-use lib.ListN.{length, take, length-set}
+use Rattle.rules.proofs.Base.{_≤_, _-_, _<_, _∙_, refl, _≡_, arith, length, take, length-set, needs}
 use Rattle.expander.proofs.Passes.{Extracting, extract-in, extract-on, extract-end}
-use borrow.Author.Needs.{needs}
 use Rattle.expander.proofs.streams.extract.Statement.{statement}
 use Rattle.expander.proofs.streams.extract.Tie as tie
 
@@ -22,30 +18,6 @@ inside c =
     let l = c .before .loop in
     extract-in (a .i) (a .used) (a .bytes .now) (a .owners .now) (l .dst) (l .n) (l .k) (l .inv .3) (omega arith) (omega arith) (l .inv .2 ∙ s .pre .1) (omega arith)
 
-loop-holds : tie.Need-loop-holds Inv-loop μ-loop
-loop-holds c = (search needs, search needs, refl, record { whole = refl })
-
-shared-slice-read-dst : tie.Need-shared-slice-read-dst Inv-loop μ-loop
-shared-slice-read-dst c = omega (arith, inside (c .before))
-
-slice-write-dst : tie.Need-slice-write-dst Inv-loop μ-loop
-slice-write-dst c = search needs
-
-shared-slice-read-of-stream : tie.Need-shared-slice-read-of-stream Inv-loop μ-loop
-shared-slice-read-of-stream c = omega (arith, inside (c .before .before))
-
-of-stream-requires : tie.Need-of-stream-requires Inv-loop μ-loop
-of-stream-requires c κs = search needs
-
-add-n : tie.Need-add-n Inv-loop μ-loop
-add-n c = omega arith
-
-add-k : tie.Need-add-k Inv-loop μ-loop
-add-k c = omega (arith, inside (c .before .before .before))
-
-loop-less : tie.Need-loop-less Inv-loop μ-loop
-loop-less c = omega (arith, inside (c .before .before .before))
-
 loop-again : tie.Need-loop-again Inv-loop μ-loop
 loop-again c =
     let a = c .before .before .before .before .before .before .before .before .args in
@@ -56,9 +28,6 @@ loop-again c =
       simp length-set (l .inv .2),
       extract-on (a .i) (a .used) (a .bytes .now) (a .owners .now) (l .dst) (l .n) (l .k) (l .inv .3) (omega arith) (omega arith) (omega arith) h (c .of-stream .result) (c .of-stream .ensures .0),
     )
-
-same-length : tie.Need-same-length Inv-loop μ-loop
-same-length c = search needs
 
 returns : tie.Need-returns Inv-loop μ-loop
 returns c =
@@ -73,14 +42,14 @@ extract-spec =
     (tie.spec
     Inv-loop
     μ-loop
-    loop-holds
-    shared-slice-read-dst
-    slice-write-dst
-    shared-slice-read-of-stream
-    of-stream-requires
-    add-n
-    add-k
-    loop-less
+    (λ c. (search needs, search needs, refl, record { whole = refl }))
+    (λ c. omega (arith, inside (c .before)))
+    (λ c. search needs)
+    (λ c. omega (arith, inside (c .before .before)))
+    (λ c κs. search needs)
+    (λ c. omega arith)
+    (λ c. omega (arith, inside (c .before .before .before)))
+    (λ c. omega (arith, inside (c .before .before .before)))
     loop-again
-    same-length
+    (λ c. search needs)
     returns)

@@ -1,9 +1,6 @@
 -- `expander::streams::finish` meets its contract: a tally, where each stream begins, and each byte in its place. Assumes nothing.
-use native.Mathlib.Omega.{arith}
-use mathlib.Core.Path.{refl}
-use lib.ListN.{take}
+use Rattle.rules.proofs.Base.{refl, arith, take, needs}
 use Rattle.expander.proofs.Totals.{counts-all, begins-each}
-use borrow.Author.Needs.{needs}
 use Rattle.expander.proofs.streams.finish.Statement.{statement}
 use Rattle.expander.proofs.streams.finish.Tie as tie
 
@@ -24,12 +21,6 @@ place-requires c κs =
     let n = c .before .before .sum-before in
     (s .pre .0, (s .pre .1, begins-each (t .last .1 .1 .0) (n .last .0) (take (s .args .used) (s .args .owners .now)) (t .ensures) (n .ensures)))
 
-same-length : tie.Need-same-length
-same-length c = search needs
-
-returns : tie.Need-returns
-returns c = search needs
-
 pub finish-spec : {M : Type 1} → statement M
 finish-spec =
-    tie.close (tie.spec tally-requires sum-before-requires place-requires same-length returns)
+    tie.close (tie.spec tally-requires sum-before-requires place-requires (λ c. search needs) (λ c. search needs))

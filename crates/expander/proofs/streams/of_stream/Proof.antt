@@ -1,7 +1,6 @@
 -- `expander::streams::of_stream` meets its contract. Assumes nothing.
-use mathlib.Core.Path.{sym}
-use Rattle.expander.proofs.Owned.{mine-counted, other-counted}
-use borrow.Author.Needs.{needs}
+use Rattle.rules.proofs.Base.{sym, needs}
+use Rattle.expander.proofs.OwnedBytes.{mine-counted, other-counted}
 use Rattle.expander.proofs.streams.of_stream.Statement.{statement}
 use Rattle.expander.proofs.streams.of_stream.Tie as tie
 

@@ -1,10 +1,7 @@
 -- `expander::streams::place` meets its contract: the loop keeps where each stream goes on and what stands of it. Assumes nothing.
-use Prim.Native.Nat.{_-_, _≤_, _<_}
-use native.Mathlib.Omega.{arith}
-use lib.ListN.{length, take, getD, length-take}
+use Rattle.rules.proofs.Base.{_≤_, _-_, _<_, arith, length, take, getD, length-take, needs}
 use Rattle.expander.specs.Streams.{IsStream}
 use Rattle.expander.proofs.Placing.{Placing, place-first, place-room, place-turn, place-end}
-use borrow.Author.Needs.{needs}
 use Rattle.expander.proofs.streams.place.Statement.{statement}
 use Rattle.expander.proofs.streams.place.Tie as tie
 
@@ -28,40 +25,10 @@ loop-holds c =
     let a = c .args in
     (search needs, place-first (a .bytes .now) (a .owners .now) (a .used) (a .next .now) (a .dst .now) (omega arith) (c .pre .1 .0) (c .pre .1 .1))
 
-shared-slice-read-o : tie.Need-shared-slice-read-o Inv-loop μ-loop
-shared-slice-read-o c = search needs
-
-cast-o : tie.Need-cast-o Inv-loop μ-loop
-cast-o c = omega (arith, numbered (c .before))
-
-mul-at : tie.Need-mul-at Inv-loop μ-loop
-mul-at c = omega (arith, numbered (c .before))
-
-element-copy-out-at : tie.Need-element-copy-out-at Inv-loop μ-loop
-element-copy-out-at c = omega (arith, numbered (c .before))
-
-shared-slice-read-dst : tie.Need-shared-slice-read-dst Inv-loop μ-loop
-shared-slice-read-dst c = search needs
-
-slice-write-dst : tie.Need-slice-write-dst Inv-loop μ-loop
-slice-write-dst c = room (c .before .before .before)
-
 add-next : tie.Need-add-next Inv-loop μ-loop
 add-next c =
     let a = c .before .before .before .before .before .args in
     omega (arith, room (c .before .before .before), c .before .before .before .before .loop .inv .1 .size, length-take (a .used) (a .owners .now))
-
-mul-next : tie.Need-mul-next Inv-loop μ-loop
-mul-next c = omega (arith, numbered (c .before .before .before))
-
-element-write-next : tie.Need-element-write-next Inv-loop μ-loop
-element-write-next c = omega (arith, numbered (c .before .before .before))
-
-add-k : tie.Need-add-k Inv-loop μ-loop
-add-k c = search needs
-
-loop-less : tie.Need-loop-less Inv-loop μ-loop
-loop-less c = search needs
 
 loop-again : tie.Need-loop-again Inv-loop μ-loop
 loop-again c =
@@ -84,17 +51,17 @@ place-spec =
     Inv-loop
     μ-loop
     loop-holds
-    shared-slice-read-o
-    cast-o
-    mul-at
-    element-copy-out-at
-    shared-slice-read-dst
-    slice-write-dst
+    (λ c. search needs)
+    (λ c. omega (arith, numbered (c .before)))
+    (λ c. omega (arith, numbered (c .before)))
+    (λ c. omega (arith, numbered (c .before)))
+    (λ c. search needs)
+    (λ c. room (c .before .before .before))
     add-next
-    mul-next
-    element-write-next
-    add-k
-    loop-less
+    (λ c. omega (arith, numbered (c .before .before .before)))
+    (λ c. omega (arith, numbered (c .before .before .before)))
+    (λ c. search needs)
+    (λ c. search needs)
     loop-again
     same-length
     returns)

@@ -1,9 +1,6 @@
 -- `expander::streams::tally` meets its contract: the loop keeps what each stream was given and what is left. Assumes nothing.
-use Prim.Native.Nat.{_-_, _≤_, _<_}
-use native.Mathlib.Omega.{arith}
-use lib.ListN.{getD}
+use Rattle.rules.proofs.Base.{_≤_, _-_, _<_, arith, getD, needs}
 use Rattle.expander.proofs.Placing.{Tallying, tally-none, tally-on, tally-within, tally-end}
-use borrow.Author.Needs.{needs}
 use Rattle.expander.proofs.streams.tally.Statement.{statement}
 use Rattle.expander.proofs.streams.tally.Tie as tie
 
@@ -16,35 +13,11 @@ abbrev μ-loop : tie.MeasureT-loop
 numbered : (c : tie.In-loop Inv-loop μ-loop) → getD (c .before .before .args .owners .now) (c .before .loop .k) 0 < 10
 numbered c = c .before .before .pre .0 .1 (c .before .loop .k) (omega arith)
 
-loop-holds : tie.Need-loop-holds Inv-loop μ-loop
-loop-holds c = (search needs, tally-none (c .args .used) (c .args .owners .now) (c .args .counts .now) (c .pre .1))
-
-shared-slice-read-o : tie.Need-shared-slice-read-o Inv-loop μ-loop
-shared-slice-read-o c = search needs
-
-cast-o : tie.Need-cast-o Inv-loop μ-loop
-cast-o c = omega (arith, numbered (c .before))
-
-mul-counts : tie.Need-mul-counts Inv-loop μ-loop
-mul-counts c = omega (arith, numbered (c .before))
-
-element-copy-out-counts : tie.Need-element-copy-out-counts Inv-loop μ-loop
-element-copy-out-counts c = numbered (c .before)
-
 add-counts : tie.Need-add-counts Inv-loop μ-loop
 add-counts c =
     let a = c .before .before .before .before .args in
     let l = c .before .before .before .loop in
     omega (arith, tally-within (a .used) (a .owners .now) (l .counts) (l .k) (l .inv .1) (omega arith) (omega arith) (numbered (c .before .before)))
-
-element-write-counts : tie.Need-element-write-counts Inv-loop μ-loop
-element-write-counts c = numbered (c .before .before)
-
-add-k : tie.Need-add-k Inv-loop μ-loop
-add-k c = search needs
-
-loop-less : tie.Need-loop-less Inv-loop μ-loop
-loop-less c = search needs
 
 loop-again : tie.Need-loop-again Inv-loop μ-loop
 loop-again c =
@@ -64,14 +37,14 @@ tally-spec =
     (tie.spec
     Inv-loop
     μ-loop
-    loop-holds
-    shared-slice-read-o
-    cast-o
-    mul-counts
-    element-copy-out-counts
+    (λ c. (search needs, tally-none (c .args .used) (c .args .owners .now) (c .args .counts .now) (c .pre .1)))
+    (λ c. search needs)
+    (λ c. omega (arith, numbered (c .before)))
+    (λ c. omega (arith, numbered (c .before)))
+    (λ c. numbered (c .before))
     add-counts
-    element-write-counts
-    add-k
-    loop-less
+    (λ c. numbered (c .before .before))
+    (λ c. search needs)
+    (λ c. search needs)
     loop-again
     returns)

@@ -1,10 +1,5 @@
 -- `expander::substitution::fill_parameter` meets its contract: each kind of parameter by the function that writes its text. Assumes nothing.
-use Prim.Native.Nat.{ℕ, _+_, _≤_, _<_}
-use native.Mathlib.Omega.{arith}
-use mathlib.Core.Path.{_≡_, ap, subst}
-use mathlib.Core.List.{List}
-use lib.IntN.{pos}
-use lib.ListN.{length}
+use Rattle.rules.proofs.Base.{_≤_, _+_, ℕ, _<_, ap, _≡_, subst, List, arith, pos, length, needs}
 use Rattle.rules.specs.Bytes.{Bytes}
 use Rattle.rules.specs.Marks.{markTexts}
 use Rattle.rules.specs.Numerals.{decimal}
@@ -14,12 +9,15 @@ use Rattle.expander.specs.Substitution.{parameterText, OneDigit}
 use Rattle.expander.specs.declared.substitution.Parameter.{Parameter}
 use Rattle.expander.proofs.ArgumentLaws.{few-arguments}
 use Rattle.expander.proofs.SubstitutionLaws.{same-lays, lays-as, byte-lays}
-use borrow.Author.Needs.{needs}
 use Rattle.expander.proofs.substitution.fill_parameter.Statement.{statement}
 use Rattle.expander.proofs.substitution.fill_parameter.Tie as tie
 
+-- ways back
+abbrev start : tie.After-slice-known → tie.Start
+start c = c .before .before .before .before
+
 -- the text of a parameter that is known fits behind the place
-module _ (s : tie.Start) {q : Parameter} (e : s .args .p ≡ q) where
+module _ (s : tie.Start) {q : Parameter} (e : s .args .parameter ≡ q) where
   fits : (args : List Bytes) → ArgumentsIn (s .args .bytes .now) (s .args .ends .now) (s .args .x) args
       → s .args .at + length (parameterText (s .args .name .now) args (markTexts (s .args .marks)) q) ≤ length (s .args .dst .now)
   fits args h = subst (λ (z : Parameter). s .args .at + length (parameterText (s .args .name .now) args (markTexts (s .args .marks)) z) ≤ length (s .args .dst .now)) e (s .pre .1 args h)
@@ -30,59 +28,41 @@ module _ (s : tie.Start) {q : Parameter} (e : s .args .p ≡ q) where
 byte-room : (c : tie.After-known-told2) → c .before .before .before .before .before .before .before .args .at < length (c .before .before .before .before .before .before .before .args .dst .now)
 unfolding parameterText
 byte-room c =
-    let s = c .before .before .before .before .before .before .before in
-    omega (arith, room s (c .before .p2 .given .1))
-
-enum-told : tie.Need-enum-told
-enum-told c = search needs
+    let s = start (c .before .before .before) in
+    omega (arith, room s (c .before .parameter2 .given .1))
 
 fill-text-requires : tie.Need-fill-text-requires
 unfolding parameterText
-fill-text-requires c κs = room (c .before .before .before .before .before .before .before) (c .before .enum-told .given .1)
-
-enum-known-p : tie.Need-enum-known-p
-enum-known-p c = search needs
+fill-text-requires c κs = room (start (c .before .before .before)) (c .before .enum-told .given .1)
 
 argument-requires : tie.Need-argument-requires
 unfolding OneDigit
 argument-requires c κs =
-    let s = c .before .before .before .before .before .before .before in
-    let d = subst OneDigit (c .before .p .given .1) (s .pre .0 .2) in
+    let s = start (c .before .before .before) in
+    let d = subst OneDigit (c .before .parameter .given .1) (s .pre .0 .2) in
     (s .pre .0 .0, d .0, omega (arith, d .1))
 
 fill-text-requires-2 : tie.Need-fill-text-requires-2
 unfolding parameterText
 fill-text-requires-2 c κs =
-    let s = c .before .before .before .before .before .before .before .before .before in
+    let s = start (c .before .before .before .before .before) in
     let k = s .pre .0 .0 in
-    omega (arith, room s (c .before .before .before .p .given .1), ap length (c .before .argument .ensures (k .args) (k .holds)))
-
-enum-told-2 : tie.Need-enum-told-2
-enum-told-2 c = search needs
-
-count-requires : tie.Need-count-requires
-count-requires c κs = search needs
+    omega (arith, room s (c .before .before .before .parameter .given .1), ap length (c .before .argument .ensures (k .args) (k .holds)))
 
 fill-decimal-requires : tie.Need-fill-decimal-requires
 unfolding parameterText
 fill-decimal-requires c κs =
-    let s = c .before .before .before .before .before .before .before .before in
+    let s = start (c .before .before .before .before) in
     let k = s .pre .0 .0 in
     let n = c .before .count .ensures _ _ (k .args) (k .holds) in (
       omega (arith, n, few-arguments (k .holds)),
       omega (arith, room s (c .before .before .enum-told2 .given .1), ap (λ (z : ℕ). length (decimal (pos z))) n),
     )
 
-enum-told-3 : tie.Need-enum-told-3
-enum-told-3 c = search needs
-
-bare-marks-requires : tie.Need-bare-marks-requires
-bare-marks-requires c κs = search needs
-
 fill-all-requires : tie.Need-fill-all-requires
 unfolding parameterText
 fill-all-requires c κs =
-    let s = c .before .before .before .before .before .before .before .before in (
+    let s = start (c .before .before .before .before) in (
       (s .pre .0 .0, c .before .bare-marks .ensures .0),
       λ args h.
           omega (
@@ -92,40 +72,19 @@ fill-all-requires c κs =
           ),
     )
 
-enum-told-4 : tie.Need-enum-told-4
-enum-told-4 c = search needs
-
 fill-all-requires-2 : tie.Need-fill-all-requires-2
 unfolding parameterText
 fill-all-requires-2 c κs =
-    let s = c .before .before .before .before .before .before .before in
+    let s = start (c .before .before .before) in
     ((s .pre .0 .0, s .pre .0 .1), fits s (c .before .enum-told4 .given .1))
-
-enum-known-p-2 : tie.Need-enum-known-p-2
-enum-known-p-2 c = search needs
-
-slice-write-dst : tie.Need-slice-write-dst
-slice-write-dst c = byte-room c
-
-add-result : tie.Need-add-result
-add-result c = omega (arith, byte-room c)
-
-same-length : tie.Need-same-length
-same-length c = search needs
 
 returns : tie.Need-returns
 unfolding parameterText
 returns c = λ args h. same-lays _ args _ (c .before .before .before .before .enum-told .given .1) (c .before .before .fill-text .ensures)
 
-same-length-2 : tie.Need-same-length-2
-same-length-2 c = search needs
-
 returns-2 : tie.Need-returns-2
 unfolding parameterText
-returns-2 c = λ args h. same-lays _ args _ (c .before .before .before .before .before .before .p .given .1) (lays-as (c .before .before .before .before .argument .ensures args h) (c .before .before .fill-text2 .ensures))
-
-same-length-3 : tie.Need-same-length-3
-same-length-3 c = search needs
+returns-2 c = λ args h. same-lays _ args _ (c .before .before .before .before .before .before .parameter .given .1) (lays-as (c .before .before .before .before .argument .ensures args h) (c .before .before .fill-text2 .ensures))
 
 returns-3 : tie.Need-returns-3
 unfolding parameterText
@@ -134,9 +93,6 @@ returns-3 c =
     same-lays _ args _ (c .before .before .before .before .before .enum-told2 .given .1)
     (lays-as (ap (λ (z : ℕ). decimal (pos z)) (c .before .before .before .before .count .ensures _ _ args h)) (c .before .before .fill-decimal .ensures))
 
-same-length-4 : tie.Need-same-length-4
-same-length-4 c = search needs
-
 returns-4 : tie.Need-returns-4
 unfolding parameterText
 returns-4 c =
@@ -144,51 +100,45 @@ returns-4 c =
     same-lays _ args _ (c .before .before .before .before .before .enum-told3 .given .1)
     (lays-as (ap (λ (ws : List Bytes). commas ws) (c .before .before .before .before .bare-marks .ensures .1 args)) (c .before .before .fill-all .ensures args h))
 
-same-length-5 : tie.Need-same-length-5
-same-length-5 c = search needs
-
 returns-5 : tie.Need-returns-5
 unfolding parameterText
 returns-5 c = λ args h. same-lays _ args _ (c .before .before .before .before .enum-told4 .given .1) (c .before .before .fill-all2 .ensures args h)
 
-same-length-6 : tie.Need-same-length-6
-same-length-6 c = search needs
-
 returns-6 : tie.Need-returns-6
 unfolding parameterText
 returns-6 c =
-    let s = c .before .before .before .before .before .before .before in
-    λ args h. same-lays _ args _ (c .before .p2 .given .1) (byte-lays (s .args .dst .now) (s .args .at) (c .before .p2 .given .0 .0) (omega (arith, byte-room c)))
+    let s = start (c .before .before .before) in
+    λ args h. same-lays _ args _ (c .before .parameter2 .given .1) (byte-lays (s .args .dst .now) (s .args .at) (c .before .parameter2 .given .0 .0) (omega (arith, byte-room c)))
 
 pub fill-parameter-spec : {M : Type 1} → statement M
 fill-parameter-spec =
     tie.close
     (tie.spec
-    enum-told
+    (λ c. search needs)
     fill-text-requires
-    enum-known-p
+    (λ c. search needs)
     argument-requires
     fill-text-requires-2
-    enum-told-2
-    count-requires
+    (λ c. search needs)
+    (λ c κs. search needs)
     fill-decimal-requires
-    enum-told-3
-    bare-marks-requires
+    (λ c. search needs)
+    (λ c κs. search needs)
     fill-all-requires
-    enum-told-4
+    (λ c. search needs)
     fill-all-requires-2
-    enum-known-p-2
-    slice-write-dst
-    add-result
-    same-length
+    (λ c. search needs)
+    (λ c. byte-room c)
+    (λ c. omega (arith, byte-room c))
+    (λ c. search needs)
     returns
-    same-length-2
+    (λ c. search needs)
     returns-2
-    same-length-3
+    (λ c. search needs)
     returns-3
-    same-length-4
+    (λ c. search needs)
     returns-4
-    same-length-5
+    (λ c. search needs)
     returns-5
-    same-length-6
+    (λ c. search needs)
     returns-6)

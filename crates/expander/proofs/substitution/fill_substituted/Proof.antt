@@ -1,15 +1,10 @@
 -- `expander::substitution::fill_substituted` meets its contract: the loop keeps that what is written and what comes behind are the whole. Assumes nothing.
-use Prim.Native.Nat.{_-_, _≤_}
-use native.Mathlib.Omega.{arith}
-use mathlib.Core.Path.{_≡_, refl, _∙_}
-use mathlib.Core.List.{List}
-use lib.ListN.{length}
+use Rattle.rules.proofs.Base.{_≤_, _-_, _∙_, refl, _≡_, List, arith, length, needs}
 use Rattle.rules.specs.Bytes.{Bytes}
 use Rattle.rules.specs.Marks.{markTexts}
 use Rattle.expander.specs.Arguments.{ArgumentsIn}
 use Rattle.expander.proofs.SubstitutionLaws.{Stands, stands-within, stands-some, Filling, filling-begins, filling-ends, filling-room, filling-on}
 use Rattle.expander.proofs.FilledLaws.{filled-long}
-use borrow.Author.Needs.{needs}
 use Rattle.expander.proofs.substitution.fill_substituted.Statement.{statement}
 use Rattle.expander.proofs.substitution.fill_substituted.Tie as tie
 
@@ -25,17 +20,11 @@ abbrev μ-loop : tie.MeasureT-loop
 loop-holds : tie.Need-loop-holds Inv-loop μ-loop
 loop-holds c = (omega arith, refl, λ args h. filling-begins _ args _ _ _ (c .before .before .before .before .before .pre .1 args h))
 
-parameter-at-requires : tie.Need-parameter-at-requires Inv-loop μ-loop
-parameter-at-requires c κs = search needs
-
 fill-parameter-requires : tie.Need-fill-parameter-requires Inv-loop μ-loop
 fill-parameter-requires c κs =
     let s = c .before .before .before .before .before .before .before .before .before in
     let l = c .before .parameter-at .ensures in
     ((s .pre .0 .0, s .pre .0 .1, l .digit), λ args h. filling-room (c .before .before .before .loop .inv .2 args h) l)
-
-parameter-width-requires : tie.Need-parameter-width-requires Inv-loop μ-loop
-parameter-width-requires c κs = search needs
 
 -- what stands at the place
 stands : (c : tie.After-parameter-width Inv-loop μ-loop)
@@ -44,9 +33,6 @@ stands c = record { leads = c .before .before .before .before .before .parameter
 
 add-i : tie.Need-add-i Inv-loop μ-loop
 add-i c = omega (arith, stands-within (stands c) (c .before .before .before .before .before .before .before .loop .inv .0))
-
-loop-less : tie.Need-loop-less Inv-loop μ-loop
-loop-less c = omega (arith, stands-some (stands c), c .before .before .before .before .before .before .loop-test .taken)
 
 loop-again : tie.Need-loop-again Inv-loop μ-loop
 loop-again c =
@@ -59,9 +45,6 @@ loop-again c =
       λ args h. filling-on (l .inv .2 args h) (stands c) (f .ensures args h),
     )
 
-same-length : tie.Need-same-length Inv-loop μ-loop
-same-length c = c .before .loop .inv .1
-
 returns : tie.Need-returns Inv-loop μ-loop
 returns c = λ args h. filling-ends (c .before .loop .inv .2 args h) (c .loop-test .left)
 
@@ -72,11 +55,11 @@ fill-substituted-spec =
     Inv-loop
     μ-loop
     loop-holds
-    parameter-at-requires
+    (λ c κs. search needs)
     fill-parameter-requires
-    parameter-width-requires
+    (λ c κs. search needs)
     add-i
-    loop-less
+    (λ c. omega (arith, stands-some (stands c), c .before .before .before .before .before .before .loop-test .taken))
     loop-again
-    same-length
+    (λ c. c .before .loop .inv .1)
     returns)

@@ -1,23 +1,11 @@
 -- `expander::substitution::parameter_at` meets its contract: a byte that is not `$`, `$` and a byte behind it, or `$` as the last byte. Assumes nothing.
 use Rattle.expander.proofs.SubstitutionLaws.{plain-at, dollar-last, dollar-at}
-use borrow.Author.Needs.{needs}
+use Rattle.rules.proofs.Base.{needs}
 use Rattle.expander.proofs.substitution.parameter_at.Statement.{statement}
 use Rattle.expander.proofs.substitution.parameter_at.Tie as tie
 
-shared-slice-read-x : tie.Need-shared-slice-read-x
-shared-slice-read-x c = search needs
-
 returns : tie.Need-returns
 returns c = plain-at _ _ (c .before .before .before .pre) (c .if1 .taken)
-
-add-j : tie.Need-add-j
-add-j c = search needs
-
-shared-slice-read-parameter-named : tie.Need-shared-slice-read-parameter-named
-shared-slice-read-parameter-named c = search needs
-
-parameter-named-requires : tie.Need-parameter-named-requires
-parameter-named-requires c κs = search needs
 
 returns-2 : tie.Need-returns-2
 returns-2 c =
@@ -33,10 +21,10 @@ pub parameter-at-spec : {M : Type 1} → statement M
 parameter-at-spec =
     tie.close
     (tie.spec
-    shared-slice-read-x
+    (λ c. search needs)
     returns
-    add-j
-    shared-slice-read-parameter-named
-    parameter-named-requires
+    (λ c. search needs)
+    (λ c. search needs)
+    (λ c κs. search needs)
     returns-2
     returns-3)

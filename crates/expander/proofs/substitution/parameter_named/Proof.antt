@@ -1,24 +1,13 @@
 -- `expander::substitution::parameter_named` meets its contract: a law for each byte behind `$`. Assumes nothing.
-use mathlib.Core.Path.{_≡_, sym, _∙_}
-use mathlib.Core.Bool.{true}
+use Rattle.rules.proofs.Base.{_∙_, sym, _≡_, true, needs}
 use Rattle.rules.specs.Bytes.{isDigit}
 use Rattle.rules.proofs.Classes.{digit-bounds}
 use Rattle.expander.proofs.SubstitutionLaws.{leads-name, leads-count, leads-all, leads-quoted, leads-argument, leads-dollar}
-use borrow.Author.Needs.{needs}
 use Rattle.expander.proofs.substitution.parameter_named.Statement.{statement}
 use Rattle.expander.proofs.substitution.parameter_named.Tie as tie
 
-is-digit-requires : tie.Need-is-digit-requires
-is-digit-requires c κs = search needs
-
 digit : (c : tie.Then1) → isDigit (c .before .before .before .args .y) ≡ true
 digit c = sym (c .before .is-digit .ensures) ∙ c .if1 .taken
-
-sub-n : tie.Need-sub-n
-sub-n c = digit-bounds _ (digit c) .0
-
-cast-t5 : tie.Need-cast-t5
-cast-t5 c = search needs
 
 returns : tie.Need-returns
 returns c = λ ys. leads-argument _ ys (digit c) (c .before .before .match .rest .0 .0 .0 .1)
@@ -44,9 +33,9 @@ pub parameter-named-spec : {M : Type 1} → statement M
 parameter-named-spec =
     tie.close
     (tie.spec
-    is-digit-requires
-    sub-n
-    cast-t5
+    (λ c κs. search needs)
+    (λ c. digit-bounds _ (digit c) .0)
+    (λ c. search needs)
     returns
     returns-2
     returns-3

@@ -1,18 +1,13 @@
 -- `expander::substitution::parameter_width` meets its contract: one byte for a literal, two for the others. Assumes nothing.
-use mathlib.Core.Path.{_≡_, refl, sym, ap}
-use mathlib.Core.List.{[], _∷_}
+use Rattle.rules.proofs.Base.{refl, sym, ap, _≡_, [], _∷_, needs}
 use types.Run.{OneOf, miss}
 use denote.Enum.Declared.{tagOf}
 use Rattle.expander.specs.Substitution.{parameterWidth}
 use Rattle.expander.specs.declared.substitution.Parameter.{Parameter}
 use Rattle.expander.proofs.substitution.Parameter.{the-type}
 use Rattle.expander.specs.declared.substitution.Parameter.the-variants as kind
-use borrow.Author.Needs.{needs}
 use Rattle.expander.proofs.substitution.parameter_width.Statement.{statement}
 use Rattle.expander.proofs.substitution.parameter_width.Tie as tie
-
-enum-told : tie.Need-enum-told
-enum-told c = search needs
 
 returns : tie.Need-returns
 unfolding parameterWidth
@@ -29,7 +24,7 @@ two kind.Quoted h = refl
 two (kind.Literal b) h = absurd (miss (0 ∷ 1 ∷ 2 ∷ 3 ∷ 4 ∷ []) 5 tt h)
 
 returns-2 : tie.Need-returns-2
-returns-2 c = two (c .before .args .p) (c .match .keys2)
+returns-2 c = two (c .before .args .parameter) (c .match .keys2)
 
 pub parameter-width-spec : {M : Type 1} → statement M
-parameter-width-spec = tie.close (tie.spec enum-told returns returns-2)
+parameter-width-spec = tie.close (tie.spec (λ c. search needs) returns returns-2)

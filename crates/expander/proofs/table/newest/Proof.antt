@@ -1,14 +1,9 @@
 -- `expander::table::newest` meets its contract: the loop keeps that the newest definition is among those left to look at. Assumes nothing.
-use Prim.Native.Nat.{_/_, _≤_}
-use native.Mathlib.Omega.{arith}
-use mathlib.Core.Path.{_≡_}
-use mathlib.Core.List.{List}
-use lib.ListN.{take}
+use Rattle.rules.proofs.Base.{_≤_, _/_, _≡_, List, arith, take, needs}
 use Rattle.rules.specs.Table.{Definition, newestPlace}
 use Rattle.expander.specs.Table.{rows, DefinitionsIn}
 use Rattle.expander.proofs.Packing.{formed}
 use Rattle.expander.proofs.Rows.{search-begins, search-found, search-on, search-ended}
-use borrow.Author.Needs.{needs}
 use Rattle.expander.proofs.table.newest.Statement.{statement}
 use Rattle.expander.proofs.table.newest.Tie as tie
 
@@ -24,9 +19,6 @@ loop-holds c =
     let a = c .before .before .before .before .args in
     (search needs, λ ds h. search-begins h (a .name .now))
 
-sub-at : tie.Need-sub-at Inv-loop μ-loop
-sub-at c = search needs
-
 mul-k : tie.Need-mul-k Inv-loop μ-loop
 mul-k c = omega (arith, c .before .before .before .before .before .before .pre .holds .packs .count-in, c .before .before .before .before .before .before .pre .holds .ends-are)
 
@@ -41,12 +33,6 @@ returns c =
     let a = c .before .before .before .before .before .before .before .before .args in
     let i = c .before .is-string in
     λ ds h. search-found h (a .name .now) (l .left) (l .inv .1 ds h) (omega arith) (l .inv .0) (i .ensures (rows ds) (h .packs)) (c .if1 .taken)
-
-sub-left : tie.Need-sub-left Inv-loop μ-loop
-sub-left c = search needs
-
-loop-less : tie.Need-loop-less Inv-loop μ-loop
-loop-less c = search needs
 
 loop-again : tie.Need-loop-again Inv-loop μ-loop
 loop-again c =
@@ -67,11 +53,11 @@ newest-spec =
     Inv-loop
     μ-loop
     loop-holds
-    sub-at
+    (λ c. search needs)
     mul-k
     is-string-requires
     returns
-    sub-left
-    loop-less
+    (λ c. search needs)
+    (λ c. search needs)
     loop-again
     returns-2)

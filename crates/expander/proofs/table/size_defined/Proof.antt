@@ -1,54 +1,29 @@
 -- `expander::table::size_defined` meets its contract: the laws `size-replaced` and `size-pushed`. Assumes nothing.
-use Prim.Native.Nat.{_+_, _*_, _≤_}
-use native.Mathlib.Omega.{arith}
-use mathlib.Core.Path.{ap, _∙_}
-use lib.ListN.{length}
+use Rattle.rules.proofs.Base.{_≤_, _+_, _*_, _∙_, ap, arith, length, needs}
 use Rattle.expander.specs.Table.{rows, placeOf}
 use Rattle.expander.proofs.Packing.{formed, string-fits}
 use Rattle.expander.proofs.Changing.{found-strings, size-replaced, size-pushed, few-strings}
-use borrow.Author.Needs.{needs}
 use Rattle.expander.proofs.table.size_defined.Statement.{statement}
 use Rattle.expander.proofs.table.size_defined.Tie as tie
-
-enum-known-place : tie.Need-enum-known-place
-enum-known-place c = search needs
 
 abbrev entry : tie.After-known-told → tie.Start
 entry c = c .before .before .before .before .before .before
 
 -- the definition at the place has its strings
-within-for : (c : tie.After-known-told) → 2 * c .before .place .given .0 .0 + 2 ≤ entry c .args .p .count
+within-for : (c : tie.After-known-told) → 2 * c .before .place .given .0 .0 + 2 ≤ entry c .args .packed .count
 within-for c =
     let d = entry c .pre .0 in
     let i = c .before .place .given in
     found-strings (d .holds) (entry c .args .name .now) (i .0 .0) (entry c .pre .1 .0 (d .definitions) (d .holds)) (i .1)
 
-mul-k : tie.Need-mul-k
-mul-k c = omega (arith, within-for c, few-strings (entry c .pre .0 .holds))
-
-add-k : tie.Need-add-k
-add-k c = omega (arith, within-for c, few-strings (entry c .pre .0 .holds))
-
-string-requires : tie.Need-string-requires
-string-requires c κs = (formed (entry c .pre .0 .holds .packs), omega (arith, within-for c))
-
-old-fits : (c : tie.After-string) → length (c .string .result .now) ≤ entry (c .before) .args .p .used
+old-fits : (c : tie.After-string) → length (c .string .result .now) ≤ entry (c .before) .args .packed .used
 old-fits c =
     let d = entry (c .before) .pre .0 in
     let k = 2 * c .before .before .place .given .0 .0 + 1 in
     omega (arith, ap length (c .string .ensures (rows (d .definitions)) (d .holds .packs)), string-fits (d .holds .packs) k (omega (arith, within-for (c .before))))
 
-sub-result : tie.Need-sub-result
-sub-result c = old-fits c
-
 add-result : tie.Need-add-result
 add-result c = omega (arith, entry (c .before) .pre .0 .holds .packs .used-in, entry (c .before) .pre .0 .holds .bytes-most, entry (c .before) .pre .1 .1)
-
-enum-told : tie.Need-enum-told
-enum-told c = search needs
-
-add-result-2 : tie.Need-add-result-2
-add-result-2 c = search needs
 
 add-result-3 : tie.Need-add-result-3
 add-result-3 c = omega (arith, c .before .before .before .before .before .pre .0 .holds .packs .used-in, c .before .before .before .before .before .pre .0 .holds .bytes-most, c .before .before .before .before .before .pre .1 .1)
@@ -74,14 +49,14 @@ pub size-defined-spec : {M : Type 1} → statement M
 size-defined-spec =
     tie.close
     (tie.spec
-    enum-known-place
-    mul-k
-    add-k
-    string-requires
-    sub-result
+    (λ c. search needs)
+    (λ c. omega (arith, within-for c, few-strings (entry c .pre .0 .holds)))
+    (λ c. omega (arith, within-for c, few-strings (entry c .pre .0 .holds)))
+    (λ c κs. (formed (entry c .pre .0 .holds .packs), omega (arith, within-for c)))
+    (λ c. old-fits c)
     add-result
-    enum-told
-    add-result-2
+    (λ c. search needs)
+    (λ c. search needs)
     add-result-3
     returns
     returns-2)

@@ -1,14 +1,9 @@
 -- `expander::tokens::comment_end` meets its contract: the loop keeps what the comment comes to from the place on. Assumes nothing.
-use Prim.Native.Nat.{ℕ, _+_, _-_, _≤_}
-use native.Mathlib.Omega.{arith}
-use mathlib.Core.Path.{_≡_, refl, sym, ap, _∙_}
-use mathlib.Core.List.{_++_}
-use lib.ListN.{length}
-use borrow.Author.Needs.{needs}
+use Rattle.rules.proofs.Base.{_≤_, _+_, ℕ, _-_, _∙_, refl, sym, ap, _≡_, _++_, arith, length, needs}
 use Rattle.rules.specs.Marks.{markText}
 use Rattle.rules.specs.Tokens.{commentToEnd}
 use Rattle.expander.specs.Tokens.{commentEndingAt, commentFrom}
-use Rattle.expander.proofs.Marks.{mark-room}
+use Rattle.expander.proofs.MarkPlaces.{mark-room}
 use Rattle.expander.proofs.Comments.{ends-within, comment-here, comment-over, comment-skips, comment-on}
 use Rattle.expander.proofs.tokens.comment_end.Statement.{statement}
 use Rattle.expander.proofs.tokens.comment_end.Tie as tie
@@ -29,24 +24,6 @@ kept c =
     let e = c .before .before .before .first-byte .ensures in
     comment-skips (markText (a .end)) (a .front .now ++ a .rest .now) (l .i) (e .full) _ _ (e .byte) (c .next-either .ensures) ∙ l .inv
 
-ahead-length-requires : tie.Need-ahead-length-requires Inv-loop μ-loop
-ahead-length-requires c κs = search needs
-
-first-byte-requires : tie.Need-first-byte-requires Inv-loop μ-loop
-first-byte-requires c κs = search needs
-
-loop-holds : tie.Need-loop-holds Inv-loop μ-loop
-loop-holds c = refl
-
-next-either-requires : tie.Need-next-either-requires Inv-loop μ-loop
-next-either-requires c κs = search needs
-
-mark-at-requires : tie.Need-mark-at-requires Inv-loop μ-loop
-mark-at-requires c κs = search needs
-
-mark-length-requires : tie.Need-mark-length-requires Inv-loop μ-loop
-mark-length-requires c κs = search needs
-
 -- the end mark that stands at the place lies in the text
 room : (c : tie.After-mark-length Inv-loop μ-loop)
     → (let a = c .before .before .before .before .before .before .before .before .before .before .args in c .before .before .before .next-either .result + length (markText (a .end)) ≤ length (a .front .now ++ a .rest .now))
@@ -54,9 +31,6 @@ room c =
     let a = c .before .before .before .before .before .before .before .before .before .before .args in
     let at = c .before .before .before .next-either in
     mark-room (markText (a .end)) (a .front .now ++ a .rest .now) (at .result) (at .ensures .within) (sym (c .before .before .mark-at .ensures) ∙ c .before .if1 .taken)
-
-add-result : tie.Need-add-result Inv-loop μ-loop
-add-result c = omega (arith, room c)
 
 returns : tie.Need-returns Inv-loop μ-loop
 returns c =
@@ -68,19 +42,10 @@ returns c =
     ∙ comment-here (markText (a .end)) text at (sym (c .before .before .mark-at .ensures) ∙ c .before .if1 .taken)
     ∙ kept (c .before .before .before)
 
-add-i : tie.Need-add-i Inv-loop μ-loop
-add-i c = omega arith
-
-loop-less : tie.Need-loop-less Inv-loop μ-loop
-loop-less c = omega arith
-
 loop-again : tie.Need-loop-again Inv-loop μ-loop
 loop-again c =
     let a = c .before .before .before .before .before .before .before .before .before .args in
     comment-on (markText (a .end)) (a .front .now ++ a .rest .now) (c .before .before .next-either .result) (sym (c .before .mark-at .ensures) ∙ c .if1 .left) ∙ kept (c .before .before)
-
-end-without-mark-requires : tie.Need-end-without-mark-requires Inv-loop μ-loop
-end-without-mark-requires c κs = search needs
 
 returns-2 : tie.Need-returns-2 Inv-loop μ-loop
 returns-2 c =
@@ -100,16 +65,16 @@ comment-end-spec =
     (tie.spec
     Inv-loop
     μ-loop
-    ahead-length-requires
-    first-byte-requires
-    loop-holds
-    next-either-requires
-    mark-at-requires
-    mark-length-requires
-    add-result
+    (λ c κs. search needs)
+    (λ c κs. search needs)
+    (λ c. refl)
+    (λ c κs. search needs)
+    (λ c κs. search needs)
+    (λ c κs. search needs)
+    (λ c. omega (arith, room c))
     returns
-    add-i
-    loop-less
+    (λ c. omega arith)
+    (λ c. omega arith)
     loop-again
-    end-without-mark-requires
+    (λ c κs. search needs)
     returns-2)

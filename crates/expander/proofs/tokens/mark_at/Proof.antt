@@ -1,15 +1,9 @@
 -- `expander::tokens::mark_at` meets its contract: the loop keeps that the rest of the mark stands further on just where the whole mark
 -- stands at the place. Assumes nothing.
-use Prim.Native.Nat.{ℕ, _+_, _-_, _≤_, _<_}
-use native.Mathlib.Omega.{arith}
-use native.Mathlib.Nat.{add-zero}
-use mathlib.Core.Path.{_≡_, sym, ap, _∙_}
-use mathlib.Core.List.{_++_}
-use lib.ListN.{drop, length-drop}
-use borrow.Author.Needs.{needs}
+use Rattle.rules.proofs.Base.{_≤_, _+_, ℕ, _-_, _<_, _∙_, sym, ap, _≡_, _++_, add-zero, arith, drop, length-drop, needs}
 use Rattle.rules.specs.Marks.{markText}
 use Rattle.rules.specs.Tokens.{beginsWith}
-use Rattle.expander.proofs.Marks.{mark-byte, begins-short, begins-end, begins-not, begins-on}
+use Rattle.expander.proofs.MarkPlaces.{mark-byte, begins-short, begins-end, begins-not, begins-on}
 use Rattle.expander.proofs.tokens.mark_at.Statement.{statement}
 use Rattle.expander.proofs.tokens.mark_at.Tie as tie
 
@@ -18,15 +12,6 @@ Inv-loop front rest i m len k₀ k = (k ≤ len) × (beginsWith (drop k (markTex
 
 abbrev μ-loop : tie.MeasureT-loop
 μ-loop front rest i m len k₀ k = len - k
-
-mark-length-requires : tie.Need-mark-length-requires Inv-loop μ-loop
-mark-length-requires c κs = search needs
-
-ahead-length-requires : tie.Need-ahead-length-requires Inv-loop μ-loop
-ahead-length-requires c κs = search needs
-
-sub-if1 : tie.Need-sub-if1 Inv-loop μ-loop
-sub-if1 c = search needs
 
 returns : tie.Need-returns Inv-loop μ-loop
 returns c =
@@ -38,27 +23,12 @@ loop-holds c =
     let a = c .before .before .before .before .before .args in
     (search needs, ap (λ (n : ℕ). beginsWith (markText (a .t1)) (drop n (a .front .now ++ a .rest .now))) (add-zero (a .i)))
 
-add-at : tie.Need-add-at Inv-loop μ-loop
-add-at c = search needs
-
-byte-ahead-requires : tie.Need-byte-ahead-requires Inv-loop μ-loop
-byte-ahead-requires c κs = search needs
-
-element-copy-out-if2 : tie.Need-element-copy-out-if2 Inv-loop μ-loop
-element-copy-out-if2 c = search needs
-
 returns-2 : tie.Need-returns-2 Inv-loop μ-loop
 returns-2 c =
     let a = c .before .before .before .before .before .before .before .before .before .before .args in
     let l = c .before .before .before .before .loop in
     let h : l .k < a .t1 .len = omega arith in
     sym (begins-not (markText (a .t1)) (a .front .now ++ a .rest .now) (a .i) (l .k) (omega arith) (omega arith) (λ q. c .if2 .taken (mark-byte (a .t1) (l .k) h ∙ q ∙ sym (c .before .before .byte-ahead .ensures)))) ∙ l .inv .1
-
-add-k : tie.Need-add-k Inv-loop μ-loop
-add-k c = search needs
-
-loop-less : tie.Need-loop-less Inv-loop μ-loop
-loop-less c = search needs
 
 loop-again : tie.Need-loop-again Inv-loop μ-loop
 loop-again c =
@@ -81,16 +51,16 @@ mark-at-spec =
     (tie.spec
     Inv-loop
     μ-loop
-    mark-length-requires
-    ahead-length-requires
-    sub-if1
+    (λ c κs. search needs)
+    (λ c κs. search needs)
+    (λ c. search needs)
     returns
     loop-holds
-    add-at
-    byte-ahead-requires
-    element-copy-out-if2
+    (λ c. search needs)
+    (λ c κs. search needs)
+    (λ c. search needs)
     returns-2
-    add-k
-    loop-less
+    (λ c. search needs)
+    (λ c. search needs)
     loop-again
     returns-3)

@@ -1,20 +1,13 @@
 -- `expander::tokens::name_length` meets its contract. Assumes nothing.
-use native.Mathlib.Omega.{arith}
-use borrow.Author.Needs.{needs}
-use Rattle.expander.proofs.Runs.{name-within, name-front, name-over}
+use Rattle.rules.proofs.Base.{arith, needs}
+use Rattle.expander.proofs.Prefixes.{name-within, name-front, name-over}
 use Rattle.expander.proofs.tokens.name_length.Statement.{statement}
 use Rattle.expander.proofs.tokens.name_length.Tie as tie
-
-name-length-requires : tie.Need-name-length-requires
-name-length-requires c κs = search needs
 
 returns : tie.Need-returns
 returns c =
     let a = c .before .before .before .before .args in
     name-front (a .front .now) (a .rest .now) _ (c .before .name-length .ensures) (c .if1 .taken)
-
-name-length-requires-2 : tie.Need-name-length-requires-2
-name-length-requires-2 c κs = search needs
 
 add-result : tie.Need-add-result
 add-result c =
@@ -28,4 +21,4 @@ returns-2 c =
 
 pub name-length-spec : {M : Type 1} → statement M
 name-length-spec =
-    tie.close (tie.spec name-length-requires returns name-length-requires-2 add-result returns-2)
+    tie.close (tie.spec (λ c κs. search needs) returns (λ c κs. search needs) add-result returns-2)

@@ -1,27 +1,8 @@
 -- `expander::tokens::passed` meets its contract. Assumes nothing.
-use native.Mathlib.Omega.{arith}
-use mathlib.Core.Path.{sym, _∙_}
-use mathlib.Core.List.{_++_}
-use lib.ListN.{length-append}
-use borrow.Author.Needs.{needs}
+use Rattle.rules.proofs.Base.{_∙_, sym, _++_, arith, length-append, needs}
 use Rattle.expander.proofs.Quotes.{end-passed, begin-passed, byte-passed}
 use Rattle.expander.proofs.tokens.passed.Statement.{statement}
 use Rattle.expander.proofs.tokens.passed.Tie as tie
-
-byte-ahead-requires : tie.Need-byte-ahead-requires
-byte-ahead-requires c κs = search needs
-
-which-requires : tie.Need-which-requires
-which-requires c κs = search needs
-
-enum-told : tie.Need-enum-told
-enum-told c = search needs
-
-sub-less : tie.Need-sub-less
-sub-less c = search needs
-
-mark-length-requires : tie.Need-mark-length-requires
-mark-length-requires c κs = search needs
 
 returns : tie.Need-returns
 returns c =
@@ -46,24 +27,15 @@ add-place c =
     let a = c .before .before .before .before .before .before .before .args in
     omega (arith, returns c .within, length-append (a .front .now) (a .rest .now))
 
-enum-told-2 : tie.Need-enum-told-2
-enum-told-2 c = search needs
-
 add-more : tie.Need-add-more
 add-more c =
     let a = c .before .before .before .before .before .before .args in
     omega (arith, length-append (a .front .now) (a .rest .now))
 
-mark-length-requires-2 : tie.Need-mark-length-requires-2
-mark-length-requires-2 c κs = search needs
-
 add-place-2 : tie.Need-add-place-2
 add-place-2 c =
     let a = c .before .before .before .before .before .before .before .args in
     omega (arith, returns-2 c .within, length-append (a .front .now) (a .rest .now))
-
-enum-told-3 : tie.Need-enum-told-3
-enum-told-3 c = search needs
 
 add-place-3 : tie.Need-add-place-3
 add-place-3 c =
@@ -74,17 +46,17 @@ pub passed-spec : {M : Type 1} → statement M
 passed-spec =
     tie.close
     (tie.spec
-    byte-ahead-requires
-    which-requires
-    enum-told
-    sub-less
-    mark-length-requires
+    (λ c κs. search needs)
+    (λ c κs. search needs)
+    (λ c. search needs)
+    (λ c. search needs)
+    (λ c κs. search needs)
     add-place
-    enum-told-2
+    (λ c. search needs)
     add-more
-    mark-length-requires-2
+    (λ c κs. search needs)
     add-place-2
-    enum-told-3
+    (λ c. search needs)
     add-place-3
     returns
     returns-2

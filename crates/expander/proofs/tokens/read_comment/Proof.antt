@@ -1,23 +1,10 @@
 -- `expander::tokens::read_comment` meets its contract. Assumes nothing.
-use native.Mathlib.Omega.{arith}
-use mathlib.Core.Path.{_≡_, ap, _∙_}
-use mathlib.Core.List.{_++_}
-use lib.ListN.{length}
-use borrow.Author.Needs.{needs}
+use Rattle.rules.proofs.Base.{_∙_, ap, _≡_, _++_, arith, length, needs}
 use Rattle.rules.specs.Marks.{markText}
 use Rattle.expander.specs.Tokens.{commentEndingAt, commentFrom}
 use Rattle.expander.proofs.Comments.{ends-within, ends-beyond}
 use Rattle.expander.proofs.tokens.read_comment.Statement.{statement}
 use Rattle.expander.proofs.tokens.read_comment.Tie as tie
-
-mark-length-requires : tie.Need-mark-length-requires
-mark-length-requires c κs = search needs
-
-comment-end-requires : tie.Need-comment-end-requires
-comment-end-requires c κs = search needs
-
-ahead-length-requires : tie.Need-ahead-length-requires
-ahead-length-requires c κs = search needs
 
 -- the place that was given back says what the comment comes to
 closed : (c : tie.After-ahead-length)
@@ -37,4 +24,4 @@ returns-2 c =
     ends-within (length text) (c .before .before .comment-end .result) (omega (arith, c .before .ahead-length .ensures .whole)) ∙ closed (c .before)
 
 pub read-comment-spec : {M : Type 1} → statement M
-read-comment-spec = tie.close (tie.spec mark-length-requires comment-end-requires ahead-length-requires returns returns-2)
+read-comment-spec = tie.close (tie.spec (λ c κs. search needs) (λ c κs. search needs) (λ c κs. search needs) returns returns-2)

@@ -1,10 +1,5 @@
 -- `expander::tokens::read_quoted` meets its contract: the loop keeps what the quoted text comes to from the place on. Assumes nothing.
-use Prim.Native.Nat.{_-_, _≤_}
-use native.Mathlib.Omega.{arith}
-use mathlib.Core.Path.{_≡_, refl, ap, _∙_}
-use mathlib.Core.List.{_++_}
-use lib.ListN.{length}
-use borrow.Author.Needs.{needs}
+use Rattle.rules.proofs.Base.{_≤_, _-_, _∙_, refl, ap, _≡_, _++_, arith, length, needs}
 use Rattle.rules.specs.Marks.{markText}
 use Rattle.expander.specs.Tokens.{quotedFrom}
 use Rattle.expander.proofs.Quotes.{quoted-closed, quoted-over, quoted-skips}
@@ -30,35 +25,11 @@ kept c =
     quoted-skips (markText (a .begin)) (markText (a .end)) (a .front .now ++ a .rest .now) (l .i) (b .full) (e .full) (l .depth) _ _ _ (l .inv .0) (b .byte) (e .byte) (c .next-either .ensures)
     ∙ l .inv .2
 
-ahead-length-requires : tie.Need-ahead-length-requires Inv-loop μ-loop
-ahead-length-requires c κs = search needs
-
-first-byte-requires : tie.Need-first-byte-requires Inv-loop μ-loop
-first-byte-requires c κs = search needs
-
-first-byte-requires-2 : tie.Need-first-byte-requires-2 Inv-loop μ-loop
-first-byte-requires-2 c κs = search needs
-
-mark-length-requires : tie.Need-mark-length-requires Inv-loop μ-loop
-mark-length-requires c κs = search needs
-
-loop-holds : tie.Need-loop-holds Inv-loop μ-loop
-loop-holds c = (omega arith, omega arith, refl)
-
-next-either-requires : tie.Need-next-either-requires Inv-loop μ-loop
-next-either-requires c κs = search needs
-
 passed-requires : tie.Need-passed-requires Inv-loop μ-loop
 passed-requires c κs =
     let s = c .before .before .before .before .before .before .before .before .before in
     let l = c .before .before .loop in
     record { beginMark = s .pre .0; endMark = s .pre .1; within = c .next-either .ensures .within; some = l .inv .0; deep = omega arith }
-
-mark-length-requires-2 : tie.Need-mark-length-requires-2 Inv-loop μ-loop
-mark-length-requires-2 c κs = search needs
-
-sub-text-end : tie.Need-sub-text-end Inv-loop μ-loop
-sub-text-end c = omega (arith, c .before .before .passed .ensures .closed (c .before .if1 .taken))
 
 returns : tie.Need-returns Inv-loop μ-loop
 returns c =
@@ -70,12 +41,6 @@ returns c =
     ∙ o .ensures .same
     ∙ kept (c .before .before .before)
     ∙ ap (quotedFrom (markText (a .begin)) (markText (a .end)) text 1) b
-
-loop-less : tie.Need-loop-less Inv-loop μ-loop
-loop-less c = omega arith
-
-loop-again : tie.Need-loop-again Inv-loop μ-loop
-loop-again c = let o = c .before .passed in (omega arith, o .ensures .deep, o .ensures .same ∙ kept (c .before .before))
 
 returns-2 : tie.Need-returns-2 Inv-loop μ-loop
 returns-2 c =
@@ -92,16 +57,16 @@ read-quoted-spec =
     (tie.spec
     Inv-loop
     μ-loop
-    ahead-length-requires
-    first-byte-requires
-    first-byte-requires-2
-    mark-length-requires
-    loop-holds
-    next-either-requires
+    (λ c κs. search needs)
+    (λ c κs. search needs)
+    (λ c κs. search needs)
+    (λ c κs. search needs)
+    (λ c. (omega arith, omega arith, refl))
+    (λ c κs. search needs)
     passed-requires
-    mark-length-requires-2
-    sub-text-end
+    (λ c κs. search needs)
+    (λ c. omega (arith, c .before .before .passed .ensures .closed (c .before .if1 .taken)))
     returns
-    loop-less
-    loop-again
+    (λ c. omega arith)
+    (λ c. let o = c .before .passed in (omega arith, o .ensures .deep, o .ensures .same ∙ kept (c .before .before)))
     returns-2)

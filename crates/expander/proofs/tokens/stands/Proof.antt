@@ -1,12 +1,7 @@
 -- `expander::tokens::stands` meets its contract. Assumes nothing.
-use native.Mathlib.Omega.{arith}
-use mathlib.Core.Path.{sym, ap, _∙_}
-use mathlib.Core.List.{_++_}
-use lib.Dec.{ltb}
-use lib.ListN.{drop}
-use borrow.Author.Needs.{needs}
+use Rattle.rules.proofs.Base.{_∙_, sym, ap, _++_, arith, ltb, drop, needs}
 use Rattle.rules.specs.Marks.{markText}
-use Rattle.expander.proofs.Marks.{mark-length, mark-byte, no-mark, at-begins, not-at, at-one}
+use Rattle.expander.proofs.MarkPlaces.{mark-length, mark-byte, no-mark, at-begins, not-at, at-one}
 use Rattle.expander.proofs.tokens.stands.Statement.{statement}
 use Rattle.expander.proofs.tokens.stands.Tie as tie
 
@@ -16,17 +11,11 @@ returns c =
     let a = s .args in
     sym (no-mark (markText (a .t1)) (drop (a .i) (a .front .now ++ a .rest .now)) (omega (arith, mark-length (a .t1) (search needs) (s .pre .0) .whole)))
 
-element-copy-out-if2 : tie.Need-element-copy-out-if2
-element-copy-out-if2 c = search needs
-
 returns-2 : tie.Need-returns-2
 returns-2 c =
     let s = c .before .before .before .before .before in
     let a = s .args in
     sym (not-at (markText (a .t1)) (a .front .now ++ a .rest .now) (a .i) (omega (arith, mark-length (a .t1) (search needs) (s .pre .0) .whole)) (λ q. c .if2 .taken (mark-byte (a .t1) 0 (omega arith) ∙ q ∙ sym (s .pre .2))))
-
-ahead-length-requires : tie.Need-ahead-length-requires
-ahead-length-requires c κs = search needs
 
 returns-3 : tie.Need-returns-3
 returns-3 c =
@@ -34,9 +23,6 @@ returns-3 c =
     let a = s .args in
     ap (ltb (a .i)) (c .ahead-length .ensures .whole)
     ∙ sym (at-one (markText (a .t1)) (a .front .now ++ a .rest .now) (a .i) (omega (arith, c .before .if3 .taken, mark-length (a .t1) (search needs) (s .pre .0) .whole)) (sym (mark-byte (a .t1) 0 (omega (arith, c .before .if3 .taken))) ∙ c .before .before .if2 .left ∙ s .pre .2))
-
-mark-at-requires : tie.Need-mark-at-requires
-mark-at-requires c κs = search needs
 
 returns-4 : tie.Need-returns-4
 returns-4 c =
@@ -49,9 +35,9 @@ stands-spec =
     tie.close
     (tie.spec
     returns
-    element-copy-out-if2
+    (λ c. search needs)
     returns-2
-    ahead-length-requires
+    (λ c κs. search needs)
     returns-3
-    mark-at-requires
+    (λ c κs. search needs)
     returns-4)

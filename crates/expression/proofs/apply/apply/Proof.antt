@@ -1,43 +1,12 @@
 -- `apply::apply` meets its contract. Assumes nothing.
-use borrow.Author.Needs.{needs}
+use Rattle.rules.proofs.Base.{eq-eqb, ne-eqb, needs}
 use Rattle.rules.specs.Operators.{applied, appliedTo, strictApplied}
-use borrow.Author.Tests.{eq-eqb, ne-eqb}
 use Rattle.expression.proofs.apply.apply.Statement.{statement}
 use Rattle.expression.proofs.apply.apply.Tie as tie
-
-enum-known-left : tie.Need-enum-known-left
-enum-known-left c = search needs
-
-enum-told : tie.Need-enum-told
-enum-told c = search needs
 
 returns : tie.Need-returns
 unfolding applied appliedTo strictApplied
 returns c = rw (c .enum-told .given .1)
-
-enum-told-2 : tie.Need-enum-told-2
-enum-told-2 c = search needs
-
-truth-of-requires : tie.Need-truth-of-requires
-truth-of-requires c κs = search needs
-
-enum-told-3 : tie.Need-enum-told-3
-enum-told-3 c = search needs
-
-truth-of-requires-2 : tie.Need-truth-of-requires-2
-truth-of-requires-2 c κs = search needs
-
-enum-known-op : tie.Need-enum-known-op
-enum-known-op c = search needs
-
-enum-told-4 : tie.Need-enum-told-4
-enum-told-4 c = search needs
-
-enum-known-right : tie.Need-enum-known-right
-enum-known-right c = search needs
-
-apply-both-requires : tie.Need-apply-both-requires
-apply-both-requires c κs = search needs
 
 returns-2 : tie.Need-returns-2
 unfolding applied appliedTo strictApplied
@@ -67,17 +36,17 @@ pub apply-spec : {M : Type 1} → statement M
 apply-spec =
     tie.close
     (tie.spec
-    enum-known-left
-    enum-told
+    (λ c. search needs)
+    (λ c. search needs)
     returns
-    enum-told-2
-    truth-of-requires
-    enum-told-3
-    truth-of-requires-2
-    enum-known-op
-    enum-told-4
-    enum-known-right
-    apply-both-requires
+    (λ c. search needs)
+    (λ c κs. search needs)
+    (λ c. search needs)
+    (λ c κs. search needs)
+    (λ c. search needs)
+    (λ c. search needs)
+    (λ c. search needs)
+    (λ c κs. search needs)
     returns-2
     returns-3
     returns-4

@@ -1,108 +1,8 @@
 -- `apply::apply_both` meets its contract. Assumes nothing.
-use borrow.Author.Needs.{needs}
+use Rattle.rules.proofs.Base.{eq-eqb, ne-eqb, lt-ltb, le-ltb, needs}
 use Rattle.rules.specs.Operators.{bothApplied}
-use borrow.Author.Tests.{lt-ltb, le-ltb, eq-eqb, ne-eqb}
 use Rattle.expression.proofs.apply.apply_both.Statement.{statement}
 use Rattle.expression.proofs.apply.apply_both.Tie as tie
-
-enum-told : tie.Need-enum-told
-enum-told c = search needs
-
-multiply-requires : tie.Need-multiply-requires
-multiply-requires c κs = search needs
-
-enum-told-2 : tie.Need-enum-told-2
-enum-told-2 c = search needs
-
-divide-requires : tie.Need-divide-requires
-divide-requires c κs = search needs
-
-enum-told-3 : tie.Need-enum-told-3
-enum-told-3 c = search needs
-
-remainder-requires : tie.Need-remainder-requires
-remainder-requires c κs = search needs
-
-enum-told-4 : tie.Need-enum-told-4
-enum-told-4 c = search needs
-
-add-requires : tie.Need-add-requires
-add-requires c κs = search needs
-
-enum-told-5 : tie.Need-enum-told-5
-enum-told-5 c = search needs
-
-subtract-requires : tie.Need-subtract-requires
-subtract-requires c κs = search needs
-
-enum-told-6 : tie.Need-enum-told-6
-enum-told-6 c = search needs
-
-shift-left-requires : tie.Need-shift-left-requires
-shift-left-requires c κs = search needs
-
-enum-told-7 : tie.Need-enum-told-7
-enum-told-7 c = search needs
-
-shift-right-requires : tie.Need-shift-right-requires
-shift-right-requires c κs = search needs
-
-enum-told-8 : tie.Need-enum-told-8
-enum-told-8 c = search needs
-
-less-requires : tie.Need-less-requires
-less-requires c κs = search needs
-
-truth-of-requires : tie.Need-truth-of-requires
-truth-of-requires c κs = search needs
-
-enum-told-9 : tie.Need-enum-told-9
-enum-told-9 c = search needs
-
-less-requires-2 : tie.Need-less-requires-2
-less-requires-2 c κs = search needs
-
-truth-of-requires-2 : tie.Need-truth-of-requires-2
-truth-of-requires-2 c κs = search needs
-
-enum-told-10 : tie.Need-enum-told-10
-enum-told-10 c = search needs
-
-less-requires-3 : tie.Need-less-requires-3
-less-requires-3 c κs = search needs
-
-truth-of-requires-3 : tie.Need-truth-of-requires-3
-truth-of-requires-3 c κs = search needs
-
-enum-told-11 : tie.Need-enum-told-11
-enum-told-11 c = search needs
-
-less-requires-4 : tie.Need-less-requires-4
-less-requires-4 c κs = search needs
-
-truth-of-requires-4 : tie.Need-truth-of-requires-4
-truth-of-requires-4 c κs = search needs
-
-enum-told-12 : tie.Need-enum-told-12
-enum-told-12 c = search needs
-
-truth-of-requires-5 : tie.Need-truth-of-requires-5
-truth-of-requires-5 c κs = search needs
-
-enum-told-13 : tie.Need-enum-told-13
-enum-told-13 c = search needs
-
-truth-of-requires-6 : tie.Need-truth-of-requires-6
-truth-of-requires-6 c κs = search needs
-
-enum-told-14 : tie.Need-enum-told-14
-enum-told-14 c = search needs
-
-enum-told-15 : tie.Need-enum-told-15
-enum-told-15 c = search needs
-
-enum-told-16 : tie.Need-enum-told-16
-enum-told-16 c = search needs
 
 returns : tie.Need-returns
 unfolding bothApplied
@@ -188,39 +88,39 @@ pub apply-both-spec : {M : Type 1} → statement M
 apply-both-spec =
     tie.close
     (tie.spec
-    enum-told
-    multiply-requires
-    enum-told-2
-    divide-requires
-    enum-told-3
-    remainder-requires
-    enum-told-4
-    add-requires
-    enum-told-5
-    subtract-requires
-    enum-told-6
-    shift-left-requires
-    enum-told-7
-    shift-right-requires
-    enum-told-8
-    less-requires
-    truth-of-requires
-    enum-told-9
-    less-requires-2
-    truth-of-requires-2
-    enum-told-10
-    less-requires-3
-    truth-of-requires-3
-    enum-told-11
-    less-requires-4
-    truth-of-requires-4
-    enum-told-12
-    truth-of-requires-5
-    enum-told-13
-    truth-of-requires-6
-    enum-told-14
-    enum-told-15
-    enum-told-16
+    (λ c. search needs)
+    (λ c κs. search needs)
+    (λ c. search needs)
+    (λ c κs. search needs)
+    (λ c. search needs)
+    (λ c κs. search needs)
+    (λ c. search needs)
+    (λ c κs. search needs)
+    (λ c. search needs)
+    (λ c κs. search needs)
+    (λ c. search needs)
+    (λ c κs. search needs)
+    (λ c. search needs)
+    (λ c κs. search needs)
+    (λ c. search needs)
+    (λ c κs. search needs)
+    (λ c κs. search needs)
+    (λ c. search needs)
+    (λ c κs. search needs)
+    (λ c κs. search needs)
+    (λ c. search needs)
+    (λ c κs. search needs)
+    (λ c κs. search needs)
+    (λ c. search needs)
+    (λ c κs. search needs)
+    (λ c κs. search needs)
+    (λ c. search needs)
+    (λ c κs. search needs)
+    (λ c. search needs)
+    (λ c κs. search needs)
+    (λ c. search needs)
+    (λ c. search needs)
+    (λ c. search needs)
     returns
     returns-2
     returns-3

@@ -1,18 +1,8 @@
 -- `literals::number_in` meets its contract. Assumes nothing.
-use mathlib.Core.Path.{sym, _∙_}
+use Rattle.rules.proofs.Base.{_∙_, sym, needs}
 use Rattle.expression.proofs.Digits.{read-some, read-none}
-use borrow.Author.Needs.{needs}
 use Rattle.expression.proofs.literals.number_in.Statement.{statement}
 use Rattle.expression.proofs.literals.number_in.Tie as tie
-
-read-natural-requires : tie.Need-read-natural-requires
-read-natural-requires c κs = search needs
-
-enum-known-number : tie.Need-enum-known-number
-enum-known-number c = search needs
-
-enum-told : tie.Need-enum-told
-enum-told c = search needs
 
 returns : tie.Need-returns
 returns c = read-some _ _ _ (sym (c .before .number .given .1) ∙ c .before .before .before .read-natural .ensures)
@@ -22,4 +12,4 @@ returns-2 c = read-none _ _ (sym (c .enum-told .given .1) ∙ c .before .before 
 
 pub number-in-spec : {M : Type 1} → statement M
 number-in-spec =
-    tie.close (tie.spec read-natural-requires enum-known-number enum-told returns returns-2)
+    tie.close (tie.spec (λ c κs. search needs) (λ c. search needs) (λ c. search needs) returns returns-2)

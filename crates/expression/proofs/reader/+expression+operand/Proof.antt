@@ -1,6 +1,5 @@
 -- The readers `reader::operand` and `reader::expression`, which call each other, meet their contracts: the bytes that remain fall. Assumes nothing.
-use borrow.Author.Needs.{needs}
-use Prim.Native.Nat.{ℕ, _+_, _-_, _*_, _≤_, _<_}
+use Rattle.rules.proofs.Base.{_≤_, _+_, ℕ, _-_, _<_, _*_, subst, arith, length, needs}
 use borrow.Fn.Kinds.{In}
 use borrow.Fn.PlainCycle.{Measures, is, falls, and}
 use Rattle.expression.proofs.reader.expression.Reads as expression
@@ -15,9 +14,6 @@ use Rattle.expression.proofs.reader.closed.Reads as closed-reads
 use Rattle.expression.proofs.reader.signed.Reads as signed-reads
 use Rattle.expression.proofs.tokens.leading.Reads as leading-reads
 use Rattle.expression.proofs.tokens.operator_at.Reads as operator-at-reads
-use native.Mathlib.Omega.{arith}
-use mathlib.Core.Path.{subst}
-use lib.ListN.{length}
 use Rattle.rules.specs.declared.Leading.the-variants.{Parenthesis, Sign}
 use Rattle.rules.specs.Operators.{unaryApplied}
 use Rattle.expression.specs.Places.{LeadingWithin}

@@ -1,19 +1,10 @@
 -- `reader::closed` meets its contract. Assumes nothing.
-use borrow.Author.Needs.{needs}
-use Prim.Native.Nat.{_-_}
-use native.Mathlib.Omega.{arith}
-use lib.ListN.{length}
+use Rattle.rules.proofs.Base.{_-_, arith, length, needs}
 use Rattle.rules.specs.Expression.{closedBy}
 use Rattle.expression.proofs.Parts.{within, inside}
 use Rattle.expression.proofs.Chains.{is-closed, is-open}
 use Rattle.expression.proofs.reader.closed.Statement.{statement}
 use Rattle.expression.proofs.reader.closed.Tie as tie
-
-enum-known-r : tie.Need-enum-known-r
-enum-known-r c = search needs
-
-enum-told : tie.Need-enum-told
-enum-told c = search needs
 
 returns : tie.Need-returns
 unfolding closedBy
@@ -30,12 +21,6 @@ past-blanks-requires c κs =
     let a = c .before .before .before .before .args in
     let h = within (length (a .s .now) - a .n) (c .before .before .before .before .pre .1) (c .before .r .given .1) in
     omega arith
-
-byte-at-requires : tie.Need-byte-at-requires
-byte-at-requires c κs = search needs
-
-add-end : tie.Need-add-end
-add-end c = search needs
 
 returns-2 : tie.Need-returns-2
 returns-2 c =
@@ -57,12 +42,12 @@ pub closed-spec : {M : Type 1} → statement M
 closed-spec =
     tie.close
     (tie.spec
-    enum-known-r
-    enum-told
+    (λ c. search needs)
+    (λ c. search needs)
     returns
     add-past-blanks
     past-blanks-requires
-    byte-at-requires
-    add-end
+    (λ c κs. search needs)
+    (λ c. search needs)
     returns-2
     returns-3)

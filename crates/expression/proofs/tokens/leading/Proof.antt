@@ -4,21 +4,6 @@ use Rattle.expression.proofs.Scan.{leading-is}
 use Rattle.expression.proofs.tokens.leading.Statement.{statement}
 use Rattle.expression.proofs.tokens.leading.Tie as tie
 
-past-blanks-requires : tie.Need-past-blanks-requires
-past-blanks-requires c κs = search needs
-
-byte-at-requires : tie.Need-byte-at-requires
-byte-at-requires c κs = search needs
-
-add-next : tie.Need-add-next
-add-next c = search needs
-
-byte-at-requires-2 : tie.Need-byte-at-requires-2
-byte-at-requires-2 c κs = search needs
-
-leading-of-requires : tie.Need-leading-of-requires
-leading-of-requires c κs = search needs
-
 returns : tie.Need-returns
 returns c =
     let p = c .before .before .before .past-blanks in
@@ -30,9 +15,9 @@ pub leading-spec : {M : Type 1} → statement M
 leading-spec =
     tie.close
     (tie.spec
-    past-blanks-requires
-    byte-at-requires
-    add-next
-    byte-at-requires-2
-    leading-of-requires
+    (λ c κs. search needs)
+    (λ c κs. search needs)
+    (λ c. search needs)
+    (λ c κs. search needs)
+    (λ c κs. search needs)
     returns)

@@ -1,13 +1,8 @@
 -- `tokens::leading_of` meets its contract. Assumes nothing.
-use borrow.Author.Needs.{needs}
-use mathlib.Core.Path.{sym, _∙_}
-use borrow.Author.Tests.{ne-eqb}
+use Rattle.rules.proofs.Base.{_∙_, sym, ne-eqb, needs}
 use Rattle.rules.specs.Expression.{leadingOf}
 use Rattle.expression.proofs.tokens.leading_of.Statement.{statement}
 use Rattle.expression.proofs.tokens.leading_of.Tie as tie
-
-is-digit-requires : tie.Need-is-digit-requires
-is-digit-requires c κs = search needs
 
 returns : tie.Need-returns
 unfolding leadingOf
@@ -49,7 +44,7 @@ pub leading-of-spec : {M : Type 1} → statement M
 leading-of-spec =
     tie.close
     (tie.spec
-    is-digit-requires
+    (λ c κs. search needs)
     returns
     returns-2
     returns-3

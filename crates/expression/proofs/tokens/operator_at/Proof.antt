@@ -1,24 +1,8 @@
 -- `tokens::operator_at` meets its contract. Assumes nothing.
-use borrow.Author.Needs.{needs}
-use native.Mathlib.Omega.{arith}
+use Rattle.rules.proofs.Base.{arith, needs}
 use Rattle.expression.proofs.Scan.{operator-short, operator-is}
 use Rattle.expression.proofs.tokens.operator_at.Statement.{statement}
 use Rattle.expression.proofs.tokens.operator_at.Tie as tie
-
-past-blanks-requires : tie.Need-past-blanks-requires
-past-blanks-requires c κs = search needs
-
-byte-at-requires : tie.Need-byte-at-requires
-byte-at-requires c κs = search needs
-
-add-next : tie.Need-add-next
-add-next c = search needs
-
-byte-at-requires-2 : tie.Need-byte-at-requires-2
-byte-at-requires-2 c κs = search needs
-
-operator-of-requires : tie.Need-operator-of-requires
-operator-of-requires c κs = search needs
 
 add-end : tie.Need-add-end
 add-end c = omega (arith, operator-short (c .before .before .before .byte-at .result) (c .before .before .byte-at2 .result) (c .before .operator-of .ensures))
@@ -35,10 +19,10 @@ pub operator-at-spec : {M : Type 1} → statement M
 operator-at-spec =
     tie.close
     (tie.spec
-    past-blanks-requires
-    byte-at-requires
-    add-next
-    byte-at-requires-2
-    operator-of-requires
+    (λ c κs. search needs)
+    (λ c κs. search needs)
+    (λ c. search needs)
+    (λ c κs. search needs)
+    (λ c κs. search needs)
     add-end
     returns)

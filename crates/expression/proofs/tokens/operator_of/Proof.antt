@@ -1,109 +1,8 @@
 -- `tokens::operator_of` meets its contract: in an arm of the match the byte is known, so the tests of the definition compute. Assumes nothing.
-use borrow.Author.Needs.{needs}
-use mathlib.Core.Path.{_∙_}
-use borrow.Author.Tests.{ne-eqb}
+use Rattle.rules.proofs.Base.{_∙_, ne-eqb, needs}
 use Rattle.rules.specs.Operators.{operatorOf}
 use Rattle.expression.proofs.tokens.operator_of.Statement.{statement}
 use Rattle.expression.proofs.tokens.operator_of.Tie as tie
-
-single-requires : tie.Need-single-requires
-single-requires c κs = search needs
-
-single-requires-2 : tie.Need-single-requires-2
-single-requires-2 c κs = search needs
-
-single-requires-3 : tie.Need-single-requires-3
-single-requires-3 c κs = search needs
-
-no-operator-requires : tie.Need-no-operator-requires
-no-operator-requires c κs = search needs
-
-single-requires-4 : tie.Need-single-requires-4
-single-requires-4 c κs = search needs
-
-choose-requires : tie.Need-choose-requires
-choose-requires c κs = search needs
-
-no-operator-requires-2 : tie.Need-no-operator-requires-2
-no-operator-requires-2 c κs = search needs
-
-single-requires-5 : tie.Need-single-requires-5
-single-requires-5 c κs = search needs
-
-choose-requires-2 : tie.Need-choose-requires-2
-choose-requires-2 c κs = search needs
-
-double-requires : tie.Need-double-requires
-double-requires c κs = search needs
-
-double-requires-2 : tie.Need-double-requires-2
-double-requires-2 c κs = search needs
-
-single-requires-6 : tie.Need-single-requires-6
-single-requires-6 c κs = search needs
-
-choose-requires-3 : tie.Need-choose-requires-3
-choose-requires-3 c κs = search needs
-
-choose-requires-4 : tie.Need-choose-requires-4
-choose-requires-4 c κs = search needs
-
-double-requires-3 : tie.Need-double-requires-3
-double-requires-3 c κs = search needs
-
-double-requires-4 : tie.Need-double-requires-4
-double-requires-4 c κs = search needs
-
-single-requires-7 : tie.Need-single-requires-7
-single-requires-7 c κs = search needs
-
-choose-requires-5 : tie.Need-choose-requires-5
-choose-requires-5 c κs = search needs
-
-choose-requires-6 : tie.Need-choose-requires-6
-choose-requires-6 c κs = search needs
-
-double-requires-5 : tie.Need-double-requires-5
-double-requires-5 c κs = search needs
-
-no-operator-requires-3 : tie.Need-no-operator-requires-3
-no-operator-requires-3 c κs = search needs
-
-choose-requires-7 : tie.Need-choose-requires-7
-choose-requires-7 c κs = search needs
-
-double-requires-6 : tie.Need-double-requires-6
-double-requires-6 c κs = search needs
-
-no-operator-requires-4 : tie.Need-no-operator-requires-4
-no-operator-requires-4 c κs = search needs
-
-choose-requires-8 : tie.Need-choose-requires-8
-choose-requires-8 c κs = search needs
-
-logical-requires : tie.Need-logical-requires
-logical-requires c κs = search needs
-
-single-requires-8 : tie.Need-single-requires-8
-single-requires-8 c κs = search needs
-
-choose-requires-9 : tie.Need-choose-requires-9
-choose-requires-9 c κs = search needs
-
-single-requires-9 : tie.Need-single-requires-9
-single-requires-9 c κs = search needs
-
-logical-requires-2 : tie.Need-logical-requires-2
-logical-requires-2 c κs = search needs
-
-single-requires-10 : tie.Need-single-requires-10
-single-requires-10 c κs = search needs
-
-choose-requires-10 : tie.Need-choose-requires-10
-choose-requires-10 c κs = search needs
-
-no-operator-requires-5 : tie.Need-no-operator-requires-5
-no-operator-requires-5 c κs = search needs
 
 returns : tie.Need-returns
 unfolding operatorOf
@@ -161,39 +60,39 @@ pub operator-of-spec : {M : Type 1} → statement M
 operator-of-spec =
     tie.close
     (tie.spec
-    single-requires
-    single-requires-2
-    single-requires-3
-    no-operator-requires
-    single-requires-4
-    choose-requires
-    no-operator-requires-2
-    single-requires-5
-    choose-requires-2
-    double-requires
-    double-requires-2
-    single-requires-6
-    choose-requires-3
-    choose-requires-4
-    double-requires-3
-    double-requires-4
-    single-requires-7
-    choose-requires-5
-    choose-requires-6
-    double-requires-5
-    no-operator-requires-3
-    choose-requires-7
-    double-requires-6
-    no-operator-requires-4
-    choose-requires-8
-    logical-requires
-    single-requires-8
-    choose-requires-9
-    single-requires-9
-    logical-requires-2
-    single-requires-10
-    choose-requires-10
-    no-operator-requires-5
+    (λ c κs. search needs)
+    (λ c κs. search needs)
+    (λ c κs. search needs)
+    (λ c κs. search needs)
+    (λ c κs. search needs)
+    (λ c κs. search needs)
+    (λ c κs. search needs)
+    (λ c κs. search needs)
+    (λ c κs. search needs)
+    (λ c κs. search needs)
+    (λ c κs. search needs)
+    (λ c κs. search needs)
+    (λ c κs. search needs)
+    (λ c κs. search needs)
+    (λ c κs. search needs)
+    (λ c κs. search needs)
+    (λ c κs. search needs)
+    (λ c κs. search needs)
+    (λ c κs. search needs)
+    (λ c κs. search needs)
+    (λ c κs. search needs)
+    (λ c κs. search needs)
+    (λ c κs. search needs)
+    (λ c κs. search needs)
+    (λ c κs. search needs)
+    (λ c κs. search needs)
+    (λ c κs. search needs)
+    (λ c κs. search needs)
+    (λ c κs. search needs)
+    (λ c κs. search needs)
+    (λ c κs. search needs)
+    (λ c κs. search needs)
+    (λ c κs. search needs)
     returns
     returns-2
     returns-3

@@ -1,8 +1,5 @@
 -- `tokens::past_blanks` meets its contract: at each blank passed, the place behind the blanks stays what it is. Assumes nothing.
-use borrow.Author.Needs.{needs}
-use Prim.Native.Nat.{_-_, _≤_}
-use mathlib.Core.Path.{_≡_, refl, sym, _∙_}
-use lib.ListN.{length}
+use Rattle.rules.proofs.Base.{_≤_, _-_, _∙_, refl, sym, _≡_, length, needs}
 use Rattle.rules.specs.Expression.{pastBlanks}
 use Rattle.expression.proofs.Scan.{blank-on, blank-off, blank-end}
 use Rattle.expression.proofs.tokens.past_blanks.Statement.{statement}
@@ -13,21 +10,6 @@ Inv-loop s at i₀ i = (at ≤ i) × (i ≤ length s) × (pastBlanks s i ≡ pas
 
 abbrev μ-loop : tie.MeasureT-loop
 μ-loop s at i₀ i = length s - i
-
-loop-holds : tie.Need-loop-holds Inv-loop μ-loop
-loop-holds c = (search needs, search needs, refl)
-
-shared-slice-read-is-blank : tie.Need-shared-slice-read-is-blank Inv-loop μ-loop
-shared-slice-read-is-blank c = search needs
-
-is-blank-requires : tie.Need-is-blank-requires Inv-loop μ-loop
-is-blank-requires c κs = search needs
-
-add-i : tie.Need-add-i Inv-loop μ-loop
-add-i c = search needs
-
-loop-less : tie.Need-loop-less Inv-loop μ-loop
-loop-less c = search needs
 
 loop-again : tie.Need-loop-again Inv-loop μ-loop
 loop-again c =
@@ -48,11 +30,11 @@ past-blanks-spec =
     (tie.spec
     Inv-loop
     μ-loop
-    loop-holds
-    shared-slice-read-is-blank
-    is-blank-requires
-    add-i
-    loop-less
+    (λ c. (search needs, search needs, refl))
+    (λ c. search needs)
+    (λ c κs. search needs)
+    (λ c. search needs)
+    (λ c. search needs)
     loop-again
     returns
     returns-2)

@@ -1,25 +1,8 @@
 -- `words::divide` meets its contract. Assumes nothing.
-use borrow.Author.Needs.{needs}
+use Rattle.rules.proofs.Base.{_∙_, arith, needs}
 use Rattle.expression.proofs.Signed.{magnitude-above, quotient-pos-pos, quotient-pos-neg, quotient-neg-pos, quotient-neg-neg}
-use mathlib.Core.Path.{_∙_}
-use native.Mathlib.Omega.{arith}
 use Rattle.expression.proofs.words.divide.Statement.{statement}
 use Rattle.expression.proofs.words.divide.Tie as tie
-
-magnitude-requires : tie.Need-magnitude-requires
-magnitude-requires c κs = search needs
-
-magnitude-requires-2 : tie.Need-magnitude-requires-2
-magnitude-requires-2 c κs = search needs
-
-div-q : tie.Need-div-q
-div-q c = omega (arith, magnitude-above (c .before .before .args .y) (search needs) (search needs))
-
-negate-requires : tie.Need-negate-requires
-negate-requires c κs = search needs
-
-negate-requires-2 : tie.Need-negate-requires-2
-negate-requires-2 c κs = search needs
 
 returns : tie.Need-returns
 returns c =
@@ -45,11 +28,11 @@ pub divide-spec : {M : Type 1} → statement M
 divide-spec =
     tie.close
     (tie.spec
-    magnitude-requires
-    magnitude-requires-2
-    div-q
-    negate-requires
-    negate-requires-2
+    (λ c κs. search needs)
+    (λ c κs. search needs)
+    (λ c. omega (arith, magnitude-above (c .before .before .args .y) (search needs) (search needs)))
+    (λ c κs. search needs)
+    (λ c κs. search needs)
     returns
     returns-2
     returns-3

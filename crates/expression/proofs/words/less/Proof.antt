@@ -4,14 +4,8 @@ use Rattle.expression.proofs.Signed.{less-is}
 use Rattle.expression.proofs.words.less.Statement.{statement}
 use Rattle.expression.proofs.words.less.Tie as tie
 
-wrapping-add-u32-requires : tie.Need-wrapping-add-u32-requires
-wrapping-add-u32-requires c κs = search needs
-
-wrapping-add-u32-requires-2 : tie.Need-wrapping-add-u32-requires-2
-wrapping-add-u32-requires-2 c κs = search needs
-
 returns : tie.Need-returns
 returns c = rw (c .before .wrapping-add-u32 .ensures, c .wrapping-add-u322 .ensures) (less-is (c .before .before .args .x) (c .before .before .args .y) (search needs) (search needs))
 
 pub less-spec : {M : Type 1} → statement M
-less-spec = tie.close (tie.spec wrapping-add-u32-requires wrapping-add-u32-requires-2 returns)
+less-spec = tie.close (tie.spec (λ c κs. search needs) (λ c κs. search needs) returns)

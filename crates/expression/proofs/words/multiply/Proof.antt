@@ -4,14 +4,8 @@ use Rattle.expression.proofs.Signed.{product-fits, product-is}
 use Rattle.expression.proofs.words.multiply.Statement.{statement}
 use Rattle.expression.proofs.words.multiply.Tie as tie
 
-mul-result : tie.Need-mul-result
-mul-result c = record { fits = product-fits (c .args .x) (c .args .y) (search needs) (search needs) }
-
-cast-result : tie.Need-cast-result
-cast-result c = search needs
-
 returns : tie.Need-returns
 returns c = product-is (c .args .x) (c .args .y) (search needs) (search needs)
 
 pub multiply-spec : {M : Type 1} → statement M
-multiply-spec = tie.close (tie.spec mul-result cast-result returns)
+multiply-spec = tie.close (tie.spec (λ c. record { fits = product-fits (c .args .x) (c .args .y) (search needs) (search needs) }) (λ c. search needs) returns)

@@ -1,22 +1,8 @@
 -- `words::remainder` meets its contract. Assumes nothing.
-use borrow.Author.Needs.{needs}
+use Rattle.rules.proofs.Base.{_∙_, arith, needs}
 use Rattle.expression.proofs.Signed.{magnitude-above, remainder-pos, remainder-neg}
-use mathlib.Core.Path.{_∙_}
-use native.Mathlib.Omega.{arith}
 use Rattle.expression.proofs.words.remainder.Statement.{statement}
 use Rattle.expression.proofs.words.remainder.Tie as tie
-
-magnitude-requires : tie.Need-magnitude-requires
-magnitude-requires c κs = search needs
-
-magnitude-requires-2 : tie.Need-magnitude-requires-2
-magnitude-requires-2 c κs = search needs
-
-rem-m : tie.Need-rem-m
-rem-m c = omega (arith, magnitude-above (c .before .before .args .y) (search needs) (search needs))
-
-negate-requires : tie.Need-negate-requires
-negate-requires c κs = search needs
 
 returns : tie.Need-returns
 returns c =
@@ -31,4 +17,4 @@ returns-2 c =
 pub remainder-spec : {M : Type 1} → statement M
 remainder-spec =
     tie.close
-    (tie.spec magnitude-requires magnitude-requires-2 rem-m negate-requires returns returns-2)
+    (tie.spec (λ c κs. search needs) (λ c κs. search needs) (λ c. omega (arith, magnitude-above (c .before .before .args .y) (search needs) (search needs))) (λ c κs. search needs) returns returns-2)

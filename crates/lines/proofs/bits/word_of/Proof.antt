@@ -10,30 +10,6 @@ Inv-loop text i₀ word₀ i word = Gathering text i word
 abbrev μ-loop : tie.MeasureT-loop
 μ-loop text i₀ word₀ i word = i
 
-at-most-requires : tie.Need-at-most-requires Inv-loop μ-loop
-at-most-requires c κs = search needs
-
-loop-holds : tie.Need-loop-holds Inv-loop μ-loop
-loop-holds c = gather-start (c .at-most .ensures)
-
-sub-i : tie.Need-sub-i Inv-loop μ-loop
-sub-i c = search needs
-
-shared-slice-read-if1 : tie.Need-shared-slice-read-if1 Inv-loop μ-loop
-shared-slice-read-if1 c = search needs
-
-loop-less : tie.Need-loop-less Inv-loop μ-loop
-loop-less c = search needs
-
-loop-again : tie.Need-loop-again Inv-loop μ-loop
-loop-again c = gather-newline (c .before .before .before .loop .inv) (c .before .before .loop-test .taken) (c .if1 .taken)
-
-loop-less-2 : tie.Need-loop-less-2 Inv-loop μ-loop
-loop-less-2 c = search needs
-
-loop-again-2 : tie.Need-loop-again-2 Inv-loop μ-loop
-loop-again-2 c = gather-other (c .before .before .before .loop .inv) (c .before .before .loop-test .taken) (c .if1 .left)
-
 returns : tie.Need-returns Inv-loop μ-loop
 returns c = gather-done (c .before .loop .inv) (c .loop-test .left)
 
@@ -43,12 +19,12 @@ word-of-spec =
     (tie.spec
     Inv-loop
     μ-loop
-    at-most-requires
-    loop-holds
-    sub-i
-    shared-slice-read-if1
-    loop-less
-    loop-again
-    loop-less-2
-    loop-again-2
+    (λ c κs. search needs)
+    (λ c. gather-start (c .at-most .ensures))
+    (λ c. search needs)
+    (λ c. search needs)
+    (λ c. search needs)
+    (λ c. gather-newline (c .before .before .before .loop .inv) (c .before .before .loop-test .taken) (c .if1 .taken))
+    (λ c. search needs)
+    (λ c. gather-other (c .before .before .before .loop .inv) (c .before .before .loop-test .taken) (c .if1 .left))
     returns)

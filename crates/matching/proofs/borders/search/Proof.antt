@@ -1,12 +1,8 @@
 -- `matching::borders::search` meets its contract: the loop keeps that the first k bytes of the needle end at i, and that it stands nowhere before.
 -- The measure: a turn moves i on, while k grows by one at most, or makes k less; so there are at most two turns for each byte. Assumes nothing.
-use Prim.Native.Nat.{_+_, _-_, _*_}
-use native.Mathlib.Omega.{arith}
-use mathlib.Core.Path.{sym, ap}
-use lib.ListN.{length}
+use Rattle.rules.proofs.Base.{_+_, _-_, _*_, sym, ap, arith, length, needs}
 use Rattle.matching.specs.Places.{placeOf}
 use Rattle.matching.proofs.Tracking.{Searching, search-start, search-reach, search-lost, search-border, search-on, search-found, search-past, search-back}
-use borrow.Author.Needs.{needs}
 use Rattle.matching.proofs.borders.search.Statement.{statement}
 use Rattle.matching.proofs.borders.search.Tie as tie
 
@@ -16,58 +12,19 @@ Inv-loop needle table text k₀ i₀ k i = Searching needle text k i
 abbrev μ-loop : tie.MeasureT-loop
 μ-loop needle table text k₀ i₀ k i = 2 * (length text - i) + k
 
-loop-holds : tie.Need-loop-holds Inv-loop μ-loop
-loop-holds c = search-start (c .args .needle .now) (c .args .text .now) (c .pre .0)
-
-shared-slice-read-if1 : tie.Need-shared-slice-read-if1 Inv-loop μ-loop
-shared-slice-read-if1 c = search needs
-
-shared-slice-read-if1-2 : tie.Need-shared-slice-read-if1-2 Inv-loop μ-loop
-shared-slice-read-if1-2 c = search needs
-
-add-k : tie.Need-add-k Inv-loop μ-loop
-add-k c = search needs
-
-add-i : tie.Need-add-i Inv-loop μ-loop
-add-i c = search needs
-
-sub-at : tie.Need-sub-at Inv-loop μ-loop
-sub-at c = omega (arith, search-reach (c .before .before .before .before .before .loop .inv))
-
 returns : tie.Need-returns Inv-loop μ-loop
 unfolding placeOf
 returns c =
     let w = c .before .before .before .before .before .loop .inv in
     sym (ap placeOf (search-found w (c .before .before .before .before .loop-test .taken) (c .before .if1 .taken) (c .if2 .taken)))
 
-loop-less : tie.Need-loop-less Inv-loop μ-loop
-loop-less c = search needs
-
 loop-again : tie.Need-loop-again Inv-loop μ-loop
 loop-again c =
     search-on (c .before .before .before .before .before .loop .inv) (c .before .before .before .before .loop-test .taken) (c .before .if1 .taken) (c .if2 .left)
 
-add-i-2 : tie.Need-add-i-2 Inv-loop μ-loop
-add-i-2 c = search needs
-
-loop-less-2 : tie.Need-loop-less-2 Inv-loop μ-loop
-loop-less-2 c = search needs
-
 loop-again-2 : tie.Need-loop-again-2 Inv-loop μ-loop
 loop-again-2 c =
     search-past (c .before .before .before .before .before .loop .inv) (c .before .before .before .before .loop-test .taken) (c .before .if1 .left) (c .if3 .taken)
-
-sub-k : tie.Need-sub-k Inv-loop μ-loop
-sub-k c = search needs
-
-mul-k : tie.Need-mul-k Inv-loop μ-loop
-mul-k c = search needs
-
-shared-slice-read-k : tie.Need-shared-slice-read-k Inv-loop μ-loop
-shared-slice-read-k c = search needs
-
-cast-k : tie.Need-cast-k Inv-loop μ-loop
-cast-k c = omega (arith, c .shared-slice-known3 .given (c .before .before .before .before .before .before .loop .k - 1))
 
 loop-less-3 : tie.Need-loop-less-3 Inv-loop μ-loop
 loop-less-3 c =
@@ -88,22 +45,22 @@ search-spec =
     (tie.spec
     Inv-loop
     μ-loop
-    loop-holds
-    shared-slice-read-if1
-    shared-slice-read-if1-2
-    add-k
-    add-i
-    sub-at
+    (λ c. search-start (c .args .needle .now) (c .args .text .now) (c .pre .0))
+    (λ c. search needs)
+    (λ c. search needs)
+    (λ c. search needs)
+    (λ c. search needs)
+    (λ c. omega (arith, search-reach (c .before .before .before .before .before .loop .inv)))
     returns
-    loop-less
+    (λ c. search needs)
     loop-again
-    add-i-2
-    loop-less-2
+    (λ c. search needs)
+    (λ c. search needs)
     loop-again-2
-    sub-k
-    mul-k
-    shared-slice-read-k
-    cast-k
+    (λ c. search needs)
+    (λ c. search needs)
+    (λ c. search needs)
+    (λ c. omega (arith, c .shared-slice-known3 .given (c .before .before .before .before .before .before .loop .k - 1)))
     loop-less-3
     loop-again-3
     returns-2)

@@ -4,18 +4,9 @@ use borrow.Author.Needs.{needs}
 use Rattle.quenhovach.proofs.index.quenhovach_lines_line_of.Statement.{statement}
 use Rattle.quenhovach.proofs.index.quenhovach_lines_line_of.Tie as tie
 
-line-of-requires : tie.Need-line-of-requires
-line-of-requires c κs = search needs
-
-value-of-requires : tie.Need-value-of-requires
-value-of-requires c κs = search needs
-
-number-of-requires : tie.Need-number-of-requires
-number-of-requires c κs = search needs
-
 returns : tie.Need-returns
 returns c = looked (c .before .before .line-of .ensures) (c .number-of .ensures) (c .before .value-of .ensures)
 
 pub quenhovach-lines-line-of-spec : {M : Type 1} → statement M
 quenhovach-lines-line-of-spec =
-    tie.close (tie.spec line-of-requires value-of-requires number-of-requires returns)
+    tie.close (tie.spec (λ c κs. search needs) (λ c κs. search needs) (λ c κs. search needs) returns)

@@ -4,18 +4,9 @@ use borrow.Author.Needs.{needs}
 use Rattle.quenhovach.proofs.index.quenhovach_lines_start_of.Statement.{statement}
 use Rattle.quenhovach.proofs.index.quenhovach_lines_start_of.Tie as tie
 
-start-of-requires : tie.Need-start-of-requires
-start-of-requires c κs = search needs
-
-value-of-requires : tie.Need-value-of-requires
-value-of-requires c κs = search needs
-
-number-of-requires : tie.Need-number-of-requires
-number-of-requires c κs = search needs
-
 returns : tie.Need-returns
 returns c = looked (c .before .before .start-of .ensures) (c .number-of .ensures) (c .before .value-of .ensures)
 
 pub quenhovach-lines-start-of-spec : {M : Type 1} → statement M
 quenhovach-lines-start-of-spec =
-    tie.close (tie.spec start-of-requires value-of-requires number-of-requires returns)
+    tie.close (tie.spec (λ c κs. search needs) (λ c κs. search needs) (λ c κs. search needs) returns)

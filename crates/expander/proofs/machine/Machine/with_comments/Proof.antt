@@ -1,5 +1,5 @@
 -- `expander::machine::Machine::with_comments` meets its contract. Assumes nothing.
-use mathlib.Core.Path.{refl}
+use Rattle.rules.proofs.Base.{refl}
 use Rattle.rules.specs.Marks.{markTexts, withComments}
 use Rattle.expander.proofs.machine.Machine.with_comments.Statement.{statement}
 use Rattle.expander.proofs.machine.Machine.with_comments.Tie as tie

@@ -1,15 +1,8 @@
 -- `expander::machine::Machine::with_default_quotes` meets its contract: those of the default marks. Assumes nothing.
-use mathlib.Core.Path.{ap, _∙_}
+use Rattle.rules.proofs.Base.{_∙_, ap, needs}
 use Rattle.rules.specs.Marks.{MarkTexts, markTexts, withQuotes}
-use borrow.Author.Needs.{needs}
 use Rattle.expander.proofs.machine.Machine.with_default_quotes.Statement.{statement}
 use Rattle.expander.proofs.machine.Machine.with_default_quotes.Tie as tie
-
-default-marks-requires : tie.Need-default-marks-requires
-default-marks-requires c κs = search needs
-
-with-quotes-requires : tie.Need-with-quotes-requires
-with-quotes-requires c κs = search needs
 
 returns : tie.Need-returns
 unfolding markTexts
@@ -19,4 +12,4 @@ returns c =
     (e .0, e .1 ∙ ap (λ (z : MarkTexts). withQuotes (z .beginQuote) (z .endQuote) (markTexts (c .before .before .args .self .marks))) (d .0), λ g. e .2 g (d .1 .beginQuote) (d .1 .endQuote))
 
 pub with-default-quotes-spec : {M : Type 1} → statement M
-with-default-quotes-spec = tie.close (tie.spec default-marks-requires with-quotes-requires returns)
+with-default-quotes-spec = tie.close (tie.spec (λ c κs. search needs) (λ c κs. search needs) returns)

@@ -1,5 +1,5 @@
 -- `expander::machine::Machine::with_quotes` meets its contract. Assumes nothing.
-use mathlib.Core.Path.{refl}
+use Rattle.rules.proofs.Base.{refl}
 use Rattle.rules.specs.Marks.{markTexts, withQuotes}
 use Rattle.expander.proofs.machine.Machine.with_quotes.Statement.{statement}
 use Rattle.expander.proofs.machine.Machine.with_quotes.Tie as tie

@@ -1,15 +1,10 @@
 -- `expander::packed::Packed::drop_named` meets its contract: the loop keeps where the pass is, for all definitions that the buffer may hold. Assumes nothing.
-use Prim.Native.Nat.{_+_, _-_, _≤_}
-use native.Mathlib.Omega.{arith}
-use mathlib.Core.Path.{_≡_, refl, _∙_}
-use mathlib.Core.List.{List}
-use lib.ListN.{length, getD}
+use Rattle.rules.proofs.Base.{_≤_, _+_, _-_, _∙_, refl, _≡_, List, arith, length, getD, needs}
 use Rattle.rules.specs.Table.{Definition}
 use Rattle.expander.specs.Limits.{tableEndsLength}
 use Rattle.expander.specs.Table.{DefinitionsIn}
 use Rattle.expander.specs.declared.packed.Packed.{Packed}
 use Rattle.expander.proofs.Sifting.{Sifting, sifting-begins, Facing, facing, sifting-on, sifting-ends, without-in}
-use borrow.Author.Needs.{needs}
 use Rattle.expander.proofs.packed.Packed.drop_named.Statement.{statement}
 use Rattle.expander.proofs.packed.Packed.drop_named.Tie as tie
 
@@ -20,9 +15,6 @@ Inv-loop bytes₀ ends₀ name count kept₀ k₀ from₀ bytes ends kept k from
 
 abbrev μ-loop : tie.MeasureT-loop
 μ-loop bytes₀ ends₀ name count kept₀ k₀ from₀ bytes ends kept k from = count - k
-
-loop-holds : tie.Need-loop-holds Inv-loop μ-loop
-loop-holds c = (refl, refl, λ p ds e h. sifting-begins (c .before .before .before .args .name .now) e h)
 
 abbrev entry : tie.In-loop Inv-loop μ-loop → tie.Start Inv-loop μ-loop
 entry c = c .before .before .before .before .before
@@ -43,27 +35,6 @@ faced c =
 room : (c : tie.In-loop Inv-loop μ-loop) → (c .before .loop .k + 2 ≤ length (c .before .loop .ends)) × (length (c .before .loop .ends) ≡ tableEndsLength)
 room c = (omega (arith, faced c .left, now-at c .count-in), c .before .loop .inv .1 ∙ entry c .pre .holds .ends-are)
 
-add-next : tie.Need-add-next Inv-loop μ-loop
-add-next c = omega (arith, room c)
-
-mul-middle : tie.Need-mul-middle Inv-loop μ-loop
-mul-middle c = omega (arith, room c)
-
-slice-read-middle : tie.Need-slice-read-middle Inv-loop μ-loop
-slice-read-middle c = omega (arith, room (c .before))
-
-cast-middle : tie.Need-cast-middle Inv-loop μ-loop
-cast-middle c = omega (arith, c .slice-known3 .given (c .before .before .loop .k))
-
-mul-end : tie.Need-mul-end Inv-loop μ-loop
-mul-end c = omega (arith, room (c .before))
-
-slice-read-end : tie.Need-slice-read-end Inv-loop μ-loop
-slice-read-end c = omega (arith, room (c .before .before))
-
-cast-end : tie.Need-cast-end Inv-loop μ-loop
-cast-end c = omega (arith, c .slice-known4 .given (c .before .before .before .loop .k + 1))
-
 sift-requires : tie.Need-sift-requires Inv-loop μ-loop
 sift-requires c κs =
     let l = c .before .before .before .before in
@@ -72,12 +43,6 @@ sift-requires c κs =
       (now-at l .used-behind, f .from-middle, f .middle-end, f .end-in),
       (omega (arith, now-at l .count-behind), omega (arith, entry l .pre .holds .bytes-most, l .before .loop .inv .0)),
     )
-
-add-k : tie.Need-add-k Inv-loop μ-loop
-add-k c = omega (arith, room (c .before .before .before .before .before .before .before .before .before))
-
-loop-less : tie.Need-loop-less Inv-loop μ-loop
-loop-less c = omega (arith, c .before .before .before .before .before .before .before .before .before .loop-test .taken)
 
 loop-again : tie.Need-loop-again Inv-loop μ-loop
 loop-again c =
@@ -89,12 +54,6 @@ loop-again c =
       λ p ds e h.
           sifting-on (facing (i .inv .2 p ds e h) (getD (i .ends) (i .k) 0) (getD (i .ends) (i .k + 1) 0) (l .loop-test .taken) refl refl) (s .ensures) (s .kept .1 .0) (s .kept .1 .1 .0),
     )
-
-same-length : tie.Need-same-length Inv-loop μ-loop
-same-length c = search needs
-
-same-length-2 : tie.Need-same-length-2 Inv-loop μ-loop
-same-length-2 c = search needs
 
 returns : tie.Need-returns Inv-loop μ-loop
 returns c =
@@ -108,18 +67,18 @@ drop-named-spec =
     (tie.spec
     Inv-loop
     μ-loop
-    loop-holds
-    add-next
-    mul-middle
-    slice-read-middle
-    cast-middle
-    mul-end
-    slice-read-end
-    cast-end
+    (λ c. (refl, refl, λ p ds e h. sifting-begins (c .before .before .before .args .name .now) e h))
+    (λ c. omega (arith, room c))
+    (λ c. omega (arith, room c))
+    (λ c. omega (arith, room (c .before)))
+    (λ c. omega (arith, c .slice-known3 .given (c .before .before .loop .k)))
+    (λ c. omega (arith, room (c .before)))
+    (λ c. omega (arith, room (c .before .before)))
+    (λ c. omega (arith, c .slice-known4 .given (c .before .before .before .loop .k + 1)))
     sift-requires
-    add-k
-    loop-less
+    (λ c. omega (arith, room (c .before .before .before .before .before .before .before .before .before)))
+    (λ c. omega (arith, c .before .before .before .before .before .before .before .before .before .loop-test .taken))
     loop-again
-    same-length
-    same-length-2
+    (λ c. search needs)
+    (λ c. search needs)
     returns)

@@ -1,21 +1,8 @@
 -- `expander::packed::Packed::push_slice` meets its contract: what `grow_last` says of the bytes written behind the strings. Assumes nothing.
-use mathlib.Core.Path.{refl}
+use Rattle.rules.proofs.Base.{refl, needs}
 use Rattle.expander.proofs.FilledLaws.{filled-front}
-use borrow.Author.Needs.{needs}
 use Rattle.expander.proofs.packed.Packed.push_slice.Statement.{statement}
 use Rattle.expander.proofs.packed.Packed.push_slice.Tie as tie
-
-fill-slice-requires : tie.Need-fill-slice-requires
-fill-slice-requires c κs = search needs
-
-grow-last-requires : tie.Need-grow-last-requires
-grow-last-requires c κs = search needs
-
-same-length : tie.Need-same-length
-same-length c = search needs
-
-same-length-2 : tie.Need-same-length-2
-same-length-2 c = search needs
 
 returns : tie.Need-returns
 returns c =
@@ -26,4 +13,4 @@ returns c =
 
 pub push-slice-spec : {M : Type 1} → statement M
 push-slice-spec =
-    tie.close (tie.spec fill-slice-requires grow-last-requires same-length same-length-2 returns)
+    tie.close (tie.spec (λ c κs. search needs) (λ c κs. search needs) (λ c. search needs) (λ c. search needs) returns)

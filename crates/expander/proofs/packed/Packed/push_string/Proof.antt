@@ -1,25 +1,14 @@
 -- `expander::packed::Packed::push_string` meets its contract: an empty string, filled. Assumes nothing.
-use native.Mathlib.Omega.{arith}
-use mathlib.Core.List.{[], _∷_, _++_}
+use Rattle.rules.proofs.Base.{[], _++_, _∷_, arith, needs}
 use Rattle.expander.proofs.Packing.{filled-last}
-use borrow.Author.Needs.{needs}
 use Rattle.expander.proofs.packed.Packed.push_string.Statement.{statement}
 use Rattle.expander.proofs.packed.Packed.push_string.Tie as tie
-
-push-empty-requires : tie.Need-push-empty-requires
-push-empty-requires c κs = search needs
 
 push-slice-requires : tie.Need-push-slice-requires
 push-slice-requires c κs =
     let s = c .before .before .before .before .before .before .before .before .before in
     let e = c .before .before .before .before .push-empty in
     ((omega arith, omega (arith, e .kept .1 .0)), omega arith)
-
-same-length : tie.Need-same-length
-same-length c = search needs
-
-same-length-2 : tie.Need-same-length-2
-same-length-2 c = search needs
 
 returns : tie.Need-returns
 returns c =
@@ -32,4 +21,4 @@ returns c =
 
 pub push-string-spec : {M : Type 1} → statement M
 push-string-spec =
-    tie.close (tie.spec push-empty-requires push-slice-requires same-length same-length-2 returns)
+    tie.close (tie.spec (λ c κs. search needs) push-slice-requires (λ c. search needs) (λ c. search needs) returns)

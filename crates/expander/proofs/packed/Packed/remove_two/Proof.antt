@@ -1,19 +1,8 @@
 -- `expander::packed::Packed::remove_two` meets its contract: the law `removed-two`, with what `start` returned for a and e. Assumes nothing.
-use Prim.Native.Nat.{_+_}
-use native.Mathlib.Omega.{arith}
+use Rattle.rules.proofs.Base.{_+_, arith, needs}
 use Rattle.expander.proofs.Splicing.{Spans, spans, rebasable, removed-two}
-use borrow.Author.Needs.{needs}
 use Rattle.expander.proofs.packed.Packed.remove_two.Statement.{statement}
 use Rattle.expander.proofs.packed.Packed.remove_two.Tie as tie
-
-start-requires : tie.Need-start-requires
-start-requires c κs = search needs
-
-add-start : tie.Need-add-start
-add-start c = search needs
-
-start-requires-2 : tie.Need-start-requires-2
-start-requires-2 c κs = search needs
 
 abbrev entry : tie.After-start2 → tie.Start
 entry c = c .before .before .before .before .before .before
@@ -25,20 +14,8 @@ at c =
     spans (s .pre .0 .packs) (s .args .k) (s .args .k + 2) (c .before .before .start .result) (c .start2 .result) (omega arith) (omega (arith, s .pre))
     (c .before .before .start .ensures) (c .start2 .ensures)
 
-sub-n : tie.Need-sub-n
-sub-n c = at c .ordered
-
-sub-fewer : tie.Need-sub-fewer
-sub-fewer c = search needs
-
-sub-less : tie.Need-sub-less
-sub-less c = omega (arith, at c .inside)
-
 move-bytes-requires : tie.Need-move-bytes-requires
 move-bytes-requires c κs = (at (c .before) .inside, at (c .before) .all, omega (arith, at (c .before) .ordered, at (c .before) .inside, at (c .before) .all))
-
-add-rebase : tie.Need-add-rebase
-add-rebase c = search needs
 
 rebase-requires : tie.Need-rebase-requires
 rebase-requires c κs =
@@ -52,12 +29,6 @@ rebase-requires c κs =
           (s2 .start2 .ensures) (omega (arith, s .pre, at s2 .all)) j (omega arith) jc,
     )
 
-same-length : tie.Need-same-length
-same-length c = search needs
-
-same-length-2 : tie.Need-same-length-2
-same-length-2 c = search needs
-
 returns : tie.Need-returns
 returns c =
     let s2 = c .before .before .before .before .before .before .before .before in
@@ -70,15 +41,15 @@ pub remove-two-spec : {M : Type 1} → statement M
 remove-two-spec =
     tie.close
     (tie.spec
-    start-requires
-    add-start
-    start-requires-2
-    sub-n
-    sub-fewer
-    sub-less
+    (λ c κs. search needs)
+    (λ c. search needs)
+    (λ c κs. search needs)
+    (λ c. at c .ordered)
+    (λ c. search needs)
+    (λ c. omega (arith, at c .inside))
     move-bytes-requires
-    add-rebase
+    (λ c. search needs)
     rebase-requires
-    same-length
-    same-length-2
+    (λ c. search needs)
+    (λ c. search needs)
     returns)

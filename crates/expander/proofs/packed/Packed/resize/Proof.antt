@@ -1,22 +1,9 @@
 -- `expander::packed::Packed::resize` meets its contract: the laws `resized-same` and `resized-moved`, with what `start` returned for a and e. Assumes nothing.
-use Prim.Native.Nat.{_+_, _≤_}
-use native.Mathlib.Omega.{arith}
-use mathlib.Core.List.{[]}
-use lib.ListN.{length, getD}
+use Rattle.rules.proofs.Base.{_≤_, _+_, [], arith, length, getD, needs}
 use Rattle.expander.proofs.Packing.{Lies, lies}
 use Rattle.expander.proofs.Splicing.{rebasable, resized-same, resized-moved}
-use borrow.Author.Needs.{needs}
 use Rattle.expander.proofs.packed.Packed.resize.Statement.{statement}
 use Rattle.expander.proofs.packed.Packed.resize.Tie as tie
-
-start-requires : tie.Need-start-requires
-start-requires c κs = search needs
-
-add-start : tie.Need-add-start
-add-start c = search needs
-
-start-requires-2 : tie.Need-start-requires-2
-start-requires-2 c κs = search needs
 
 abbrev entry : tie.After-start2 → tie.Start
 entry c = c .before .before .before .before .before .before
@@ -33,12 +20,6 @@ room c =
     let s = entry c in
     s .pre .1 .1 (s .pre .0 .strings) (s .pre .0 .packs)
 
-sub-old : tie.Need-sub-old
-sub-old c = at c .ordered
-
-same-length : tie.Need-same-length
-same-length c = search needs
-
 returns : tie.Need-returns
 returns c =
     let s2 = c .before in
@@ -46,15 +27,6 @@ returns c =
     λ ss x h ex.
     resized-same h (s .args .k) (s2 .before .before .start .result) (s2 .start2 .result) (s .args .n) x (omega (arith, s .pre)) (s2 .before .before .start .ensures)
     (s2 .start2 .ensures) (c .if1 .taken) ex
-
-add-to : tie.Need-add-to
-add-to c = omega (arith, room (c .before), at (c .before), entry (c .before) .pre)
-
-sub-sized : tie.Need-sub-sized
-sub-sized c = omega (arith, at (c .before))
-
-add-sized : tie.Need-add-sized
-add-sized c = omega (arith, room (c .before), at (c .before), entry (c .before) .pre)
 
 move-bytes-requires : tie.Need-move-bytes-requires
 move-bytes-requires c κs =
@@ -73,12 +45,6 @@ rebase-requires c κs =
           (s2 .start2 .ensures) (omega (arith, s .pre, room s2, at s2)) j (omega arith) jc,
     )
 
-same-length-2 : tie.Need-same-length-2
-same-length-2 c = search needs
-
-same-length-3 : tie.Need-same-length-3
-same-length-3 c = search needs
-
 returns-2 : tie.Need-returns-2
 returns-2 c =
     let s2 = c .before .before .before .before .before .before .before .before .before in
@@ -91,17 +57,17 @@ pub resize-spec : {M : Type 1} → statement M
 resize-spec =
     tie.close
     (tie.spec
-    start-requires
-    add-start
-    start-requires-2
-    sub-old
-    same-length
+    (λ c κs. search needs)
+    (λ c. search needs)
+    (λ c κs. search needs)
+    (λ c. at c .ordered)
+    (λ c. search needs)
     returns
-    add-to
-    sub-sized
-    add-sized
+    (λ c. omega (arith, room (c .before), at (c .before), entry (c .before) .pre))
+    (λ c. omega (arith, at (c .before)))
+    (λ c. omega (arith, room (c .before), at (c .before), entry (c .before) .pre))
     move-bytes-requires
     rebase-requires
-    same-length-2
-    same-length-3
+    (λ c. search needs)
+    (λ c. search needs)
     returns-2)

@@ -1,9 +1,5 @@
 -- `expander::sinks::Sinks::move_streams` meets its contract: the loop keeps what the turns before made, for all streams and arguments that the buffers may hold. Assumes nothing.
-use Prim.Native.Nat.{_-_, _≤_, _<_}
-use native.Mathlib.Omega.{arith}
-use mathlib.Core.Path.{_≡_, refl, sym, subst, _∙_}
-use mathlib.Core.List.{List}
-use lib.ListN.{length}
+use Rattle.rules.proofs.Base.{_≤_, _-_, _<_, _∙_, refl, sym, _≡_, subst, List, arith, length}
 use Rattle.rules.specs.Bytes.{Bytes}
 use Rattle.rules.specs.Streams.{Streams}
 use Rattle.expander.specs.Arguments.{ArgumentsIn}
@@ -11,7 +7,7 @@ use Rattle.expander.specs.Streams.{IsStream}
 use Rattle.expander.specs.Sinks.{SinksIn}
 use Rattle.expander.specs.Diverting.{turns}
 use Rattle.expander.proofs.DivertingLaws.{Turning, turning-begins, turning-fits, turning-on, turning-ends}
-use Rattle.expander.proofs.Turns.{turn-each, few-turns}
+use Rattle.expander.proofs.UndivertOrder.{turn-each, few-turns}
 use Rattle.expander.proofs.sinks.Sinks.move_streams.Statement.{statement}
 use Rattle.expander.proofs.sinks.Sinks.move_streams.Tie as tie
 
@@ -22,9 +18,6 @@ Inv-loop calls ends streams₀ owners₀ output₀ scratch₀ seen₀ x n k₀ j
 
 abbrev μ-loop : tie.MeasureT-loop
 μ-loop calls ends streams₀ owners₀ output₀ scratch₀ seen₀ x n k₀ j₀ streams owners output scratch seen k j = n - j
-
-turn-count-requires : tie.Need-turn-count-requires Inv-loop μ-loop
-turn-count-requires c κs = c .before .before .before .before .before .before .pre .0 .given .holds .base-in
 
 loop-holds : tie.Need-loop-holds Inv-loop μ-loop
 loop-holds c =
@@ -90,18 +83,6 @@ loop-again c =
           turning-on t o (s .result) (s .ensures args h o) (r .ensures (t .held) (t .are) (t .marked)),
     )
 
-same-length : tie.Need-same-length Inv-loop μ-loop
-same-length c = c .before .loop .inv .0
-
-same-length-2 : tie.Need-same-length-2 Inv-loop μ-loop
-same-length-2 c = c .before .loop .inv .1
-
-same-length-3 : tie.Need-same-length-3 Inv-loop μ-loop
-same-length-3 c = c .before .loop .inv .2
-
-same-length-4 : tie.Need-same-length-4 Inv-loop μ-loop
-same-length-4 c = c .before .loop .inv .3
-
 returns : tie.Need-returns Inv-loop μ-loop
 returns c =
     let e = c .before .before .before .before .before .before .before .before .before in
@@ -115,15 +96,15 @@ move-streams-spec =
     (tie.spec
     Inv-loop
     μ-loop
-    turn-count-requires
+    (λ c κs. c .before .before .before .before .before .before .pre .0 .given .holds .base-in)
     loop-holds
     turn-stream-requires
     move-new-requires
     add-j
     loop-less
     loop-again
-    same-length
-    same-length-2
-    same-length-3
-    same-length-4
+    (λ c. c .before .loop .inv .0)
+    (λ c. c .before .loop .inv .1)
+    (λ c. c .before .loop .inv .2)
+    (λ c. c .before .loop .inv .3)
     returns)

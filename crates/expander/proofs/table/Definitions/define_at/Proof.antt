@@ -1,17 +1,11 @@
 -- `expander::table::Definitions::define_at` meets its contract: the laws `replaced-in` and `defined-own`. Assumes nothing.
-use Prim.Native.Nat.{_+_, _*_, _≤_}
-use native.Mathlib.Omega.{arith}
-use mathlib.Core.Path.{ap, _∙_}
+use Rattle.rules.proofs.Base.{_≤_, _+_, _*_, _∙_, ap, arith, needs}
 use Rattle.rules.specs.Table.{Table}
 use Rattle.expander.specs.Table.{rows, placeOf}
 use Rattle.expander.proofs.Packing.{formed, string-length}
 use Rattle.expander.proofs.Changing.{found-strings, size-replaced, size-pushed, few-strings, replaced-in, defined-own}
-use borrow.Author.Needs.{needs}
 use Rattle.expander.proofs.table.Definitions.define_at.Statement.{statement}
 use Rattle.expander.proofs.table.Definitions.define_at.Tie as tie
-
-enum-known-place : tie.Need-enum-known-place
-enum-known-place c = search needs
 
 abbrev entry : tie.After-known-told → tie.Start
 entry c = c .before .before .before .before .before .before .before
@@ -22,12 +16,6 @@ within-for c =
     let d = entry c .pre .0 in
     let i = c .before .place .given in
     found-strings (d .holds) (entry c .args .name .now) (i .0 .0) (entry c .pre .1 .0 (d .definitions) (d .holds)) (i .1)
-
-mul-k : tie.Need-mul-k
-mul-k c = omega (arith, within-for c, few-strings (entry c .pre .0 .holds))
-
-add-k : tie.Need-add-k
-add-k c = omega (arith, within-for c, few-strings (entry c .pre .0 .holds))
 
 replace-requires : tie.Need-replace-requires
 replace-requires c κs =
@@ -49,12 +37,6 @@ replace-requires c κs =
       ),
     )
 
-enum-told : tie.Need-enum-told
-enum-told c = search needs
-
-own-lost-requires : tie.Need-own-lost-requires
-own-lost-requires c κs = search needs
-
 push-requires : tie.Need-push-requires
 push-requires c κs =
     let s = c .before .before .before .before .before .before .before .before .before .before in
@@ -71,12 +53,6 @@ push-requires c κs =
       ),
     )
 
-same-length : tie.Need-same-length
-same-length c = search needs
-
-same-length-2 : tie.Need-same-length-2
-same-length-2 c = search needs
-
 returns : tie.Need-returns
 returns c =
     let k = c .before .before .before .before .before .before .before in
@@ -86,12 +62,6 @@ returns c =
     λ t h.
     replaced-in h (s .args .name .now) (r .kept .1 .0) (r .kept .1 .1 .0) (i .0 .0) (s .args .body .now) (s .pre .1 .1 .0) (s .pre .1 .0 (t .definitions) (h .holds) ∙ ap placeOf (i .1))
     (r .ensures (rows (t .definitions)) (h .holds .packs))
-
-same-length-3 : tie.Need-same-length-3
-same-length-3 c = search needs
-
-same-length-4 : tie.Need-same-length-4
-same-length-4 c = search needs
 
 returns-2 : tie.Need-returns-2
 returns-2 c =
@@ -106,16 +76,16 @@ pub define-at-spec : {M : Type 1} → statement M
 define-at-spec =
     tie.close
     (tie.spec
-    enum-known-place
-    mul-k
-    add-k
+    (λ c. search needs)
+    (λ c. omega (arith, within-for c, few-strings (entry c .pre .0 .holds)))
+    (λ c. omega (arith, within-for c, few-strings (entry c .pre .0 .holds)))
     replace-requires
-    enum-told
-    own-lost-requires
+    (λ c. search needs)
+    (λ c κs. search needs)
     push-requires
-    same-length
-    same-length-2
+    (λ c. search needs)
+    (λ c. search needs)
     returns
-    same-length-3
-    same-length-4
+    (λ c. search needs)
+    (λ c. search needs)
     returns-2)

@@ -1,12 +1,7 @@
 -- `expander::table::Definitions::push` meets its contract: the law `pushed-in`, of two strings pushed. Assumes nothing.
-use Prim.Native.Nat.{_+_, _≤_}
-use native.Mathlib.Omega.{arith}
-use mathlib.Core.Path.{_∙_}
-use mathlib.Core.List.{[], _∷_, _++_}
-use lib.ListN.{length}
+use Rattle.rules.proofs.Base.{_≤_, _+_, _∙_, [], _++_, _∷_, arith, length, needs}
 use Rattle.expander.specs.Table.{rows}
 use Rattle.expander.proofs.Changing.{room-for-two, pushed-in}
-use borrow.Author.Needs.{needs}
 use Rattle.expander.proofs.table.Definitions.push.Statement.{statement}
 use Rattle.expander.proofs.table.Definitions.push.Tie as tie
 
@@ -26,12 +21,6 @@ push-string-requires-2 c κs =
       (omega (arith, s .pre, f .ensures .1, f .kept .1 .0), omega (arith, s .pre .0 .holds .bytes-most, f .kept .1 .0)),
     )
 
-same-length : tie.Need-same-length
-same-length c = search needs
-
-same-length-2 : tie.Need-same-length-2
-same-length-2 c = search needs
-
 returns : tie.Need-returns
 returns c =
     let s = c .before .before .before .before .before .before .before .before .before .before .before .before .before .before .before .before .before .before in
@@ -45,4 +34,4 @@ returns c =
 pub push-spec : {M : Type 1} → statement M
 push-spec =
     tie.close
-    (tie.spec push-string-requires push-string-requires-2 same-length same-length-2 returns)
+    (tie.spec push-string-requires push-string-requires-2 (λ c. search needs) (λ c. search needs) returns)
