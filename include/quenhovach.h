@@ -4,8 +4,8 @@
  * built by `rt staticlib quenhovach` as target/staticlib/libquenhovach.a, for x86-64 Linux, once their proofs are checked; ./install puts that in place,
  * and a shared object made of it. Of C's library they need memcpy and memset.
  *
- * A run ends on every text, every lent length and every budget, in one of fourteen answers. Two of them finish it: "done" and
- * "exit". The twelve others are refusals, and a refusal gives no text at all: there is no shortened output.
+ * A run ends on every text, every set of texts to include, every lent length and every budget, in one of sixteen answers. Two of them
+ * finish it: "done" and "exit". The fourteen others are refusals, and a refusal gives no text at all: there is no shortened output.
  */
 #ifndef QUENHOVACH_H
 #define QUENHOVACH_H
@@ -18,10 +18,13 @@ extern "C" {
 #endif
 
 /* The version of this header; rust/Cargo.toml has the same. */
-#define QUENHOVACH_VERSION "0.1.0"
+#define QUENHOVACH_VERSION "0.2.0"
 
 /* The greatest length, in bytes, of the text and of each buffer. */
 #define QUENHOVACH_MAX_LENGTH 65536
+
+/* The greatest length, in bytes, of the set. */
+#define QUENHOVACH_MAX_SET_LENGTH 1048576
 
 /* The answers, by their numbers. The detail is 0 where none is named. */
 enum {
@@ -38,7 +41,9 @@ enum {
     QUENHOVACH_MARK = 10,      /* a bad quote or comment mark */
     QUENHOVACH_NO_TEXT = 11,   /* defn of a predefined macro whose own meaning is in force */
     QUENHOVACH_GONE = 12,      /* a call closes, and its name has no definition any more */
-    QUENHOVACH_DEEP = 13       /* a 65th open call, or a 257th argument over all open calls */
+    QUENHOVACH_DEEP = 13,      /* a 65th open call, or a 257th argument over all open calls */
+    QUENHOVACH_BAD_SET = 14,   /* the set is bad, or longer than QUENHOVACH_MAX_SET_LENGTH; judged whole, right after "lend" */
+    QUENHOVACH_NO_ITEM = 15    /* include of a name that no item of the set has */
 };
 
 /* The buffers, by their numbers: the detail of "room". */
@@ -64,13 +69,25 @@ enum {
     QUENHOVACH_REPORT_NUMBER = 0, /* the answer, which is also returned */
     QUENHOVACH_REPORT_DETAIL = 1,
     QUENHOVACH_REPORT_STEPS = 2,  /* completed steps: a refused step is not counted, the one that ends in done or exit is */
-    QUENHOVACH_REPORT_PLACE = 3,  /* bytes of the text taken: on a refusal before the refused step, else in all; with "lend" 0 */
+    QUENHOVACH_REPORT_PLACE = 3,  /* bytes of the text taken: on a refusal before the refused step, else in all; with "lend" and "bad set" 0 */
     QUENHOVACH_REPORT_OUTPUT = 4, /* bytes written to output; on a refusal 0 */
     QUENHOVACH_REPORT_ERRORS = 5, /* bytes written to errors; on a refusal 0 */
     QUENHOVACH_REPORT_LENGTH = 6
 };
 
 /* Expands the text and returns the number of the answer.
+ *
+ * The set has the texts that the text may include, each an item with a name and a text. include(name) puts the text of the first item with
+ * that name in front of the text ahead, where it counts as pending text; sinclude does the same, and gives nothing where no item has the
+ * name. A set is bytes, up to QUENHOVACH_MAX_SET_LENGTH: one byte of kind, then a body whose length the kind fixes.
+ *
+ *   0         no body       ends the set; nothing stands behind it
+ *   1 to 128  as many bytes carries the next bytes of the item begun last
+ *   129       8 bytes       begins an item: the lengths of its name and of its text, 32 bits each, least byte first
+ *
+ * An item's name and text, joined, follow it in chunks of the kinds 1 to 128, each full at 128 except the last; an item without a byte has
+ * no chunk. A name is any bytes, none too. Who includes nothing lends the set of one byte 0; no bytes at all are a bad set. The set is judged
+ * whole before the first step, whether it is used or not. examples/c/set.c makes one.
  *
  * The length of each buffer is its limit. What counts against it, after each step (lengths and links are kept elsewhere and not counted):
  *
@@ -90,25 +107,28 @@ enum {
  *   answer             report    pending to wrap   errors, output
  *   done, exit         all six   all zero          the text from the front, as many bytes as the report counts; behind it the old bytes
  *   lend               all six   untouched         untouched
- *   any other refusal  all six   all zero          untouched
+ *   any other refusal  all six   all zero          untouched ("bad set" too, although no step was made)
  *
  * "All zero" means over the whole lent length. What the seven buffers and the report held before makes no difference to the answer or to
- * what is written. The text is only read.
+ * what is written. The text and the set are only read.
  *
- * Room never shapes text: where a run ends in anything but "room" or "spent", a second run of the same text in buffers that are nowhere
- * shorter, and none longer than QUENHOVACH_MAX_LENGTH, and with no smaller budget gives the same six numbers and the same written bytes.
+ * Room never shapes text: where a run ends in anything but "room" or "spent", a second run of the same text with one set, in buffers that
+ * are nowhere shorter, and none longer than QUENHOVACH_MAX_LENGTH, and with no smaller budget gives the same six numbers and the same
+ * written bytes.
  *
  * What the caller owes:
  *
  *   - Each pointer leads to as many bytes as the length behind it says. With length 0 it may be null. `report` leads to six numbers and
  *     is not null.
- *   - The text, the seven buffers and the report do not overlap each other, and nothing else writes to them during the call.
+ *   - The seven buffers and the report do not overlap each other, nor the text or the set, and nothing else writes to any of these during
+ *     the call. Text and set may overlap.
  *   - The calling thread has 1 MiB of stack left. (Less was needed in every test; tests/costs/stack.py holds the expander to it.)
  *
  * The function keeps no state between calls and uses no heap. It may run in several threads at once, each with its own buffers.
  */
 uint32_t quenhovach_expand(
     const uint8_t *text, size_t text_len,
+    const uint8_t *set, size_t set_len,
     uint8_t *pending, size_t pending_len,
     uint8_t *calls, size_t calls_len,
     uint8_t *definitions, size_t definitions_len,

@@ -1,4 +1,5 @@
-/* expand_file FILE: expands an m4 template to a settings sheet on standard output.
+/* expand_file FILE [INCLUDED]...: expands an m4 template to a settings sheet on standard output. It may include the files named behind it,
+ * by their names without folders.
  *
  * A refused template gives no sheet: a message on standard error says what was refused and where, with line and column, and the exit
  * status is 1. So it is with a file that cannot be read, and with a sheet that cannot be written whole. Where the template ends itself
@@ -6,14 +7,20 @@
  */
 #include <stdio.h>
 #include <stdlib.h>
+#include <string.h>
 
 #include "quenhovach.h"
+#include "set.h"
 
 #define BUDGET 16777216
 #define WORDS QUENHOVACH_LINES_WORDS(QUENHOVACH_MAX_LENGTH)
 
 /* One byte more than a text may have: a longer file is then refused by the expander, and never cut. */
 static uint8_t text[QUENHOVACH_MAX_LENGTH + 1];
+
+/* The set of the files that may be included, and one of them while it is read: a longer one does not fit a set. */
+static uint8_t set_bytes[QUENHOVACH_MAX_SET_LENGTH];
+static uint8_t included[QUENHOVACH_MAX_SET_LENGTH];
 
 static uint8_t pending[QUENHOVACH_MAX_LENGTH];
 static uint8_t calls[QUENHOVACH_MAX_LENGTH];
@@ -40,6 +47,8 @@ static const char *const REFUSALS[] = {
     [QUENHOVACH_NO_TEXT] = "defn of a predefined macro",
     [QUENHOVACH_GONE] = "a call closes, and its name is not defined any more",
     [QUENHOVACH_DEEP] = "more than 64 open calls or 256 arguments",
+    [QUENHOVACH_BAD_SET] = "a bad set",
+    [QUENHOVACH_NO_ITEM] = "include of a file that is not named on the command line",
 };
 
 static const char *const BUFFERS[] = {
@@ -64,18 +73,45 @@ static int complain(const char *name, const char *message)
     return EXIT_FAILURE;
 }
 
-/* Reads the file to its end, or until the text is one byte too long. Gives 0 where a read fails. */
-static int read_text(const char *name, size_t *length)
+/* Reads the file to its end, or until the room is full. Gives 0 where a read fails. */
+static int read_file(const char *name, uint8_t *bytes, size_t room, size_t *length)
 {
     FILE *file = fopen(name, "rb");
     int good;
 
     if (file == NULL)
         return 0;
-    *length = fread(text, 1, sizeof text, file);
+    *length = fread(bytes, 1, room, file);
     good = !ferror(file);
     fclose(file);
     return good;
+}
+
+/* A file's name behind the last slash. */
+static const char *base_name(const char *path)
+{
+    const char *slash = strrchr(path, '/');
+
+    return slash == NULL ? path : slash + 1;
+}
+
+/* Makes a set of these files. Gives the name of the first that can't be read or does not fit, or null. */
+static const char *make_set(struct set *set, char **names, const char **message)
+{
+    const char *name;
+    size_t length;
+
+    set_begin(set, set_bytes, sizeof set_bytes);
+    for (; *names != NULL; names++) {
+        *message = "the file could not be read";
+        if (!read_file(*names, included, sizeof included, &length))
+            return *names;
+        *message = "the files to include have too many bytes";
+        name = base_name(*names);
+        if (!set_add(set, name, strlen(name), included, length))
+            return *names;
+    }
+    return NULL;
 }
 
 /* Tells line and column of a place, both counted from 1, the column in bytes. A template that is too long has neither. */
@@ -120,17 +156,23 @@ static int tell_refusal(const char *name, size_t length, const uint32_t report[Q
 int main(int argc, char **argv)
 {
     uint32_t report[QUENHOVACH_REPORT_LENGTH];
+    struct set set;
+    const char *failed, *message;
     size_t length;
     uint32_t number;
 
-    if (argc != 2) {
-        fprintf(stderr, "usage: expand_file FILE\n");
+    if (argc < 2) {
+        fprintf(stderr, "usage: expand_file FILE [INCLUDED]...\n");
         return EXIT_FAILURE;
     }
-    if (!read_text(argv[1], &length))
+    if (!read_file(argv[1], text, sizeof text, &length))
         return complain(argv[1], "the file could not be read");
-    number = quenhovach_expand(text, length, pending, sizeof pending, calls, sizeof calls, definitions, sizeof definitions, streams,
-                               sizeof streams, wrap, sizeof wrap, errors, sizeof errors, output, sizeof output, BUDGET, report);
+    failed = make_set(&set, argv + 2, &message);
+    if (failed != NULL)
+        return complain(failed, message);
+    number = quenhovach_expand(text, length, set.bytes, set.length, pending, sizeof pending, calls, sizeof calls, definitions,
+                               sizeof definitions, streams, sizeof streams, wrap, sizeof wrap, errors, sizeof errors, output, sizeof output,
+                               BUDGET, report);
     if (number != QUENHOVACH_DONE && number != QUENHOVACH_EXIT)
         return tell_refusal(argv[1], length, report);
     fwrite(errors, 1, report[QUENHOVACH_REPORT_ERRORS], stderr);

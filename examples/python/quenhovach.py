@@ -3,6 +3,7 @@
     sheet = expand(template)                      # bytes in, bytes out
     expander = Expander(pending=4096, budget=10000)
     sheet = expand(template, expander)            # the same in chosen buffers, as often as you like
+    expander = Expander(included={"guys.m4": b"define(`guys', `3')"})  # what a template may include
 
 `expand` returns a text only where the run is done. A refusal raises `Refused`, and m4exit raises `Exited`, whatever its number: what a template wrote
 before it ended itself can't be taken for its sheet by a caller who did not think of that.
@@ -18,15 +19,19 @@ import sys
 import threading
 from dataclasses import dataclass
 from enum import IntEnum
-from typing import Any, Optional, Tuple, Union
+from typing import Any, Iterable, Mapping, Optional, Tuple, Union
 
 MAX_LENGTH = 65536  # of the text and of each buffer, in bytes
+MAX_SET_LENGTH = 1048576
+NO_ITEMS = b"\0"  # the set where nothing may be included
+CHUNK = 128  # bytes of a set that stand together at most
 LINES_WORDS = MAX_LENGTH // 64 + 1  # and as many totals: the index of the longest text's lines
 BUDGET = 16777216  # steps, where the caller names no other number
 STACK = 1024 * 1024 + 16 * 1024  # 1 MiB for the expander, the rest for the way there
 LIBRARY = "libquenhovach.so.0"  # as the loader finds it; a path has a slash
 
 Text = Union[bytes, bytearray, memoryview]
+Name = Union[str, bytes]  # a str is taken as UTF-8
 
 
 class Answer(IntEnum):
@@ -46,6 +51,8 @@ class Answer(IntEnum):
     NO_TEXT = 11  # defn of a predefined macro whose own meaning is in force
     GONE = 12  # a call closes, and its name has no definition any more
     DEEP = 13  # a 65th open call, or a 257th argument over all open calls
+    BAD_SET = 14  # the set is bad, or longer than MAX_SET_LENGTH
+    NO_ITEM = 15  # include of a name that no item of the set has
 
 
 class Buffer(IntEnum):
@@ -102,7 +109,8 @@ class NotDone(Exception):
 class Refused(NotDone):
     """A refusal. There is no text, and the output and error buffers are as they were.
 
-    `line` and `column` are those of the report's place, counted from 1, the column in bytes. Both are None with LEND: nothing of the text was read.
+    `line` and `column` are those of the report's place, counted from 1, the column in bytes. Both are None with LEND and BAD_SET: nothing of the text was
+    read. Where included text was being read, the place is behind the call that included it.
     """
 
     def __init__(self, report: Report, line: Optional[int] = None, column: Optional[int] = None) -> None:
@@ -130,21 +138,45 @@ class Exited(NotDone):
         return "m4exit(%d) after %d bytes of output%s: %s" % (self.code, self.report.output, told, self.report)
 
 
+def make_set(items: Iterable[Tuple[Name, Text]]) -> bytes:
+    """A set of these items, names and texts, in the form that include/quenhovach.h has. The first of two items with one name counts.
+
+    Raises ValueError where the set would have more than MAX_SET_LENGTH bytes.
+    """
+    made = bytearray()
+    for name, text in items:
+        lengths, joined = (len(_bytes(name)), len(_bytes(text))), _bytes(name) + _bytes(text)
+        chunks = [joined[start:start + CHUNK] for start in range(0, len(joined), CHUNK)]
+        if len(made) + 9 + len(joined) + len(chunks) + 1 > MAX_SET_LENGTH:
+            raise ValueError("with the item %.100r the set would have more than %d bytes" % (name, MAX_SET_LENGTH))
+        made += b"\x81" + b"".join(length.to_bytes(4, "little") for length in lengths)
+        made += b"".join(bytes([len(chunk)]) + chunk for chunk in chunks)
+    return bytes(made) + b"\0"
+
+
+def _bytes(part: Union[str, Text]) -> bytes:
+    return part.encode() if isinstance(part, str) else memoryview(part).tobytes()
+
+
 class Expander:
-    """Seven buffers of chosen lengths and a budget, for one run after the other. What the buffers held before never matters to a run.
+    """Seven buffers of chosen lengths, a budget and what may be included, for one run after the other. What the buffers held before never matters to a run.
+
+    `included` has the texts that a template may include, by their names; or it is a set's bytes, which are lent as they are.
 
     Threads that share an expander wait for each other. With one each they run at the same time: a call does not hold Python's global lock.
     """
 
     def __init__(
         self, *, pending: int = MAX_LENGTH, calls: int = MAX_LENGTH, definitions: int = MAX_LENGTH, streams: int = MAX_LENGTH, wrap: int = MAX_LENGTH,
-        errors: int = MAX_LENGTH, output: int = MAX_LENGTH, budget: int = BUDGET, library: str = LIBRARY,
+        errors: int = MAX_LENGTH, output: int = MAX_LENGTH, budget: int = BUDGET, included: Union[Mapping[Name, Text], Text] = NO_ITEMS,
+        library: str = LIBRARY,
     ) -> None:
         if not 0 <= budget < 2**32:
             raise ValueError("the budget is a 32-bit number, 0 to 4294967295, and not %d" % budget)
         lengths = (pending, calls, definitions, streams, wrap, errors, output)
         self.buffers: Tuple[ctypes.Array[ctypes.c_char], ...] = tuple(ctypes.create_string_buffer(length) for length in lengths)
         self._budget = budget
+        self._set = make_set(included.items()) if isinstance(included, Mapping) else _bytes(included)
         self._library = _load(library)
         self._lock = threading.Lock()
 
@@ -168,7 +200,7 @@ class Expander:
             raise RuntimeError(told % (STACK, left))
         lent = [part for buffer in self.buffers for part in (buffer, len(buffer))]
         numbers = (ctypes.c_uint32 * 6)()
-        self._library.quenhovach_expand(text, len(text), *lent, self._budget, numbers)
+        self._library.quenhovach_expand(text, len(text), self._set, len(self._set), *lent, self._budget, numbers)
         return Report(Answer(numbers[0]), *numbers[1:])
 
     def _front(self, buffer: Buffer, count: int) -> bytes:
@@ -188,7 +220,7 @@ def expand(text: Text, expander: Optional[Expander] = None) -> bytes:
 
 def _position(library: Any, text: bytes, report: Report) -> Tuple[Optional[int], Optional[int]]:
     """Line and column of a report's place, by the index of the text's lines; none where nothing of the text was read."""
-    if report.number == Answer.LEND:
+    if report.number in (Answer.LEND, Answer.BAD_SET):
         return None, None
     words, totals = (ctypes.c_uint64 * LINES_WORDS)(), (ctypes.c_uint32 * LINES_WORDS)()
     index = (words, LINES_WORDS, totals, LINES_WORDS)
@@ -205,7 +237,7 @@ def _load(library: str) -> Any:
     loaded = ctypes.CDLL(library)
     size, pointer = ctypes.c_size_t, ctypes.c_void_p
     for name, takes in {
-        "expand": [ctypes.c_char_p, size] + [pointer, size] * 7 + [ctypes.c_uint32, pointer],
+        "expand": [ctypes.c_char_p, size] * 2 + [pointer, size] * 7 + [ctypes.c_uint32, pointer],
         "lines_build": [ctypes.c_char_p, size] + [pointer, size] * 2,
         "lines_line_of": [size] + [pointer, size] * 2 + [size, pointer],
         "lines_start_of": [size] + [pointer, size] * 2 + [ctypes.c_uint64, pointer],

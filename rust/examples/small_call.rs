@@ -1,6 +1,6 @@
 //! What a small call takes: the least of many, in microseconds. `cargo run --release --offline --example small_call`
 
-use quenhovach::{expand, expand_to_vec, Buffers, Expander, BUDGET, LONGEST};
+use quenhovach::{expand, expand_to_vec, Buffers, Expander, BUDGET, EMPTY_SET, LONGEST};
 use std::hint::black_box;
 use std::time::{Duration, Instant};
 
@@ -35,7 +35,7 @@ fn lent(room: &mut [[u8; LONGEST]]) -> usize {
         errors,
         output,
     };
-    expand(black_box(TEXT), buffers, BUDGET).output
+    expand(black_box(TEXT), EMPTY_SET, buffers, BUDGET).output
 }
 
 /// Times the call many times, and writes the least.

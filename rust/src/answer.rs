@@ -1,4 +1,4 @@
-//! The 14 ways in which a run ends, with their numbers.
+//! The 16 ways in which a run ends, with their numbers.
 
 use core::fmt;
 
@@ -44,6 +44,10 @@ pub enum Answer {
     Gone,
     /// 13: a 65th open call, or a 257th argument over all open calls.
     Deep,
+    /// 14: the set is bad, or longer than 1,048,576 bytes.
+    BadSet,
+    /// 15: `include` of a name that no item of the set has.
+    NoItem,
 }
 
 /// A lent buffer, by its number.
@@ -77,7 +81,7 @@ pub enum Opened {
 }
 
 impl Answer {
-    /// The answer's number, 0 to 13.
+    /// The answer's number, 0 to 15.
     pub fn number(self) -> u32 {
         match self {
             Answer::Done => 0,
@@ -94,6 +98,8 @@ impl Answer {
             Answer::NoText => 11,
             Answer::Gone => 12,
             Answer::Deep => 13,
+            Answer::BadSet => 14,
+            Answer::NoItem => 15,
         }
     }
 
@@ -131,6 +137,8 @@ impl Answer {
             (11, 0) => Answer::NoText,
             (12, 0) => Answer::Gone,
             (13, 0) => Answer::Deep,
+            (14, 0) => Answer::BadSet,
+            (15, 0) => Answer::NoItem,
             _ => return None,
         })
     }
@@ -152,6 +160,8 @@ impl Answer {
             Answer::NoText => "no text",
             Answer::Gone => "gone",
             Answer::Deep => "deep",
+            Answer::BadSet => "bad set",
+            Answer::NoItem => "no item",
         }
     }
 
@@ -216,6 +226,8 @@ impl fmt::Display for Answer {
             Answer::NoText => f.write_str("defn of a predefined macro"),
             Answer::Gone => f.write_str("a call closes and its name has no definition"),
             Answer::Deep => f.write_str("too many open calls or arguments"),
+            Answer::BadSet => f.write_str("the set is bad, or longer than 1,048,576 bytes"),
+            Answer::NoItem => f.write_str("include of a name that is not in the set"),
         }
     }
 }
@@ -249,7 +261,7 @@ mod tests {
     use super::*;
 
     /// Number and largest detail of each answer, as the table of answers has them.
-    const TABLE: [(u32, core::ops::RangeInclusive<u32>); 14] = [
+    const TABLE: [(u32, core::ops::RangeInclusive<u32>); 16] = [
         (0, 0..=0),
         (1, 0..=255),
         (2, 0..=0),
@@ -264,6 +276,8 @@ mod tests {
         (11, 0..=0),
         (12, 0..=0),
         (13, 0..=0),
+        (14, 0..=0),
+        (15, 0..=0),
     ];
 
     #[test]
@@ -301,7 +315,10 @@ mod tests {
             "no text",
             "gone",
             "deep",
+            "bad set",
+            "no item",
         ];
+        assert_eq!(names.len(), TABLE.len());
         for (number, name) in (0..).zip(names) {
             let detail = *TABLE[number as usize].1.start();
             assert_eq!(

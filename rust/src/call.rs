@@ -13,6 +13,8 @@ extern "C" {
     fn quenhovach_expand(
         text: *const u8,
         text_len: usize,
+        set: *const u8,
+        set_len: usize,
         pending: *mut u8,
         pending_len: usize,
         calls: *mut u8,
@@ -106,10 +108,11 @@ impl Report {
     }
 }
 
-/// Expands a text in lent buffers, with at most `budget` steps.
+/// Expands a text in lent buffers, with at most `budget` steps. What it may include is in the `set`;
+/// [`EMPTY_SET`](crate::EMPTY_SET) has nothing, and [`set`](crate::set) tells its form.
 ///
 /// ```
-/// use quenhovach::{expand, Answer, Buffer, Buffers};
+/// use quenhovach::{expand, Answer, Buffer, Buffers, EMPTY_SET};
 ///
 /// fn run(pending: usize, output: &mut [u8]) -> quenhovach::Report {
 ///     let buffers = Buffers {
@@ -119,7 +122,7 @@ impl Report {
 ///         output,
 ///         ..Buffers::default()
 ///     };
-///     expand(b"define(`n',`5')n", buffers, 100)
+///     expand(b"define(`n',`5')n", EMPTY_SET, buffers, 100)
 /// }
 ///
 /// let mut output = *b"....";
@@ -136,17 +139,37 @@ impl Report {
 /// assert_eq!(output, *b"....");
 /// ```
 ///
+/// An item's text is put in front of the text ahead, and counts as pending text:
+///
+/// ```
+/// use quenhovach::{expand, Answer, Buffers};
+///
+/// // One item: its name has 1 byte, its text 2, and a chunk of 3 bytes holds both.
+/// let set = b"\x81\x01\0\0\0\x02\0\0\0\x03axy\0";
+/// let (mut pending, mut calls, mut output) = ([0; 2], [0; 8], [0; 2]);
+/// let buffers = Buffers {
+///     pending: &mut pending,
+///     calls: &mut calls,
+///     output: &mut output,
+///     ..Buffers::default()
+/// };
+/// let report = expand(b"include(a)", set, buffers, 100);
+/// assert_eq!((report.answer, &output), (Answer::Done, b"xy"));
+/// ```
+///
 /// # Panics
 ///
 /// Only if the archive that was linked is of another version and gives an answer that this crate doesn't know.
-pub fn expand(text: &[u8], buffers: Buffers<'_>, budget: u32) -> Report {
+pub fn expand(text: &[u8], set: &[u8], buffers: Buffers<'_>, budget: u32) -> Report {
     let mut numbers = [0; 6];
-    // SAFETY: each pointer comes with the length of its slice. The text is only read; the buffers and the report are lent
-    // exclusively (`&mut`), so nothing overlaps. The callee keeps no pointer.
+    // SAFETY: each pointer comes with the length of its slice. Text and set are only read; the buffers and the report are
+    // lent exclusively (`&mut`), so nothing overlaps. The callee keeps no pointer.
     unsafe {
         quenhovach_expand(
             text.as_ptr(),
             text.len(),
+            set.as_ptr(),
+            set.len(),
             buffers.pending.as_mut_ptr(),
             buffers.pending.len(),
             buffers.calls.as_mut_ptr(),

@@ -1,7 +1,7 @@
 //! For callers with a heap: buffers that are owned, and used again and again.
 
-use crate::{expand, Buffer, Buffers, Failure, Report, Sheet, BUDGET, LONGEST};
-use alloc::{vec, vec::Vec};
+use crate::{expand, Buffer, Buffers, Failure, Report, Sheet, BUDGET, EMPTY_SET, LONGEST};
+use alloc::{borrow::Cow, vec, vec::Vec};
 use core::fmt;
 
 /// An expander that owns its seven buffers. They are made once; calls after that take nothing from the heap.
@@ -25,6 +25,8 @@ pub struct Expander {
     /// By their numbers.
     lent: [Vec<u8>; 7],
     budget: u32,
+    /// What a text may include.
+    set: Cow<'static, [u8]>,
     /// Bytes of the last run's output and error text.
     written: [usize; 2],
 }
@@ -41,11 +43,12 @@ pub struct Written<'a> {
 }
 
 impl Expander {
-    /// With 65,536 bytes for each buffer, the most that may be lent, and [`BUDGET`] steps.
+    /// With 65,536 bytes for each buffer, the most that may be lent, [`BUDGET`] steps, and nothing to include.
     pub fn new() -> Expander {
         Expander {
             lent: [(); 7].map(|()| vec![0; LONGEST]),
             budget: BUDGET,
+            set: Cow::Borrowed(EMPTY_SET),
             written: [0; 2],
         }
     }
@@ -56,6 +59,27 @@ impl Expander {
             budget: steps,
             ..self
         }
+    }
+
+    /// With this set of texts to include: a [`Set`](crate::Set), or bytes that are one. It is kept, and the calls after that
+    /// don't copy it. Bytes that are no good set are taken too, and each call is then refused ([`Answer::BadSet`](crate::Answer)).
+    ///
+    /// ```
+    /// use quenhovach::{Answer, Expander, Set};
+    ///
+    /// let set = Set::of([("yard/guys.m4", "define(`guys', `3')")])?;
+    /// let mut expander = Expander::new().with_set(set);
+    /// let template = b"include(`yard/guys.m4')sinclude(`pier.m4')guy_count=guys";
+    /// assert_eq!(expander.expand(template).expect("it is done").output, b"guy_count=3");
+    ///
+    /// let refused = expander.run(b"include(`pier.m4')");
+    /// assert_eq!(refused.answer, Answer::NoItem);
+    /// assert_eq!(Expander::new().with_set(b"no set").run(b"").answer, Answer::BadSet);
+    /// # Ok::<(), quenhovach::set::TooLong>(())
+    /// ```
+    pub fn with_set(self, set: impl Into<Cow<'static, [u8]>>) -> Expander {
+        let set = set.into();
+        Expander { set, ..self }
     }
 
     /// With this many bytes for a buffer. Where they are more than 65,536, each call is refused ([`Answer::Lend`](crate::Answer)).
@@ -107,7 +131,7 @@ impl Expander {
             errors,
             output,
         };
-        let report = expand(text, buffers, self.budget);
+        let report = expand(text, &self.set, buffers, self.budget);
         self.written = [report.output, report.errors];
         report
     }
@@ -130,11 +154,12 @@ impl Default for Expander {
 }
 
 impl fmt::Debug for Expander {
-    /// The lengths of the buffers; what they hold would fill pages.
+    /// The lengths of the buffers and the set; what they hold would fill pages.
     fn fmt(&self, f: &mut fmt::Formatter<'_>) -> fmt::Result {
         f.debug_struct("Expander")
             .field("room", &self.lent.each_ref().map(Vec::len))
             .field("budget", &self.budget)
+            .field("set", &self.set.len())
             .finish_non_exhaustive()
     }
 }

@@ -12,16 +12,18 @@
 //!
 //! | | needs | room | |
 //! |---|---|---|---|
-//! | [`expand`] | `core` alone | seven slices | a [`Report`] with one of 14 [`Answer`]s |
+//! | [`expand`] | `core` alone | seven slices | a [`Report`] with one of 16 [`Answer`]s |
 //! | [`Expander`] | feature `alloc` | its own, kept from call to call | text in its buffers, or a [`Failure`] |
 //! | [`expand_to_vec`] | feature `alloc` | as much as may be lent, made anew | a [`Sheet`] of vectors, or a [`Failure`] |
+//! | [`Set`] | feature `alloc` | a vector | the texts that a template may include, for [`Expander::with_set`] and [`expand`] |
+//! | [`set::items`] | `core` alone | none | what a set holds, or the byte at which it is bad |
 //! | [`Refusal::position`] | `core` alone | 25 KB of stack | line and column of a refusal |
 //! | [`LineIndex`], [`lines`] | `core` alone | 12 KB of its own; two slices | the same for any place of a text, and where a line starts |
 //!
-//! A text may have 65,536 bytes, each of the seven buffers too, and a budget of steps is given. A run ends on every input,
-//! without a heap and with nothing undefined. Done and exit give the whole text; every other answer is a refusal, says where
-//! it came, and leaves the output and error buffers as they were. With more room or budget a run that had finished gives the
-//! same bytes and numbers.
+//! A text may have 65,536 bytes, each of the seven buffers too, a set 1,048,576, and a budget of steps is given. A run ends
+//! on every input, without a heap and with nothing undefined. Done and exit give the whole text; every other answer is a
+//! refusal, says where it came, and leaves the output and error buffers as they were. With one set and more room or budget
+//! a run that had finished gives the same bytes and numbers.
 //!
 //! A small call (two lines, 37 bytes) took 13 µs with an [`Expander`], as in slices and from C, and 18 µs with
 //! [`expand_to_vec`], or 215 µs where the heap gets the room from the system anew each time. That is the least of 20,000
@@ -42,6 +44,7 @@ mod expander;
 mod line_index;
 pub mod lines;
 mod refusal;
+pub mod set;
 #[cfg(feature = "alloc")]
 mod sheet;
 
@@ -51,5 +54,8 @@ pub use call::{expand, Buffers, Report, BUDGET, LONGEST};
 pub use expander::{Expander, Written};
 pub use line_index::{LineIndex, Position};
 pub use refusal::Refusal;
+#[cfg(feature = "alloc")]
+pub use set::Set;
+pub use set::{EMPTY as EMPTY_SET, LONGEST as LONGEST_SET};
 #[cfg(feature = "alloc")]
 pub use sheet::{expand_to_vec, Failure, Sheet};

@@ -15,9 +15,9 @@ impl Report {
     /// [`exit_code`](Report::exit_code) has its number.
     ///
     /// ```
-    /// use quenhovach::{expand, Buffers};
+    /// use quenhovach::{expand, Buffers, EMPTY_SET};
     ///
-    /// let refusal = expand(b"`on", Buffers::default(), 100).finished().unwrap_err();
+    /// let refusal = expand(b"`on", EMPTY_SET, Buffers::default(), 100).finished().unwrap_err();
     /// assert_eq!(refusal.to_string(), "a quote is not closed (place 0, after 0 steps)");
     /// ```
     ///
@@ -33,22 +33,23 @@ impl Report {
 }
 
 impl Refusal {
-    /// Line and column of the place in the text of the run. None with [`Answer::Lend`], where nothing of the text was read, and
-    /// where the place is beyond its end, so that it isn't the run's.
+    /// Line and column of the place in the text of the run. None with [`Answer::Lend`] and [`Answer::BadSet`], where nothing of
+    /// the text was read, and where the place is beyond its end, so that it isn't the run's. Where the run was reading included
+    /// text, or text that a macro gave, the place is behind the call that gave it.
     ///
     /// ```
-    /// use quenhovach::{expand, Buffers};
+    /// use quenhovach::{expand, Buffers, EMPTY_SET};
     ///
     /// let text = b"\n\n`on";
     /// let buffers = Buffers { output: &mut [0; 2], ..Buffers::default() };
-    /// let refusal = expand(text, buffers, 100).finished().unwrap_err();
+    /// let refusal = expand(text, EMPTY_SET, buffers, 100).finished().unwrap_err();
     /// assert_eq!(refusal.position(text).unwrap().to_string(), "3:1");
     /// assert_eq!(refusal.position(b""), None);
     /// ```
     ///
     /// Each call builds an index of the lines. A [`LineIndex`] is for many places of one text.
     pub fn position(&self, text: &[u8]) -> Option<Position> {
-        if self.report.answer == Answer::Lend {
+        if matches!(self.report.answer, Answer::Lend | Answer::BadSet) {
             return None;
         }
         let index = LineIndex::new(text).ok()?;
@@ -73,11 +74,11 @@ impl Error for Refusal {}
 #[cfg(test)]
 mod tests {
     use super::*;
-    use crate::{expand, Buffers};
+    use crate::{expand, Buffers, EMPTY_SET};
 
     #[test]
     fn it_is_an_error_for_core_alone() {
-        let refusal = expand(b"", Buffers::default(), 0).finished();
+        let refusal = expand(b"", EMPTY_SET, Buffers::default(), 0).finished();
         let error: &dyn Error = &refusal.expect_err("no step may be made");
         assert!(error.source().is_none());
     }
@@ -85,11 +86,14 @@ mod tests {
     #[test]
     fn where_nothing_was_read_there_is_no_position() {
         let text = [b'\n'; crate::LONGEST + 1];
-        let refusal = expand(&text, Buffers::default(), 9).finished();
+        let refusal = expand(&text, EMPTY_SET, Buffers::default(), 9).finished();
         let refusal = refusal.expect_err("it is too long");
         assert_eq!(refusal.position(&text), None);
         assert_eq!(refusal.position(b""), None);
-        let refusal = expand(b"", Buffers::default(), 0).finished();
+        let refusal = expand(b"a", b"", Buffers::default(), 9).finished();
+        let refusal = refusal.expect_err("no bytes are no set");
+        assert_eq!(refusal.position(b"a"), None);
+        let refusal = expand(b"", EMPTY_SET, Buffers::default(), 0).finished();
         let refusal = refusal.expect_err("no step may be made");
         let (line, column) = (1, 1);
         assert_eq!(refusal.position(b""), Some(Position { line, column }));
@@ -98,7 +102,7 @@ mod tests {
 
     #[test]
     fn done_and_exit_are_finished() {
-        let finished = |text: &[u8]| expand(text, Buffers::default(), 9).finished();
+        let finished = |text: &[u8]| expand(text, EMPTY_SET, Buffers::default(), 9).finished();
         assert_eq!(finished(b"").map(|report| report.exit_code()), Ok(None));
         assert_eq!(
             finished(b"m4exit").map(|report| report.exit_code()),

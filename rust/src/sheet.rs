@@ -73,8 +73,9 @@ impl fmt::Display for Failure {
 
 impl Error for Failure {}
 
-/// Expands a text with 65,536 bytes lent for each buffer and [`BUDGET`](crate::BUDGET) steps. An [`Expander`] does the same
-/// again and again in less time.
+/// Expands a text with 65,536 bytes lent for each buffer, [`BUDGET`](crate::BUDGET) steps and nothing to include. An
+/// [`Expander`] does the same again and again in less time, and with a set of texts to include
+/// ([`with_set`](Expander::with_set)).
 ///
 /// ```
 /// use quenhovach::{expand_to_vec, Answer, Failure, Opened};

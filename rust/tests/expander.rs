@@ -3,9 +3,9 @@
 
 mod common;
 
-use common::run;
+use common::{run, run_with};
 use quenhovach::{
-    expand_to_vec, Answer, Buffer, Expander, Failure, Opened, Written, BUDGET, LONGEST,
+    expand_to_vec, Answer, Buffer, Expander, Failure, Opened, Set, Written, BUDGET, LONGEST,
 };
 use std::alloc::{GlobalAlloc, Layout, System};
 use std::cell::Cell;
@@ -73,6 +73,22 @@ fn a_call_takes_nothing_from_the_heap() {
         assert_eq!(taken > 0, copied, "only the text that goes with an error");
         assert_eq!(ended, !copied && text != b"`");
     }
+}
+
+#[test]
+fn a_set_is_kept_and_not_copied() {
+    let set = Set::of([("n", "define(`n',`5')")]).expect("it fits");
+    let mut expander = Expander::new().with_set(set.clone());
+    for text in [&b"include(`n')n"[..], b"sinclude(`m')n", b"include(`n')n"] {
+        let expected = run_with(text, set.as_bytes(), [LONGEST; 7], BUDGET);
+        let (report, taken) = counted(|| expander.run(text));
+        assert_eq!((report, taken), (expected.report, 0));
+        assert_eq!((expander.errors(), expander.output()), expected.written());
+    }
+    let mut without = expander.with_set(quenhovach::EMPTY_SET);
+    assert_eq!(without.run(b"include(`n')n").answer, Answer::NoItem);
+    let made = counted(|| Expander::new().with_set(b"\0")).1;
+    assert_eq!(made, 7, "static bytes are not copied");
 }
 
 #[test]
@@ -170,6 +186,6 @@ fn what_is_shown_of_them_is_short() {
     let shown = format!("{:?}", Expander::new().with_room(Buffer::Wrap, 7));
     assert_eq!(
         shown,
-        "Expander { room: [65536, 65536, 65536, 65536, 7, 65536, 65536], budget: 16777216, .. }"
+        "Expander { room: [65536, 65536, 65536, 65536, 7, 65536, 65536], budget: 16777216, set: 1, .. }"
     );
 }

@@ -2,7 +2,7 @@
 
 mod common;
 
-use common::run;
+use common::{run, run_with};
 use quenhovach::{Answer, Buffer, Opened, BUDGET, LONGEST};
 
 const AMPLE: [usize; 7] = [LONGEST; 7];
@@ -88,6 +88,8 @@ fn every_answer() {
     assert_eq!(answer("defn(`len')"), Answer::NoText);
     assert_eq!(answer("len(undefine(`len'))"), Answer::Gone);
     assert_eq!(answer(&"len(".repeat(65)), Answer::Deep);
+    assert_eq!(run_with(b"x", b"", AMPLE, 9).report.answer, Answer::BadSet);
+    assert_eq!(answer("include(x)"), Answer::NoItem);
 }
 
 #[test]

@@ -3,8 +3,8 @@
 
 FILE is a table like tests/vectors.tsv, of runs, or like tests/lines.tsv, of the index of lines; these two are the default. Their heads say what stands
 in their columns, which are separated by tabs. The definitions are computed by the prover: a crate with one statement for each line is made
-outside the tree and checked. Of the runs two kinds of line are left out, as they are out of reach of a computation over lists: a text of more than
-65,536 bytes, and a result of 2147483647 bytes. Ends with 'N passed, M failed'; exit status 0 only if M is 0.
+outside the tree and checked. Of the runs two kinds of line are left out, as they are out of reach of a computation over lists: a text or a set of more
+than 65,536 bytes, and a result of 2147483647 bytes. Ends with 'N passed, M failed'; exit status 0 only if M is 0.
 """
 import os
 import re
@@ -18,7 +18,7 @@ sys.path.insert(0, os.path.join(os.path.dirname(os.path.abspath(__file__)), ".."
 from places import ROOT  # noqa: E402
 from tally import count, fail, finish  # noqa: E402
 
-LEFT_OUT = (lambda text: len(text) > 65536, lambda text: re.search(rb"eval\(-?1(/[1-9])?,\d+,2147483647\)", text))
+LEFT_OUT = (lambda text, lent: max(len(text), len(lent)) > 65536, lambda text, lent: re.search(rb"eval\(-?1(/[1-9])?,\d+,2147483647\)", text))
 
 HEAD = """-- Made by tests/book/definitions.py.
 use Prim.Native.Nat.{ℕ}
@@ -56,8 +56,8 @@ builds number value text words totals w t =
     answers number value (building text words totals)
     && sameBytes (heldBy (building text words totals) (wordsOf text) words) w && sameBytes (heldBy (building text words totals) (totalsOf text) totals) t
 """
-# how many columns a line has that says what a run, or the index of lines, answers
-RUN, INDEX = 10, 11
+# what the second column of the index of lines has; a run has a text there, in hexadecimal
+INDEX = ("build", "line", "start")
 
 
 def listed(data):
@@ -69,13 +69,13 @@ def unhex(word):
 
 
 def left_out(fields):
-    return len(fields) == RUN and any(left(unhex(fields[1])) for left in LEFT_OUT)
+    return fields[1] not in INDEX and any(left(unhex(fields[1]), unhex(fields[2])) for left in LEFT_OUT)
 
 
 def of_run(fields):
     """That a run gives what the line says, as a test that comes out true."""
-    _, text, lengths, budget, answer, detail, steps, place, output, errors = fields
-    started = "(run (freshStart %s) (setting %s %s))" % (listed(unhex(text)), lengths.replace(",", " "), budget)
+    _, text, lent, lengths, budget, answer, detail, steps, place, output, errors = fields
+    started = "(run (freshStart %s %s) (setting %s %s))" % (listed(unhex(text)), listed(unhex(lent)), lengths.replace(",", " "), budget)
     return "meets %s %s %s %s %s %s %s" % (answer, detail, steps, place, listed(unhex(output)), listed(unhex(errors)), started)
 
 
@@ -99,7 +99,7 @@ def of_index(fields):
 
 
 def statement(number, fields):
-    test = {RUN: of_run, INDEX: of_index}[len(fields)](fields)
+    test = of_index(fields) if fields[1] in INDEX else of_run(fields)
     return "\nline%d : %s ≡ true\nunfolding book onesIn meets setting answers builds\nline%d = refl\n" % (number, test, number)
 
 

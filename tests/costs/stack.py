@@ -1,25 +1,30 @@
 #!/usr/bin/env python3
-"""A whole call of `expand` needs at most 1 MiB of stack.
+"""A whole call of `expand` needs at most 1 MiB of stack, and so does one with a set.
 
 The program lends its own buffers from the stack, 524,289 bytes; it is run with a stack limit of that, 1 MiB and 16 KB for the start of a process, on the worst
 texts of each macro (worst_texts.py) and on those here, and must give what is written there. Nothing of the expander calls itself but the readers of an
 expression, so these have the deepest stack: 32 nestings, with an operator of each level open in every one of them and inside the last.
+Runs with a set are made by set_runs.c, which lends nothing from the stack, with the same limit less the buffers.
 A limit that is 400 KB smaller must end the program by a signal, or the limit would show nothing. Ends with 'N passed, M failed'; exit status 0 only if M is 0.
 """
 import os
 import resource
 import subprocess
 import sys
+import tempfile
 
 sys.dont_write_bytecode = True
 sys.path.insert(0, os.path.join(os.path.dirname(os.path.abspath(__file__)), "..", "shared"))
+import set_runs  # noqa: E402
 from places import program  # noqa: E402
 from tally import finish, judge  # noqa: E402
 from worst_texts import END, WORST, Piece, joined, made, opened, run  # noqa: E402
 
 PROGRAM = program("expand")
 BUFFERS = 65537 + 7 * 65536
-ENOUGH = BUFFERS + 1024 * 1024 + 16 * 1024
+WITH_SET = 1024 * 1024 + 16 * 1024
+ENOUGH = BUFFERS + WITH_SET
+TOO_LITTLE = 400 * 1024  # less than that
 LEVELS = b"0||1&&0|0^1&1==1<1<<0+1*"  # before an operand of 1 it comes to 1, and every side is worked out
 
 
@@ -47,6 +52,20 @@ def open_calls():
     return run(before.text, before.steps + END, output=b"x")
 
 
+def judged():
+    """As many items as a set has room for, and the empty text."""
+    return set_runs.Run(b"", set_runs.written([(b"", b"")] * ((set_runs.LONGEST - 1) // 9)), END, (0, 0, END, 0, 0, 0), b"")
+
+
+def included():
+    """The innermost of 64 open calls includes the last item. Its text goes through the 63 others: a step to read it, then two for each call, as above."""
+    text = b"x" * 60000
+    items = [(b"b", b"")] * ((set_runs.LONGEST - len(set_runs.written([(b"a", text)]))) // 11) + [(b"a", text)]
+    before = joined(made(b"define", b"f", b"$1"), Piece(b"f(" * 63, 63), made(b"include", b"a"), Piece(b")" * 63, 1 + 2 * 63))
+    steps = before.steps + END
+    return set_runs.Run(before.text, set_runs.written(items), steps, (0, 0, steps, len(before.text), len(text), 0), text)
+
+
 RUNS = {
     "the empty text": run(b"", END),
     "eval, 32 deep with all levels open": deepest(),
@@ -54,22 +73,36 @@ RUNS = {
     "64 open calls": open_calls(),
     **{name: make(60000).whole for name, make in WORST.items()},
 }
+RUNS_WITH_SET = {"the longest set judged": judged(), "an include in 64 open calls": included()}
 
 
-def limited(text, limit):
+def limited(words, text, limit):
     def lower():
         resource.setrlimit(resource.RLIMIT_STACK, (limit, limit))
 
-    return subprocess.run([PROGRAM], input=text, capture_output=True, env={}, preexec_fn=lower)
+    return subprocess.run(words, input=text, capture_output=True, env={}, preexec_fn=lower)
+
+
+def hold(name, done, output, errors):
+    """A run in enough stack, and what it has to write."""
+    judge(name, (done.returncode, done.stdout, done.stderr) == (0, output, errors),
+          "exit status %d in 1 MiB of stack, %.40r and %r instead of %.40r and %r" % (done.returncode, done.stdout, done.stderr[-80:], output, errors[-80:]))
+
+
+def hold_smaller(name, done):
+    judge(name, done.returncode < 0, "it is enough too: this measures nothing")
 
 
 def main():
     for name, wanted in RUNS.items():
-        done = limited(wanted.text, ENOUGH)
-        judge(name, (done.returncode, done.stdout, done.stderr) == (0, wanted.output, wanted.errors),
-              "exit status %d in 1 MiB of stack, %.40r and %r instead of %.40r and %r" % (
-                  done.returncode, done.stdout, done.stderr[-80:], wanted.output, wanted.errors[-80:]))
-    judge("a much smaller stack", limited(b"", ENOUGH - 400 * 1024).returncode < 0, "it is enough too: this measures nothing")
+        hold(name, limited([PROGRAM], wanted.text, ENOUGH), wanted.output, wanted.errors)
+    hold_smaller("a much smaller stack", limited([PROGRAM], b"", ENOUGH - TOO_LITTLE))
+    with tempfile.TemporaryDirectory() as folder:
+        driver = [os.path.join(folder, "driver")]
+        set_runs.build(driver[0])
+        for name, wanted in RUNS_WITH_SET.items():
+            hold(name, limited(driver, set_runs.asked([wanted]), WITH_SET), set_runs.told([wanted]), b"")
+        hold_smaller("a much smaller stack, with a set", limited(driver, set_runs.asked([judged()]), WITH_SET - TOO_LITTLE))
     finish()
 
 

@@ -14,7 +14,7 @@ Worst = collections.namedtuple("Worst", "without whole grows")
 
 END = 1  # the step that ends a run
 MACROS = ("changecom changequote decr define defn divert divnum dnl errprint eval ifdef ifelse incr index len m4exit m4wrap popdef pushdef shift substr translit "
-          "undefine undivert").split()
+          "undefine undivert include sinclude").split()
 MOST_ARGUMENTS = 256
 LENT = 65536  # bytes of each buffer
 MANY = 64  # arguments, where each is long beside what it costs for itself
@@ -237,6 +237,17 @@ def undivert_all(n):
                  run(before.text + b"undivert", before.steps + 1 + END, output=in_order(n, range(1, 10))), True)
 
 
+def include(n):
+    """The set of `expand` has no item, so nothing is passed over, and the call is refused. (set_cost.py has sets.)"""
+    before = opened(b"include", b"a" * n)
+    refused = run(before.text, before.steps, number=15)
+    return Worst(run(before.text, before.steps, number=5, detail=3), refused._replace(text=before.text + b")"), False)
+
+
+def sinclude(n):
+    return closed(opened(b"sinclude", b"a" * n), grows=False)
+
+
 # not of one macro
 
 
@@ -305,6 +316,8 @@ WORST = {
     "undivert to nowhere": undivert_to_nowhere,
     "undivert into little room": undivert_into_little,
     "undivert, all nine": undivert_all,
+    "include, the empty set": include,
+    "sinclude, the empty set": sinclude,
     "the end, nine streams": the_end,
     "a text of references": text_of_references,
     "a text of 64 arguments": text_of_lists,

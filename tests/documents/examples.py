@@ -26,7 +26,11 @@ ENDS = {
     "idioms/foreach": (0, 605, 795),
     "frozen/winter": (0, 13422, 1110),
     "frozen/spring": (0, 17538, 1263),
+    "families/tripod": (0, 548, 577),
+    "families/trailer": (0, 885, 478),
 }
+# The folder of what a template includes.
+INCLUDED = {"families/tripod": "families/common", "families/trailer": "families/common"}
 # Refusals with room 1: template, bytes lent for pending text, completed steps and place; held to the model too.
 REFUSED = [
     ("frozen/winter", 3699, 12199, 1055),
@@ -55,7 +59,8 @@ def expand(folder, name, *options):
     numbers = os.path.join(folder, "numbers")
     with open(sheet, "wb") as file:
         file.write(OLD)
-    done = subprocess.run([COMMAND, "-o", sheet, "--report", numbers, *options, name + ".m4"], cwd=EXAMPLES, capture_output=True)
+    included = ["-I", INCLUDED[name]] if name in INCLUDED else []
+    done = subprocess.run([COMMAND, "-o", sheet, "--report", numbers, *included, *options, name + ".m4"], cwd=EXAMPLES, capture_output=True)
     return done.returncode, get(sheet), done.stderr, [int(n) for n in get(numbers).split()]
 
 
@@ -94,15 +99,36 @@ def room_never_shapes(folder, name):
 
 
 def by_gnu_m4(name):
-    done = subprocess.run(["m4", "-G", name + ".m4"], cwd=EXAMPLES, capture_output=True)
-    check(name + " by GNU m4", (done.returncode, done.stdout, done.stderr), stored(name))
+    """With -G it looks in its own folder alone for what is included, and without it by -I, too."""
+    folder = os.path.join(EXAMPLES, INCLUDED.get(name, ""))
+    template = os.path.join(EXAMPLES, name + ".m4")
+    for how, options, place in (("-G", ["-G"], folder), ("-I", ["-I", folder], EXAMPLES)):
+        done = subprocess.run(["m4", *options, template], cwd=place, capture_output=True)
+        check("%s by GNU m4 %s" % (name, how), (done.returncode, done.stdout, done.stderr), stored(name))
+
+
+def included_is_used(folder):
+    """What two families share is read for both, and by neither without its folder; a yard's own file is read where there is one."""
+    for name in INCLUDED:
+        status, sheet, _, _ = expand(folder, name, "-I", "masts")
+        check(name + " with a folder more", (status, sheet), (0, stored(name)[1]))
+        done = subprocess.run([COMMAND, name + ".m4"], cwd=EXAMPLES, capture_output=True)
+        check(name + " without its folder", (done.returncode, done.stdout), (64 + 15, b""))
+        with open(os.path.join(folder, "yard.m4"), "wb") as file:
+            file.write(b"set(`yard', `north')dnl\n")
+        status, sheet, _, _ = expand(folder, name, "-I", folder)
+        lines = stored(name)[1].splitlines(True)
+        own = [number for number, line in enumerate(lines) if line.startswith(b"sway_")][0]
+        check(name + " with a yard's own file", (status, sheet), (0, b"".join(lines[:own] + [b"yard=north\n"] + lines[own:])))
+        os.remove(os.path.join(folder, "yard.m4"))
+    check("each file of the common folder is included", sorted(os.listdir(os.path.join(EXAMPLES, "families", "common"))), ["sheet.m4", "sway.m4"])
 
 
 def templates():
-    """All templates but those of examples/c, which has a test of its own."""
+    """All templates but those of examples/c, which has a test of its own, and but what is there to be included."""
     found = (os.path.join(folder, file) for folder, _, files in os.walk(EXAMPLES) for file in files if file.endswith(".m4"))
     names = (os.path.relpath(path, EXAMPLES)[:-3] for path in found)
-    return sorted(name for name in names if not name.startswith("c/"))
+    return sorted(name for name in names if not name.startswith("c/") and os.path.dirname(name) not in INCLUDED.values())
 
 
 def main():
@@ -113,6 +139,7 @@ def main():
             whole(folder, name)
             room_never_shapes(folder, name)
         frozen_line(folder)
+        included_is_used(folder)
     check("GNU m4 is installed", shutil.which("m4") is not None, True)
     for name in ENDS if shutil.which("m4") else ():
         by_gnu_m4(name)

@@ -2,12 +2,14 @@
 """Every example of docs/LANGUAGE.md through the command `quenhovach`; and each predefined macro is on the page, with a call of it, and in the manual.
 
 An indented line of the page is a template and what comes of it. A block m4 is a template, called mast.m4; the next block is its sheet, or the message
-of its refusal ('...' for lines that are left out), or lines for the shell, whose output is the block text behind them. What the page expects was
-written by hand from document 01 and requests 2 and 3 of 02. Ends with 'N passed, M failed'; exit status 0 only if M is 0.
+of its refusal ('...' for lines that are left out), or lines for the shell, whose output is the block text behind them. A block `file NAME` is a file
+below the folder common, which the examples behind it in its section may include (-I common). What the page expects was written by hand from document 01
+and requests 1, 2 and 3 of 02. Ends with 'N passed, M failed'; exit status 0 only if M is 0.
 """
 import collections
 import os
 import re
+import shutil
 import subprocess
 import sys
 import tempfile
@@ -24,9 +26,11 @@ BOOK = os.path.join(ROOT, "crates", "rules", "specs", "Table.antt")
 GNU = os.path.join(ROOT, "docs", "GNU.md")
 README = os.path.join(ROOT, "README.md")
 TEMPLATE = "mast.m4"
+COMMON = "common"
 
-# `kind` is gives, refused, message or sh; `words` is what the page says comes of the template, and for sh the lines for the shell with their output
-Example = collections.namedtuple("Example", "line section text kind words")
+# `files` are those that may be included; `kind` is gives, refused, message or sh; `words` is what the page says comes of the template, and for sh the lines
+# for the shell with their output
+Example = collections.namedtuple("Example", "line section files text kind words")
 
 
 def read(path):
@@ -55,33 +59,48 @@ def pieces():
 
 def examples():
     section = text = command = None
+    files = {}
     for line, kind, body in pieces():
         if kind == "section":
-            section = body
+            section, files = body, {}
+        elif kind.startswith("file "):
+            files = dict(files, **{kind[len("file "):]: body})
         elif kind == "row":
             row = re.fullmatch(r'(.*?) {2,}(?:gives (".*)|(refused .*))', body)
             if judge("line %d" % line, row, "no template with what comes of it"):
-                yield Example(line, section, plain(row[1]), "gives" if row[2] else "refused", row[2] or row[3])
+                yield Example(line, section, files, plain(row[1]), "gives" if row[2] else "refused", row[2] or row[3])
         elif kind == "m4":
             text = body.encode()
         elif kind == "sh":
             command = body
         elif kind == "text":
-            yield Example(line, section, text, "sh", (command, body))
+            yield Example(line, section, files, text, "sh", (command, body))
         elif kind == "sheet":
-            yield Example(line, section, text, "gives", (body.encode(), b"", False, 0))
+            yield Example(line, section, files, text, "gives", (body.encode(), b"", False, 0))
         elif kind == "message":
-            yield Example(line, section, text, "message", body)
+            yield Example(line, section, files, text, "message", body)
 
 
 # the command
 
 
-def expand(folder, text):
+def furnish(folder, files):
+    """The folder common with just these files."""
+    shutil.rmtree(os.path.join(folder, COMMON), ignore_errors=True)
+    for name, text in files.items():
+        path = os.path.join(folder, COMMON, name)
+        os.makedirs(os.path.dirname(path), exist_ok=True)
+        with open(path, "w", encoding="utf-8") as f:
+            f.write(text)
+
+
+def expand(folder, text, files):
     """What comes of a template, and the message if it is refused."""
+    furnish(folder, files)
     with open(os.path.join(folder, TEMPLATE), "wb") as f:
         f.write(text)
-    done = subprocess.run([COMMAND, "--report", "numbers", TEMPLATE], cwd=folder, capture_output=True)
+    included = ["-I", COMMON] if files else []
+    done = subprocess.run([COMMAND, *included, "--report", "numbers", TEMPLATE], cwd=folder, capture_output=True)
     answer = int(read(os.path.join(folder, "numbers")).split()[0])
     if answer < 2:
         return Given(done.stdout, done.stderr, done.returncode, answer=answer), ""
@@ -99,7 +118,7 @@ def refusal(message, placed):
 
 def try_example(folder, example):
     name = "docs/LANGUAGE.md, line %d" % example.line
-    given, message = expand(folder, example.text or b"")
+    given, message = expand(folder, example.text or b"", example.files)
     if example.kind == "gives":
         wanted = says(example.words) if isinstance(example.words, str) else example.words
         judge(name, did(given) == wanted, "%r" % (did(given),))
@@ -119,7 +138,7 @@ def calls(folder, name, example):
     if example.kind not in ("gives", "refused"):
         return False
     without = b"undefine(`%s')" % name.encode() + example.text
-    return did(expand(folder, without)[0]) != did(expand(folder, example.text)[0])
+    return did(expand(folder, without, example.files)[0]) != did(expand(folder, example.text, example.files)[0])
 
 
 # what the page has to have
@@ -136,7 +155,7 @@ def refusals():
 
 
 def check_blocks():
-    blocks = "".join(kind + " " for _, kind, _ in pieces() if kind not in ("section", "entry", "row"))
+    blocks = "".join(kind + " " for _, kind, _ in pieces() if kind not in ("section", "entry", "row") and not kind.startswith("file "))
     judge("each block has what comes of it", re.fullmatch(r"(m4 (sheet|message|sh text) |sh text )+", blocks), blocks)
 
 
@@ -162,6 +181,9 @@ def check_manual():
 
 def check_refusals(found):
     shown = {e.words.split(" at ")[0] for e in found if e.kind == "refused"}
+    for e in found:
+        if e.kind == "sh":
+            shown |= {"refused %s (%s)" % numbers for numbers in re.findall(r"^In numbers: answer (\d+) \((.*?)\),", e.words[1], re.M)}
     judge("each refusal of the README is shown", shown == set(refusals()), sorted(shown ^ set(refusals())))
 
 

@@ -1,5 +1,5 @@
 #!/usr/bin/env python3
-"""readme.py: the README's command that expands a template does what it says, in a copy of what git tracks.
+"""readme.py: the README's commands that expand a template, and one that includes others, do what it says, in a copy of what git tracks.
 
 The copy gets this repository's target/ folder, so that nothing is proved twice: `rt` goes by the contents of the files, and would prove a crate again
 that differs. Ends with 'N passed, M failed'; exit status 0 only if M is 0.
@@ -37,14 +37,18 @@ def copy_of_tracked(to):
 def main():
     text = open(os.path.join(ROOT, "README.md"), encoding="utf-8").read()
     command, shown = blocks(section(text, "Expand a template"))[:2]
-    sheet = open(os.path.join(ROOT, "examples", "masts", "lattice.sheet"), "rb").read()
+    including = blocks(section(text, "Templates that include templates"))[0]
+    sheet, tripod = (open(os.path.join(ROOT, "examples", name + ".sheet"), "rb").read() for name in ("masts/lattice", "families/tripod"))
     with tempfile.TemporaryDirectory() as copy:
         copy_of_tracked(copy)
         run = subprocess.run(["bash", "-c", command], cwd=copy, capture_output=True)
+        path = os.path.join(os.environ.get("CARGO_TARGET_DIR", os.path.join(copy, "rust", "target")), "release") + os.pathsep + os.environ["PATH"]
+        second = subprocess.run(["bash", "-c", including], cwd=copy, capture_output=True, env=dict(os.environ, PATH=path))
     checks = [
         ("the command ends with exit status 0", run.returncode == 0),
         ("it writes the sheet of examples/masts", run.stdout.endswith(sheet)),
         ("the lines shown are the sheet's first", sheet.decode().startswith(shown + "\n")),
+        ("the command that includes writes the sheet of examples/families", (second.returncode, second.stdout) == (0, tripod)),
         ("the command that tests is there", blocks(section(text, "Test it"))[0] == "./test" and os.access(os.path.join(ROOT, "test"), os.X_OK)),
     ]
     if not all([judge(name, good, "no") for name, good in checks]):

@@ -1,9 +1,10 @@
 #!/usr/bin/env python3
-"""run.py [SEED COUNT] | --store: an independent m4, GNU m4, as the judge of the program `expand` where both have one rule.
+"""run.py [SEED COUNT] | --store: an independent m4, GNU m4, as the judge of the program `expand`, and of the command `quenhovach`, where both have one rule.
 
 Compared are output, error text and exit number: the templates of tests/gnu/templates and the random texts of tests/gnu/random.jsonl with what GNU m4
 gave for them when they were stored, and with what it gives now, as `m4` and as `m4 -G`; then COUNT more random texts (tests/gnu/texts.py,
-default 300 from seed 1000). The answer must be done or exit. Every example of docs/GNU.md, where the rules differ, must come out as that page says.
+default 300 from seed 1000). Files are included by the command: it has to give what `m4 -I` gives, and `m4 -G` in their folder, for the templates of
+tests/gnu/included and for COUNT random texts cut in pieces (tests/gnu/includes.py). The answer must be done or exit. Every example of docs/GNU.md, where the rules differ, must come out as that page says.
 --store writes the stored results anew, by GNU m4 alone. Ends with 'N passed, M failed'; exit status 0 only if M is 0.
 """
 import collections
@@ -15,13 +16,15 @@ import resource
 import shutil
 import subprocess
 import sys
+import tempfile
 
 sys.dont_write_bytecode = True
 FOLDER = os.path.dirname(os.path.abspath(__file__))
 sys.path.insert(0, os.path.join(FOLDER, "..", "shared"))
+import includes  # noqa: E402
 import texts  # noqa: E402
 from pages import Given, did, plain, says  # noqa: E402
-from places import ROOT, program  # noqa: E402
+from places import COMMAND, ROOT, build_command, program  # noqa: E402
 from tally import fail, finish, judge, stop  # noqa: E402
 
 PROGRAM = program("expand")
@@ -40,8 +43,8 @@ def limited():
     resource.setrlimit(resource.RLIMIT_CPU, (10, 10))
 
 
-def run(command, text):
-    return subprocess.run(command, input=text, capture_output=True, preexec_fn=limited, env=dict(os.environ, LC_ALL="C"))
+def run(command, text, folder=None):
+    return subprocess.run(command, input=text, capture_output=True, preexec_fn=limited, env=dict(os.environ, LC_ALL="C"), cwd=folder)
 
 
 def expand(text):
@@ -53,9 +56,17 @@ def expand(text):
     return Given(done.stdout, found.group(1) or b"", int(found.group(3)) if answer == 1 else 0, answer=answer)
 
 
-def gnu(command, text):
+def quenhovach(folder, text):
+    """The command, with what is below a folder to include."""
+    with tempfile.TemporaryDirectory() as place:
+        numbers = os.path.join(place, "numbers")
+        done = run([COMMAND, "-I", folder, "--report", numbers], text)
+        return Given(done.stdout, done.stderr, done.returncode, answer=int(read(numbers).split()[0]))
+
+
+def gnu(command, text, folder=None):
     """GNU m4's own messages start with its name; the error text of a template ends its lines."""
-    done = run(command, text)
+    done = run(command, text, folder)
     lines = done.stderr.splitlines(True)
     own = [line for line in lines if line.startswith(b"m4:")]
     return Given(done.stdout, b"".join(line for line in lines if line not in own), done.returncode, told=bool(own))
@@ -67,9 +78,8 @@ def alike(name, given, wanted):
     judge(name, given[:3] == wanted[:3], "; ".join("%s is %r, GNU m4 has %r" % part for part in parts if part[1] != part[2]))
 
 
-def judged(name, text, wanted):
-    """`expand` gives what GNU m4 gave, by an answer that finishes."""
-    given = expand(text)
+def judged(name, given, wanted):
+    """Ours gives what GNU m4 gave, by an answer that finishes."""
     if given.answer not in (0, 1):
         return fail("%s: not finished: answer %s, standard error %r" % (name, given.answer, given.errors))
     alike(name, given, wanted)
@@ -98,10 +108,21 @@ def write(path, data):
         os.remove(path)
 
 
+def result(path):
+    """The stored result of a template."""
+    return Given(read(path + ".out"), read(path + ".err"), int(read(path + ".exit") or 0))
+
+
+def store_result(path, given):
+    write(path + ".out", given.output)
+    write(path + ".err", given.errors)
+    write(path + ".exit", b"%d\n" % given.code if given.code else b"")
+
+
 def stored():
     """Name, text and stored result of each template and each stored random text."""
     for path in templates():
-        yield os.path.basename(path), read(path + ".m4"), Given(read(path + ".out"), read(path + ".err"), int(read(path + ".exit") or 0))
+        yield os.path.basename(path), read(path + ".m4"), result(path)
     with open(RANDOM, encoding="ascii") as f:
         for line in f:
             row = json.loads(line)
@@ -111,16 +132,39 @@ def stored():
 
 def store():
     for path in templates():
-        result = gnu(JUDGES[0], read(path + ".m4"))
-        write(path + ".out", result.output)
-        write(path + ".err", result.errors)
-        write(path + ".exit", b"%d\n" % result.code if result.code else b"")
+        store_result(path, gnu(JUDGES[0], read(path + ".m4")))
+    for path in includes.templates():
+        store_result(path, gnu(["m4", "-I", includes.PARTS], read(path + ".m4")))
     with open(RANDOM, "w", encoding="ascii") as f:
         for seed in STORED_SEEDS:
             text = texts.text(seed)
-            result = gnu(JUDGES[0], text)
-            row = {"seed": seed, "text": text.decode("latin-1"), "output": result.output.decode("latin-1"), "errors": result.errors.decode("latin-1"), "exit": result.code}
+            given = gnu(JUDGES[0], text)
+            row = {"seed": seed, "text": text.decode("latin-1"), "output": given.output.decode("latin-1"), "errors": given.errors.decode("latin-1"), "exit": given.code}
             f.write(json.dumps(row) + "\n")
+
+
+# texts that include files
+
+
+def check_included(name, folder, text, wanted):
+    """The command, and GNU m4 with -G, which looks in its own folder alone."""
+    judged(name, quenhovach(folder, text), wanted)
+    alike(name + ", m4 -G now", gnu(["m4", "-G"], text, folder), wanted)
+
+
+def check_includes(first, count):
+    if not judge("the command", build_command(), "it could not be built"):
+        return
+    judge("tests/gnu/included", len(includes.templates()) > 0, "it has no template")
+    for path in includes.templates():
+        name, text = os.path.basename(path) + ", included", read(path + ".m4")
+        check_included(name, includes.PARTS, text, result(path))
+        alike(name + ", m4 -I now", gnu(["m4", "-I", includes.PARTS], text), result(path))
+    for seed in range(first, first + count):
+        case = includes.random_case(seed)
+        with tempfile.TemporaryDirectory() as folder:
+            includes.put(folder, case.files)
+            check_included(case.name, folder, case.text, gnu(["m4", "-I", folder], case.text))
 
 
 # the examples of docs/GNU.md
@@ -171,7 +215,7 @@ def main():
     print("compared with stored results and live with " + run(["m4", "--version"], b"").stdout.decode().split("\n")[0])
     check_nothing_left_out()
     for name, text, wanted in stored():
-        judged(name, text, wanted)
+        judged(name, expand(text), wanted)
         for command in JUDGES:
             alike("%s, %s now" % (name, " ".join(command)), gnu(command, text), wanted)
     for example in examples():
@@ -179,8 +223,9 @@ def main():
     for seed in range(first, first + count):
         text = texts.text(seed)
         wanted = gnu(JUDGES[0], text)
-        judged("random text %d" % seed, text, wanted)
+        judged("random text %d" % seed, expand(text), wanted)
         alike("random text %d, m4 -G" % seed, gnu(JUDGES[1], text), wanted)
+    check_includes(first, count)
     finish()
 
 

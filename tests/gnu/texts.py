@@ -1,7 +1,7 @@
 """Random texts on which document 01 and GNU m4 have one rule: texts.text(seed) gives the bytes of one, the same for the same seed.
 
 docs/GNU.md lists the rules that differ; the texts keep clear of them by the way they are made:
-- No name that GNU m4 has beside the 24 is written. A text covers a predefined name only where nothing in between calls it. In calls more than an empty
+- No name that GNU m4 has beside the 26 is written, nor include or sinclude with a parenthesis: tests/gnu/includes.py cuts the texts in pieces for that. A text covers a predefined name only where nothing in between calls it. In calls more than an empty
   quote stands between a predefined name and a parenthesis that is none of its own: the quote would be gone when the text is read again.
 - The first token of every argument, quoted text and defined text is solid: a word, number, sign, quote, or a call whose result starts
   with such a token. So no call that gives nothing, or a blank first, stands in front of an argument's blanks.
@@ -15,7 +15,7 @@ import random
 
 WORDS = "mast guy cable sway wind load north lee drum boom crew rig tall _base x7 Top".split()
 # predefined, and words like those above unless a parenthesis directly follows
-UNOPENED = "decr define defn errprint eval ifdef ifelse incr index len m4wrap popdef pushdef shift substr translit undefine".split()
+UNOPENED = "decr define defn errprint eval ifdef ifelse include incr index len m4wrap popdef pushdef shift sinclude substr translit undefine".split()
 SIGNS = ["+", "-", "*", "=", "!", "?", ".", ":", "<", ">", "/", "^", "&", "~", "\\", "\xe9", "\xc3\xa4", "'s"]
 BLANKS = [" ", "  ", "\t", "\n", " \n "]
 QUOTES = [("`", "'"), ("`", "'"), ("[", "]"), ("{", "}"), ("[[", "]]"), ("{|", "|}"), ("`[", "]'"), ("+{+{+", "+}+}+"), ('"', '"'), ("\xab", "\xbb")]
@@ -329,16 +329,29 @@ class Writer:
     def part(self):
         return "".join(self.top() for _ in range(2 + self.upto(5)))
 
-    def text(self):
-        parts = [self.part()]
+    def wrap(self):
+        return "m4wrap(" + self.quote((self.solid(RANKS, 1) + self.items(RANKS, 1, 3) if self.nests() else self.plain()) + "\n") + ")"
+
+    def exit(self):
+        return "m4exit" + self.pick([self.quote(""), "(0)", "(%d)" % self.upto(255)])
+
+    def pieces(self):
+        """The text's pieces, which end outside of calls, each behind an empty quote with the marks that are in force where it begins."""
+        yield self.quote(""), self.part()
         for _ in range(self.upto(2)):
-            parts += [self.change(), self.part()]
+            yield self.quote(""), self.change()
+            yield self.quote(""), self.part()
         if self.chance(30):
-            parts += ["m4wrap(" + self.quote((self.solid(RANKS, 1) + self.items(RANKS, 1, 3) if self.nests() else self.plain()) + "\n") + ")", self.part()]
+            yield self.quote(""), self.wrap()
+            yield self.quote(""), self.part()
         if self.chance(15):
-            parts += ["m4exit" + self.pick([self.quote(""), "(0)", "(%d)" % self.upto(255)]), self.part()]
-        return "".join(parts) + "\n"
+            yield self.quote(""), self.exit()
+            yield self.quote(""), self.part()
+
+
+def pieces(seed):
+    return list(Writer(seed).pieces())
 
 
 def text(seed):
-    return Writer(seed).text().encode("latin-1")
+    return "".join(piece for _, piece in pieces(seed)).encode("latin-1") + b"\n"

@@ -24,7 +24,7 @@ OLD = 0xA5
 
 # 01's table of answers, its list of buffers, the three ways to be unclosed, and the order of the numbers; 02's refusals of the index of lines
 CONSTANTS = {
-    "": (0, "DONE EXIT LEND SPENT ROOM UNCLOSED NAME NUMBER EXPRESSION DIVISOR MARK NO_TEXT GONE DEEP"),
+    "": (0, "DONE EXIT LEND SPENT ROOM UNCLOSED NAME NUMBER EXPRESSION DIVISOR MARK NO_TEXT GONE DEEP BAD_SET NO_ITEM"),
     "BUFFER_": (1, "PENDING CALLS DEFINITIONS STREAMS WRAP ERRORS OUTPUT"),
     "UNCLOSED_": (1, "QUOTE COMMENT CALL"),
     "REPORT_": (0, "NUMBER DETAIL STEPS PLACE OUTPUT ERRORS LENGTH"),
@@ -32,8 +32,8 @@ CONSTANTS = {
 }
 EXPORTED = ["quenhovach_expand", "quenhovach_lines_build", "quenhovach_lines_line_of", "quenhovach_lines_start_of"]
 
-# A call as the command line says: seven lengths ("-": length 0, and null for a pointer), a budget, the text's length ("-" again); the
-# text is on standard input. Writes what came back, the report, and then all that the buffers hold.
+# A call as the command line says: seven lengths ("-": length 0, and null for a pointer), a budget, the text's length and the set's ("-" again);
+# text and set are on standard input. Writes what came back, the report, and then all that the buffers hold.
 CALLER = r"""
 #include "quenhovach.h"
 #include <stdio.h>
@@ -41,6 +41,7 @@ CALLER = r"""
 #include <string.h>
 
 static uint8_t memory[8][QUENHOVACH_MAX_LENGTH + 1];
+static uint8_t set[QUENHOVACH_MAX_SET_LENGTH + 1];
 
 static size_t length_of(const char *word) { return strcmp(word, "-") == 0 ? 0 : (size_t)strtoul(word, NULL, 10); }
 static uint8_t *part(int i, const char *word) { return strcmp(word, "-") == 0 ? NULL : memory[i]; }
@@ -54,7 +55,7 @@ int main(int argc, char **argv)
     size_t read;
     int i;
 
-    if (argc != 10)
+    if (argc != 11)
         return 2;
     memset(memory, OLD, sizeof memory);
     memset(report, OLD, sizeof report);
@@ -65,9 +66,9 @@ int main(int argc, char **argv)
     b[7] = part(7, argv[9]);
     n[7] = length_of(argv[9]);
     read = b[7] == NULL ? 0 : fread(b[7], 1, n[7], stdin);
-    if (read != n[7])
+    if (read != n[7] || fread(set, 1, length_of(argv[10]), stdin) != length_of(argv[10]))
         return 3;
-    number = quenhovach_expand(b[7], n[7], b[0], n[0], b[1], n[1], b[2], n[2], b[3], n[3], b[4], n[4], b[5], n[5], b[6], n[6],
+    number = quenhovach_expand(b[7], n[7], strcmp(argv[10], "-") == 0 ? NULL : set, length_of(argv[10]), b[0], n[0], b[1], n[1], b[2], n[2], b[3], n[3], b[4], n[4], b[5], n[5], b[6], n[6],
                                (uint32_t)strtoul(argv[8], NULL, 10), report);
     printf("%lu", (unsigned long)number);
     for (i = 0; i < QUENHOVACH_REPORT_LENGTH; i++)
@@ -80,6 +81,8 @@ int main(int argc, char **argv)
 
 AMPLE = 65536
 N_IS_5 = b"define(`n',`5')n"
+NO_ITEMS = b"\0"
+AXY = b"\x81\1\0\0\0\2\0\0\0\3axy\0"  # one item: its name is a, its text xy
 
 # what is tried, the text, the numbers of the answer, output, error text, and the setting where it is not ample
 CALLS = [
@@ -107,6 +110,14 @@ CALLS = [
     ("defn of a predefined macro", b"defn(`len')", (11, 0, 2, 10, 0, 0), b"", b"", {}),
     ("a definition that goes while its call is open", b"define(`f')f(undefine(`f'))", (12, 0, 7, 26, 0, 0), b"", b"", {}),
     ("65 open calls", b"len(" * 65, (13, 0, 64, 256, 0, 0), b"", b"", {}),
+    ("null and length 0 as set", b"a", (14, 0, 0, 0, 0, 0), b"", b"", {"set": None}),
+    ("a set without its end", b"a", (14, 0, 0, 0, 0, 0), b"", b"", {"set": AXY[:-1], "budget": 0}),
+    ("a set of 1,048,577 bytes", b"a", (14, 0, 0, 0, 0, 0), b"", b"", {"set": b"\0" * 1048577}),
+    ("a bad set and a buffer of 65,537 bytes", b"a", (2, 0, 0, 0, 0, 0), b"", b"", {"set": None, "lengths": [9, 9, 9, 9, 9, 9, 65537]}),
+    ("an include of what is not there", b"include(b)", (15, 0, 2, 9, 0, 0), b"", b"", {"set": AXY}),
+    ("an include", b"include(a)", (0, 0, 5, 10, 2, 0), b"xy", b"", {"set": AXY, "lengths": [2, 8, "-", "-", "-", "-", 2]}),
+    ("an include that does not fit", b"include(a)", (4, 1, 2, 9, 0, 0), b"", b"", {"set": AXY, "lengths": [1, 8, 9, 9, 9, 9, 9]}),
+    ("an sinclude of what is not there", b"sinclude(b)", (0, 0, 4, 11, 0, 0), b"", b"", {"set": AXY}),
 ]
 
 # what is tried, the template, standard output, what standard error is, and the exit status
@@ -145,6 +156,7 @@ def test_header(folder):
             name = "QUENHOVACH_" + prefix + name
             lines.append("typedef char check_%s[%s == %d ? 1 : -1];" % (name, name, number))
     lines.append("typedef char check_longest[QUENHOVACH_MAX_LENGTH == 65536 ? 1 : -1];")
+    lines.append("typedef char check_longest_set[QUENHOVACH_MAX_SET_LENGTH == 1048576 ? 1 : -1];")
     for length, count in (("0", 1), ("63", 1), ("63 + 1", 2), ("QUENHOVACH_MAX_LENGTH", 1025)):
         lines.append("typedef char check_words_%d_%d[QUENHOVACH_LINES_WORDS(%s) == %d ? 1 : -1];" % (len(lines), count, length, count))
     source = os.path.join(folder, "header.c")
@@ -194,8 +206,9 @@ def test_calls(folder):
     for language, caller in callers(folder, "caller", CALLER):
         for name, text, numbers, output, errors, setting in CALLS:
             lengths = setting.get("lengths", [AMPLE] * 7)
-            words = [str(w) for w in lengths + [setting.get("budget", 16777216), "-" if text is None else len(text)]]
-            done = subprocess.run([caller] + words, input=text or b"", capture_output=True)
+            given = ["-" if part is None else len(part) for part in (text, setting.get("set", NO_ITEMS))]
+            words = [str(w) for w in lengths + [setting.get("budget", 16777216)] + given]
+            done = subprocess.run([caller] + words, input=(text or b"") + (setting.get("set", NO_ITEMS) or b""), capture_output=True)
             line, _, memory = done.stdout.partition(b"\n")
             told = " ".join(str(n) for n in numbers[:1] + numbers).encode()
             name = "%s, %s" % (name, language[1])
@@ -211,6 +224,38 @@ def test_lines(folder):
         for name, words, text, told in cases:
             done = subprocess.run([caller] + words, input=text, capture_output=True)
             check("%s, %s" % (name, language[1]), (done.returncode, done.stdout), (0, told))
+
+
+def test_includes(program, shown):
+    """The README's template that includes, with the file and without; then sets at the borders of chunks and of what a set may have."""
+    sheet = "mast guyed\nfilter_gain 9\nfrozen_after_ms 80\n"
+    told = "expand_file: examples/c/guyed.m4:1:19: no sheet: include of a file that is not named on the command line (answer 15 0, after 2 steps and 18 bytes)\n"
+    for line, output, said, expected in zip(shown[::2], shown[1::2], ("with it", "without it"), ((sheet, "", 0), ("", told, 1))):
+        done = subprocess.run(line.replace("target/expand_file", program).split(), cwd=ROOT, capture_output=True, text=True)
+        check("an include in the README, " + said, (done.stdout, done.stderr, done.returncode), expected)
+        check("and what the README shows, " + said, output, "".join(expected[:2]))
+    check("both are in the README", len(shown), 4)
+    with tempfile.TemporaryDirectory() as folder:
+        template, part, more = (os.path.join(folder, name) for name in ("t.m4", "part", "more"))
+        files = {template: b"include(part)[sinclude(`more')]sinclude(`none')", more: b""}
+        for length in (0, 1, 123, 124, 125, 251, 252, 253, 40000):
+            files[part] = b"%" * length
+            for path, text in files.items():
+                with open(path, "wb") as f:
+                    f.write(text)
+            done = subprocess.run([program, template, more, part], capture_output=True)
+            check("an include of %d bytes" % length, (done.stdout, done.stderr, done.returncode), (files[part] + b"[]", b"", 0))
+        # A name of 4 bytes: an item takes 9 bytes, a byte for each 128 of name and text, and these; the end takes one.
+        for length, status in ((1048576 - 9 - 8129 - 4 - 1, 0), (1048576 - 9 - 8129 - 4, 1)):
+            with open(part, "wb") as f:
+                f.write(b"%" * length)
+            with open(template, "wb") as f:
+                f.write(b"x")
+            done = subprocess.run([program, template, part], capture_output=True)
+            told = b"expand_file: %s: the files to include have too many bytes\n" % part.encode() if status else b""
+            check("a set of 1,048,576 bytes and %d" % status, (done.stdout, done.stderr, done.returncode), (b"x" * (1 - status), told, status))
+        done = subprocess.run([program, template, "nothing-here"], cwd=folder, capture_output=True)
+        check("an included file that is not there", (done.stdout, done.stderr, done.returncode), (b"", b"expand_file: nothing-here: the file could not be read\n", 1))
 
 
 def test_program(folder):
@@ -236,10 +281,11 @@ def test_program(folder):
     done = subprocess.run(["sh", "-c", shown[2].replace("target/", "./")], cwd=folder, capture_output=True, text=True)
     told = "expand_file: target/open.m4:2:6: no sheet: the template ends inside a quote (answer 5 1, after 6 steps and 15 bytes)\n"
     check("the refusal in the README", (done.stdout, done.stderr, done.returncode), ("", told.replace("target/", "./"), 1))
-    check("the message in the README", shown[3:], [told])
+    check("the message in the README", shown[3:4], [told])
     check("and in the one at the root", "\n    " + told in open(os.path.join(ROOT, "README.md"), encoding="utf-8").read(), True)
+    test_includes(program, shown[4:])
     for name, words, redirection, message in [
-        ("no file named", "", "", b"usage: expand_file FILE\n"),
+        ("no file named", "", "", b"usage: expand_file FILE [INCLUDED]...\n"),
         ("a file that is not there", "nothing-here", "", b"expand_file: nothing-here: the file could not be read\n"),
         ("a folder", "/", "", b"expand_file: /: the file could not be read\n"),
         ("a full disk", '"$1"', ">/dev/full", b"expand_file: %s: the sheet could not be written\n" % template.encode()),

@@ -35,6 +35,8 @@ check("empty input", run(b""), (b"", b"0 1 0 0\n"))
 check("error text stands before the answer line", run(b"errprint(`a',`b')x"), (b"x", b"a b0 7 18 0\n"))
 check("a refusal writes nothing else", run(b"good`'errprint(`e')`bad"), (b"", b"5 5 19 1\n"))
 check("02's word that vanished", run(b"the len of the boom"), (b"the len of the boom", b"0 10 19 0\n"))
+check("02's include, with nothing to include", run(b"a include(`x')"), (b"", b"15 4 13 0\n"))
+check("02's sinclude, with nothing to include", run(b"[sinclude(`x')]ifdef(`include',1,0)include"), (b"[]1include", b"0 15 42 0\n"))
 check("m4exit", run(b"a`'m4exit(7)b"), (b"a", b"1 5 12 7\n"))
 longest = b"x" * 65536
 check("65,536 bytes", run(longest), (longest, b"0 2 65536 0\n"))

@@ -30,9 +30,10 @@ PROGRAM = r"""
 int main(void)
 {
     static const uint8_t text[] = "define(`n',`5')n";
+    static const uint8_t set[] = {0};
     uint8_t pending[1], calls[8], definitions[2], output[1];
     uint32_t r[QUENHOVACH_REPORT_LENGTH];
-    uint32_t n = quenhovach_expand(text, 16, pending, 1, calls, 8, definitions, 2, NULL, 0, NULL, 0, NULL, 0, output, 1, 8, r);
+    uint32_t n = quenhovach_expand(text, 16, set, 1, pending, 1, calls, 8, definitions, 2, NULL, 0, NULL, 0, NULL, 0, output, 1, 8, r);
     uint64_t words[1], line;
     uint32_t totals[1];
     uint32_t m = quenhovach_lines_build((const uint8_t *)"a\nb", 3, words, 1, totals, 1);

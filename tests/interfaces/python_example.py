@@ -1,7 +1,7 @@
 #!/usr/bin/env python3
 """The expander from Python: examples/python/quenhovach.py over a shared object that is made of target/staticlib/libquenhovach.a as its README says.
 
-Every expected answer and byte is written by hand from document 01, and line and column counted through the text; those of the README's example are in c_example.py and tests/documents/examples.py too.
+Every expected answer and byte is written by hand from documents 01 and 02, and line and column counted through the text; those of the README's example are in c_example.py and tests/documents/examples.py too.
 Ends with 'N passed, M failed'; exit status 0 only if M is 0.
 """
 import ast
@@ -34,7 +34,7 @@ DEEPEST = b"eval(" + (LEVELS + b"(") * 32 + LEVELS + b"1" + b")" * 33
 
 # 01's table of answers, its list of buffers, the three ways to be unclosed
 NAMES = {
-    Answer: (0, "DONE EXIT LEND SPENT ROOM UNCLOSED NAME NUMBER EXPRESSION DIVISOR MARK NO_TEXT GONE DEEP"),
+    Answer: (0, "DONE EXIT LEND SPENT ROOM UNCLOSED NAME NUMBER EXPRESSION DIVISOR MARK NO_TEXT GONE DEEP BAD_SET NO_ITEM"),
     Buffer: (1, "PENDING CALLS DEFINITIONS STREAMS WRAP ERRORS OUTPUT"),
     Unclosed: (1, "QUOTE COMMENT CALL"),
 }
@@ -81,6 +81,14 @@ CALLS = [
     ("a definition that goes while its call is open", b"define(`f')f(undefine(`f'))", (12, 0, 7, 26, 0, 0), b"", b"", {}),
     ("65 open calls", b"len(" * 65, (13, 0, 64, 256, 0, 0), b"", b"", {}),
     ("257 arguments", b"len(" + b"," * 256, (13, 0, 256, 259, 0, 0), b"", b"", {}),
+    ("no bytes as set", b"a", (14, 0, 0, 0, 0, 0), b"", b"", {"included": b""}),
+    ("a set of 1,048,577 bytes", b"a", (14, 0, 0, 0, 0, 0), b"", b"", {"included": b"\0" * 1048577}),
+    ("nothing to include", b"\ninclude(a)", (15, 0, 3, 10, 0, 0), b"", b"", {}),
+    ("an unknown name", b"include(b)", (15, 0, 2, 9, 0, 0), b"", b"", {"included": {"a": b"xy"}}),
+    ("an include", b"include(a)", (0, 0, 5, 10, 2, 0), b"xy", b"", {"included": {"a": b"xy"}, "pending": 2}),
+    ("an include by bytes", b"include(a)", (0, 0, 5, 10, 2, 0), b"xy", b"", {"included": b"\x81\1\0\0\0\2\0\0\0\3axy\0"}),
+    ("an include that does not fit", b"include(a)", (4, 1, 2, 9, 0, 0), b"", b"", {"included": {"a": b"xy"}, "pending": 1}),
+    ("an sinclude of an unknown name", b"sinclude(b)", (0, 0, 4, 11, 0, 0), b"", b"", {"included": {b"a": bytearray(b"xy")}}),
 ]
 
 
@@ -116,13 +124,13 @@ def names():
     for enum, (first, words) in NAMES.items():
         if not check("the numbers of " + enum.__name__, [(m.name, m.value) for m in enum], [(word, first + i) for i, word in enumerate(words.split())]):
             finish()
-    check("every answer is tried", sorted({call[2][0] for call in CALLS}), list(range(14)))
+    check("every answer is tried", sorted({call[2][0] for call in CALLS}), list(range(16)))
     check("every buffer is tried", sorted({call[2][1] for call in CALLS if call[2][0] == 4}), list(range(1, 8)))
 
 
 def counted(text, number, place):
     """Line and column of a refusal's place, by counting; none where nothing was read."""
-    if number == 2:
+    if number in (2, 14):
         return None, None
     lines = text[:place].split(b"\n")
     return len(lines), len(lines[-1]) + 1
@@ -164,6 +172,7 @@ def sheets(library):
          "m4exit(255) after 0 bytes of output, error text b'e': answer 1 (exit), detail 255, after 8 steps, place 24"),
         (b"gain\n\n defn(`len')", Refused, "no sheet: answer 11 (no text), detail 0, after 6 steps, place 17 (line 3, column 12)"),
         (b"1" * 65537, Refused, "no sheet: answer 2 (lend), detail 0, after 0 steps, place 0"),
+        (b"\ninclude(a)", Refused, "no sheet: answer 15 (no item), detail 0, after 3 steps, place 10 (line 2, column 10)"),
     ]:
         raised = ended(quenhovach.expand, text, expander)
         check("expand of %.30s" % text, (type(raised), isinstance(raised, NotDone), str(raised)), (kind, True, said))
@@ -180,6 +189,30 @@ def misuse(library):
         check("Expander of %s" % setting, type(ended(lambda: Expander(**dict({"library": library}, **setting)))), kind)
     for text in ("text", 5, None):
         check("a text that is %r" % text, type(ended(Expander(library=library).run, text)), TypeError)
+
+
+# names and texts, and the set's bytes as 02 has them
+SETS = [
+    ([], b"\0"),
+    ([("", b"")], b"\x81" + bytes(8) + b"\0"),
+    ([("a", b"xy"), (b"a", b"")], b"\x81\1\0\0\0\2\0\0\0\3axy" + b"\x81\1\0\0\0\0\0\0\0\1a" + b"\0"),
+    ([("\u00e9", b"")], b"\x81\2\0\0\0\0\0\0\0\2\xc3\xa9\0"),
+    ([("n", b"x" * 127)], b"\x81\1\0\0\0\x7f\0\0\0\x80n" + b"x" * 127 + b"\0"),
+    ([("n", b"x" * 128)], b"\x81\1\0\0\0\x80\0\0\0\x80n" + b"x" * 127 + b"\1x" + b"\0"),
+    ([("n" * 129, b"x" * 256)], b"\x81\x81\0\0\0\0\1\0\0\x80" + b"n" * 128 + b"\x80n" + b"x" * 127 + b"\x80" + b"x" * 128 + b"\1x" + b"\0"),
+]
+
+
+def sets(library):
+    """The bytes of sets, the first of two items with one name, and a set that would be too long."""
+    for items, made in SETS:
+        check("the set of %.40r" % items, quenhovach.make_set(items), made)
+    twice = Expander(library=library, included=quenhovach.make_set([("a", b"1"), ("a", b"2"), ("b", b"3")]))
+    check("the first of two counts", quenhovach.expand(b"include(`a')include(`b')", twice), b"13")
+    longest = 1048576 - 9 - 8129 - 1 - 1  # the item's head, a byte for each chunk, the name, the end
+    check("the longest set", len(quenhovach.make_set([("a", b"x" * longest)])), 1048576)
+    check("a set that is too long", type(ended(quenhovach.make_set, [("a", b"x" * (longest + 1))])), ValueError)
+    check("a set of what is no text", type(ended(quenhovach.make_set, [("a", 5)])), TypeError)
 
 
 def reuse(library):
@@ -287,7 +320,7 @@ def main():
     with tempfile.TemporaryDirectory() as folder:
         library = os.path.join(folder, "libquenhovach.so")
         build(library)
-        for part in (calls, sheets, misuse, reuse, threads, stacks, example):
+        for part in (calls, sheets, sets, misuse, reuse, threads, stacks, example):
             part(library)
     finish()
 

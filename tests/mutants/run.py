@@ -41,6 +41,7 @@ TESTS = [
     ("examples", "tests/documents/examples.py", []),
     ("stack", "tests/costs/stack.py", []),
     ("lines_cost", "tests/costs/lines_cost.py", []),
+    ("set_cost", "tests/costs/set_cost.py", []),
     ("step_costs", "tests/costs/step_costs.py", []),
 ]
 # What a failed part of tests/differential/run shows: words of its name, words of what it says or its exit status, and the name for it. The first row that
@@ -50,6 +51,7 @@ PARTS = [
     ("each byte", "", "each byte"),
     ("each predefined name", "", "each name"),
     ("open comments", "", "open comments"),
+    ("sets of every form", "", "sets"),
     ("lines.tsv", "", "lines.tsv"),
     ("against counting", "", "counting"),
     ("third demand", "", "third demand"),
@@ -78,11 +80,12 @@ First the source as it stands was built in the same way each time, and passed al
 """
 FOOT = """
 Of `differential` (tests/differential/run) the table names what showed the fault: `vectors`, the lines of tests/vectors.tsv through the archive; `each byte` wherever
-its class is asked for, `each name` that is predefined wherever it may stand, `open comments` wherever one may begin, and `random cases`, on which archive and
-model differ; `lines.tsv`, the vectors of the index of lines, `counting` through the text, which gives another line, start or index, and `random indexes`, on which
-archive and model differ; `third demand`, two settings that break the letter's third demand; `huge lengths`, above 4,294,967,295; `trap`, a read or write outside of
-what is lent, between inaccessible pages; `valgrind`, the same or the use of what was there before. `lines_cost` counts the instructions of the index of lines.
-`step_costs` takes more than a minute, and was tried only on what no other test caught.
+its class is asked for, `each name` that is predefined wherever it may stand, `open comments` wherever one may begin, `sets` that are good, damaged, cut and as long as
+may be, and `random cases`, on which archive and model differ; `lines.tsv`, the vectors of the index of lines, `counting` through the text, which gives another
+line, start or index, and `random indexes`, on which archive and model differ; `third demand`, two settings that break the letter's third demand; `huge lengths`,
+above 4,294,967,295; `trap`, a read or write outside of what is lent, between inaccessible pages; `valgrind`, the same or the use of what was there before.
+`lines_cost` counts the instructions of the index of lines, `set_cost` those of judging a set and of an include. `step_costs` takes more than a minute, and was tried
+only on what no other test caught.
 
 Compiled code does not check an index: what a read or write outside comes to may differ from run to run, but for the trap and valgrind.
 """

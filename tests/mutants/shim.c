@@ -7,19 +7,27 @@ struct slice {
 };
 
 uint32_t inner_quenhovach_expand(struct slice *, struct slice *, struct slice *, struct slice *, struct slice *, struct slice *, struct slice *,
-                                 struct slice *, uint32_t, uint32_t *);
+                                 struct slice *, struct slice *, uint32_t, uint32_t *);
 uint32_t inner_quenhovach_lines_build(struct slice *, struct slice *, struct slice *);
 uint32_t inner_quenhovach_lines_line_of(size_t, struct slice *, struct slice *, size_t, uint64_t *);
 uint32_t inner_quenhovach_lines_start_of(size_t, struct slice *, struct slice *, uint64_t, uint64_t *);
 
-uint32_t quenhovach_expand(const uint8_t *text, size_t text_len, uint8_t *pending, size_t pending_len, uint8_t *calls, size_t calls_len,
-                           uint8_t *definitions, size_t definitions_len, uint8_t *streams, size_t streams_len, uint8_t *wrap,
-                           size_t wrap_len, uint8_t *errors, size_t errors_len, uint8_t *output, size_t output_len, uint32_t budget,
+uint32_t quenhovach_expand(const uint8_t *text, size_t text_len, const uint8_t *set, size_t set_len, uint8_t *pending, size_t pending_len,
+                           uint8_t *calls, size_t calls_len, uint8_t *definitions, size_t definitions_len, uint8_t *streams,
+                           size_t streams_len, uint8_t *wrap, size_t wrap_len, uint8_t *errors, size_t errors_len, uint8_t *output,
+                           size_t output_len, uint32_t budget,
                            uint32_t report[QUENHOVACH_REPORT_LENGTH])
 {
-    struct slice s[8] = {{text, text_len},       {pending, pending_len}, {calls, calls_len},   {definitions, definitions_len},
-                         {streams, streams_len}, {wrap, wrap_len},       {errors, errors_len}, {output, output_len}};
-    return inner_quenhovach_expand(&s[0], &s[1], &s[2], &s[3], &s[4], &s[5], &s[6], &s[7], budget, report);
+    struct slice s[9] = {{text, text_len},
+                         {set, set_len},
+                         {pending, pending_len},
+                         {calls, calls_len},
+                         {definitions, definitions_len},
+                         {streams, streams_len},
+                         {wrap, wrap_len},
+                         {errors, errors_len},
+                         {output, output_len}};
+    return inner_quenhovach_expand(&s[0], &s[1], &s[2], &s[3], &s[4], &s[5], &s[6], &s[7], &s[8], budget, report);
 }
 
 uint32_t quenhovach_lines_build(const uint8_t *text, size_t text_len, uint64_t *words, size_t words_len, uint32_t *totals, size_t totals_len)

@@ -18,7 +18,7 @@ import refused  # noqa: E402
 from places import ROOT  # noqa: E402
 from tally import count, fail, finish  # noqa: E402
 
-LEAVES = ["answers", "ascii", "builtins", "numerals", "matching", "expression", "lines"]
+LEAVES = ["answers", "ascii", "builtins", "container", "numerals", "matching", "expression", "lines"]
 ENSURES = re.compile(r"^    ensures .*\n", re.M)
 RETURNS = re.compile(r"^(returns(?:-\d+)?)( : tie\.Need-.*\n)(?:.+\n)+", re.M)
 

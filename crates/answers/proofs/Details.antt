@@ -9,7 +9,7 @@ use Rattle.rules.proofs.Answer.{the-type}
 
 -- their places among the variants
 abbrev plain : List ℕ
-plain = 0 ∷ 2 ∷ 3 ∷ 6 ∷ 7 ∷ 8 ∷ 9 ∷ 10 ∷ 11 ∷ 12 ∷ 13 ∷ []
+plain = 0 ∷ 2 ∷ 3 ∷ 6 ∷ 7 ∷ 8 ∷ 9 ∷ 10 ∷ 11 ∷ 12 ∷ 13 ∷ 14 ∷ 15 ∷ []
 
 pub no-detail : (a : Answer) → OneOf plain (tagOf the-type a) → 0 ≡ answerDetail a
 unfolding answerDetail
@@ -27,3 +27,5 @@ no-detail answer.Mark h = refl
 no-detail answer.NoText h = refl
 no-detail answer.Gone h = refl
 no-detail answer.Deep h = refl
+no-detail answer.BadSet h = refl
+no-detail answer.NoItem h = refl

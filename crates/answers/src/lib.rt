@@ -23,6 +23,8 @@ pub fn number_of(a: Answer) -> u32
         Answer::NoText => 11,
         Answer::Gone => 12,
         Answer::Deep => 13,
+        Answer::BadSet => 14,
+        Answer::NoItem => 15,
     }
 }
 

@@ -1,11 +1,12 @@
 -- Laws of the predefined macros by their numbers. Assumes nothing.
-use Rattle.rules.proofs.Base.{ℕ, zero, suc, _<_, _≤_, _∙_, _≡_, refl, sym, ap, subst, Bool, true, false, List, [], _∷_, arith, length, eqb, ne-eqb, ℕ-discrete, decLt, List·getD-eq-default, List·getD-map}
+use Rattle.rules.proofs.Base.{ℕ, zero, suc, _<_, _≤_, _∙_, _≡_, refl, sym, ap, subst, Bool, true, false, List, arith, length, ℕ-discrete, decLt, List·getD-eq-default, List·getD-map}
 use Rattle.rules.specs.Macros.{macros, perform, callIndex}
 use Rattle.builtins.specs.declared.Kind.the-variants as kind
 use Rattle.builtins.specs.declared.ResultMacro.the-variants as result-macro
 use Rattle.builtins.specs.declared.ChangeMacro.the-variants as change-macro
 use Rattle.builtins.specs.Numbers.{macroCount}
 use Rattle.builtins.specs.Builtins.{Builtin, result, index, change, builtins, builtinAt, kindOf, resultOf, changeOf, resultCall, changeCall, callOf}
+use Rattle.builtins.proofs.Arms.{Avoids, listed, unlisted}
 
 -- ---- the book's macro of each number
 
@@ -42,20 +43,7 @@ performs-change k e = performs k ∙ go (builtinAt k) e
     go index e = absurd (let z : _≡_ {A = ℕ} 0 1 = cc in omega arith)
     go (change c) e = refl
 
--- ---- the numbers that a `match` does not name
-
--- k is none of a list, whose last is told first
-abbrev pub Avoids : ℕ → List ℕ → Type 0
-Avoids k [] = Unit {0}
-Avoids k (x ∷ xs) = Avoids k xs × (k ≡ x → ⊥)
-
-abbrev pub listed : ℕ → List ℕ → Bool
-listed k [] = false
-listed k (x ∷ xs) = elim (eqb k x) [ true ↦ true | false ↦ listed k xs ]
-
-unlisted : (k : ℕ) (xs : List ℕ) → Avoids k xs → listed k xs ≡ false
-unlisted k [] a = refl
-unlisted k (x ∷ xs) a = rw (ne-eqb k x (a .1), listed) (unlisted k xs (a .0))
+-- ---- the numbers that no arm of a `match` names
 
 abbrev pub Unless : Bool → Type 0 → Type 0
 Unless true P = Unit {0}

@@ -4,7 +4,7 @@ use mathlib.Core.List.{List, [], _∷_}
 use lib.ListN.{getD}
 use Rattle.rules.specs.Bytes.{Bytes}
 use Rattle.rules.specs.State.{State, Outcome}
-use Rattle.rules.specs.Macros.{callChangecom, callChangequote, callDecr, callDefine, callDefn, callDivert, callDivnum, callDnl, callErrprint, callEval, callIfdef, callIfelse, callIncr, callIndex, callLen, callM4exit, callM4wrap, callPopdef, callPushdef, callShift, callSubstr, callTranslit, callUndefine, callUndivert, callNothing}
+use Rattle.rules.specs.Macros.{callChangecom, callChangequote, callDecr, callDefine, callDefn, callDivert, callDivnum, callDnl, callErrprint, callEval, callIfdef, callIfelse, callIncr, callIndex, callLen, callM4exit, callM4wrap, callPopdef, callPushdef, callShift, callSubstr, callTranslit, callUndefine, callUndivert, callInclude, callSinclude, callNothing}
 use Rattle.builtins.specs.declared.Kind.{Kind}
 use Rattle.builtins.specs.declared.Kind.the-variants as kind
 use Rattle.builtins.specs.declared.ResultMacro.{ResultMacro}
@@ -12,7 +12,7 @@ use Rattle.builtins.specs.declared.ResultMacro.the-variants as result-ma
 use Rattle.builtins.specs.declared.ChangeMacro.{ChangeMacro}
 use Rattle.builtins.specs.declared.ChangeMacro.the-variants as change-macro
 
--- one that only gives a result, index, or one that changes other things
+-- one that only gives a result, index, or one that changes other things or is performed with these
 pub data Builtin : Type 0 where
   result : ResultMacro → Builtin
   index : Builtin
@@ -45,6 +45,8 @@ builtins =
     ∷ result result-macro.Translit
     ∷ change change-macro.Undefine
     ∷ change change-macro.Undivert
+    ∷ change change-macro.Include
+    ∷ change change-macro.Sinclude
     ∷ []
 
 -- by its number, from 1; no macro has another number
@@ -95,6 +97,8 @@ changeCall change-macro.Popdef = callPopdef
 changeCall change-macro.Pushdef = callPushdef
 changeCall change-macro.Undefine = callUndefine
 changeCall change-macro.Undivert = callUndivert
+changeCall change-macro.Include = callInclude
+changeCall change-macro.Sinclude = callSinclude
 changeCall change-macro.None = callNothing
 
 unfoldable pub callOf : Builtin → List Bytes → State → Outcome

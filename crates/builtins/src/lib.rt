@@ -1,16 +1,16 @@
-// The predefined macros, 1 to 24: the number of a name, and what the macro of a number does. Whoever asks something of a predefined macro asks
+// The predefined macros, 1 to 26: the number of a name, and what the macro of a number does. Whoever asks something of a predefined macro asks
 // it here, by its number.
 use ascii::same;
 ghost use mathlib.Core.Path.{_≡_};
 ghost use mathlib.Core.List.{[], _∷_};
-ghost use Prim.Native.Nat.{_≤_, _<_};
-ghost use lib.ListN.{take, drop, getD};
-ghost use Rattle.rules.specs.Table.{predefinedNames, needsParenthesis};
-ghost use Rattle.builtins.specs.Numbers.{macroCount, NumberAmong, HasNumber};
+ghost use Prim.Native.Nat.{_≤_, _<_, _+_};
+ghost use lib.ListN.{getD};
+ghost use Rattle.rules.specs.Table.{needsParenthesis};
+ghost use Rattle.builtins.specs.Numbers.{macroCount, predefinedWith, NumberAmong, HasNumber};
 ghost use Rattle.builtins.specs.Builtins.{builtinAt, kindOf, resultOf, changeOf};
 
 // What a predefined macro does: it only gives a result; it is index, which gives one by a search that takes much stack; or it changes other
-// things.
+// things, or reads what those that do are lent.
 pub enum Kind {
     Result,
     Index,
@@ -32,7 +32,8 @@ pub enum ResultMacro {
     None,
 }
 
-// The macros that change other things, and divnum, which reads the current stream.
+// The macros that change other things, and three that are performed with these for what they read: divnum the current stream, include and
+// sinclude the set that is lent to the run.
 pub enum ChangeMacro {
     Changecom,
     Changequote,
@@ -47,6 +48,8 @@ pub enum ChangeMacro {
     Pushdef,
     Undefine,
     Undivert,
+    Include,
+    Sinclude,
     None,
 }
 
@@ -63,7 +66,7 @@ fn first_byte(s: &[u8]) -> u8
 // The number k for `known`, else 0.
 fn number_of_one(name: &[u8], known: &[u8], k: u8) -> u8
     requires { ⌜ (0 < k) × (k ≤ macroCount) ⌝ }
-    ensures { λ r. ⌜ NumberAmong k (now (name .entry)) (now (known .entry) ∷ []) r ⌝ }
+    ensures { λ r. ⌜ NumberAmong (now (name .entry)) ((k, now (known .entry)) ∷ []) r ⌝ }
 {
     if same(name, known) { k } else { 0 }
 }
@@ -71,7 +74,7 @@ fn number_of_one(name: &[u8], known: &[u8], k: u8) -> u8
 // The number k for `first`, k + 1 for `second`, else 0.
 fn number_of_two(name: &[u8], first: &[u8], second: &[u8], k: u8) -> u8
     requires { ⌜ (0 < k) × (k < macroCount) ⌝ }
-    ensures { λ r. ⌜ NumberAmong k (now (name .entry)) (now (first .entry) ∷ now (second .entry) ∷ []) r ⌝ }
+    ensures { λ r. ⌜ NumberAmong (now (name .entry)) ((k, now (first .entry)) ∷ (k + 1, now (second .entry)) ∷ []) r ⌝ }
 {
     if same(name, first) {
         return k;
@@ -84,7 +87,7 @@ fn number_of_two(name: &[u8], first: &[u8], second: &[u8], k: u8) -> u8
 
 // The number of a name that begins with d.
 fn number_d(name: &[u8]) -> u8
-    ensures { λ r. ⌜ NumberAmong 3 (now (name .entry)) (take 6 (drop 2 predefinedNames)) r ⌝ }
+    ensures { λ r. ⌜ NumberAmong (now (name .entry)) (predefinedWith 100) r ⌝ }
 {
     let first = number_of_two(name, b"decr", b"define", 3);
     if first != 0 {
@@ -99,13 +102,28 @@ fn number_d(name: &[u8]) -> u8
 
 // The number of a name that begins with i.
 fn number_i(name: &[u8]) -> u8
-    ensures { λ r. ⌜ NumberAmong 11 (now (name .entry)) (take 4 (drop 10 predefinedNames)) r ⌝ }
+    ensures { λ r. ⌜ NumberAmong (now (name .entry)) (predefinedWith 105) r ⌝ }
 {
     let first = number_of_two(name, b"ifdef", b"ifelse", 11);
     if first != 0 {
         return first;
     }
-    number_of_two(name, b"incr", b"index", 13)
+    let second = number_of_two(name, b"incr", b"index", 13);
+    if second != 0 {
+        return second;
+    }
+    number_of_one(name, b"include", 25)
+}
+
+// The number of a name that begins with s.
+fn number_s(name: &[u8]) -> u8
+    ensures { λ r. ⌜ NumberAmong (now (name .entry)) (predefinedWith 115) r ⌝ }
+{
+    let first = number_of_two(name, b"shift", b"substr", 20);
+    if first != 0 {
+        return first;
+    }
+    number_of_one(name, b"sinclude", 26)
 }
 
 // The number of a predefined name, else 0. It is compared with those names alone that begin like it.
@@ -121,26 +139,24 @@ pub fn number_of(name: &[u8]) -> u8
         b'l' => number_of_one(name, b"len", 15),
         b'm' => number_of_two(name, b"m4exit", b"m4wrap", 16),
         b'p' => number_of_two(name, b"popdef", b"pushdef", 18),
-        b's' => number_of_two(name, b"shift", b"substr", 20),
+        b's' => number_s(name),
         b't' => number_of_one(name, b"translit", 22),
         b'u' => number_of_two(name, b"undefine", b"undivert", 23),
         _ => 0,
     }
 }
 
-// Whether the macro of a number is called only with a parenthesis behind its name. (Macros to come that need one join here.)
+// Whether the macro of a number is called only with a parenthesis behind its name: such a number has one in the table, from 0 on. (Macros to
+// come join it; a `match` in its place made the scanning of words slower.)
 pub fn needs_parenthesis(k: u8) -> bool
     ensures { λ r. ⌜ r ≡ needsParenthesis k ⌝ }
 {
-    match k {
-        // decr, define, defn
-        3..=5 => true,
-        // errprint to len
-        9..=15 => true,
-        // m4wrap to undefine
-        17..=23 => true,
-        _ => false,
+    let needing = b"---(((---(((((((-(((((((-((";
+    let i = k as usize;
+    if 26 < i {
+        return false;
     }
+    needing[i] == b'('
 }
 
 // What the macro of a number does.
@@ -200,6 +216,8 @@ pub fn change_macro(k: u8) -> ChangeMacro
         19 => ChangeMacro::Pushdef,
         23 => ChangeMacro::Undefine,
         24 => ChangeMacro::Undivert,
+        25 => ChangeMacro::Include,
+        26 => ChangeMacro::Sinclude,
         _ => ChangeMacro::None,
     }
 }

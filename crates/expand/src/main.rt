@@ -1,6 +1,6 @@
 // Expands the text on standard input in 65,536 bytes of each buffer and with a budget of 16,777,216 steps: the output goes to standard output,
 // the error text and a line "number steps place detail" to standard error. A failed read or write is told by a message, and no such
-// line follows.
+// line follows. Nothing can be included: the set is one byte 0.
 use libc::STDERR_FILENO;
 use libc::STDIN_FILENO;
 use libc::STDOUT_FILENO;
@@ -73,6 +73,7 @@ fn expand_text(text: &[u8]) {
     let mut output = io::large_buffer();
     let r = expander::expand(
         text,
+        &[0],
         &mut pending,
         &mut calls,
         &mut definitions,

@@ -61,15 +61,15 @@ naming-is f args s is e {q} i l n =
     is ∙ rw (h, naming, e, l)
 
 module _
-    {a : Setting} {text′ pending calls : Bytes} {callEnds stack : List ℕ} {definitions : Bytes} {tableEnds : List ℕ} {streams : Bytes} {owners : List ℕ}
+    {a : Setting} {text′ set pending calls : Bytes} {callEnds stack : List ℕ} {definitions : Bytes} {tableEnds : List ℕ} {streams : Bytes} {owners : List ℕ}
     {wrap errors output : Bytes} {m : Machine} {s : State}
-    (r : Represents a (memory text′ pending calls callEnds stack definitions tableEnds streams owners wrap errors output) m s) (args : List Bytes) {t : Stepped}
+    (r : Represents a (memory text′ set pending calls callEnds stack definitions tableEnds streams owners wrap errors output) m s) (args : List Bytes) {t : Stepped}
   where
     module _ (f : Bytes → Meaning → Table → Table) {o : Outcome} (is : o ≡ naming f args s) {w : Bytes} (e : w ≡ arg 1 args) {q : Bool} (i : q ≡ isName w) where
       pub unnamed :
           not q ≡ true → t ≡ stepped (progress.Refused answer.Name) m
-          → Refines a (memory text′ pending calls callEnds stack definitions tableEnds streams owners wrap errors output) o
-          (memory text′ pending calls callEnds stack definitions tableEnds streams owners wrap errors output) t
+          → Refines a (memory text′ set pending calls callEnds stack definitions tableEnds streams owners wrap errors output) o
+          (memory text′ set pending calls callEnds stack definitions tableEnds streams owners wrap errors output) t
       unfolding naming faultAnswer
       unnamed n g =
           let h : isName (arg 1 args) ≡ false = ap isName (sym e) ∙ sym i ∙ not-true q n in
@@ -78,8 +78,8 @@ module _
       module _ {x : Bytes} (l : x ≡ arg 2 args) (n : not q ≡ false) where
         pub overfilled :
             length definitions < tableCost ((f w (text x) (s .table)) .definitions) → t ≡ stepped (progress.Refused (answer.Room 3)) m
-            → Refines a (memory text′ pending calls callEnds stack definitions tableEnds streams owners wrap errors output) o
-            (memory text′ pending calls callEnds stack definitions tableEnds streams owners wrap errors output) t
+            → Refines a (memory text′ set pending calls callEnds stack definitions tableEnds streams owners wrap errors output) o
+            (memory text′ set pending calls callEnds stack definitions tableEnds streams owners wrap errors output) t
         unfolding withTable
         overfilled h g =
             let u = withTable (f w (text x) (s .table)) s in
@@ -88,7 +88,7 @@ module _
         pub named :
             {before : Memory} {definitions′ : Bytes} {tableEnds′ : List ℕ} {d : Definitions} {m′ : Machine} → TableIn definitions′ tableEnds′ (d .packed) (d .own) (f w (text x) (s .table))
             → length definitions′ ≡ length definitions → length tableEnds′ ≡ length tableEnds → m′ ≡ tableSet d m → t ≡ stepped progress.On m′
-            → Refines a before o (memory text′ pending calls callEnds stack definitions′ tableEnds′ streams owners wrap errors output) t
+            → Refines a before o (memory text′ set pending calls callEnds stack definitions′ tableEnds′ streams owners wrap errors output) t
         named h j k y g = stepped-on (with-table r h j k) (naming-is f args s is e i l n) (g ∙ ap (stepped progress.On) y)
 
     -- each argument's definition has gone in turn
@@ -96,7 +96,7 @@ module _
         (f : Bytes → Table → Table) {o : Outcome} → o ≡ next (withTable (inTurn f args (s .table)) s)
         → {before : Memory} {definitions′ : Bytes} {tableEnds′ : List ℕ} {d : Definitions} {m′ : Machine} → TableIn definitions′ tableEnds′ (d .packed) (d .own) (inTurn f args (s .table))
         → length definitions′ ≡ length definitions → length tableEnds′ ≡ length tableEnds → m′ ≡ tableSet d m → t ≡ stepped progress.On m′
-        → Refines a before o (memory text′ pending calls callEnds stack definitions′ tableEnds′ streams owners wrap errors output) t
+        → Refines a before o (memory text′ set pending calls callEnds stack definitions′ tableEnds′ streams owners wrap errors output) t
     removed f is h j k y g = stepped-on (with-table r h j k) is (g ∙ ap (stepped progress.On) y)
 
 pub popdef-is : (args : List Bytes) (s : State) → callPopdef args s ≡ next (withTable (inTurn popped args (s .table)) s)

@@ -4,13 +4,15 @@ use Rattle.rules.proofs.Base.{_≤_, ℕ, suc, zero, _∙_, refl, sym, ap, _≡
 use Rattle.rules.specs.declared.Answer.the-variants as answer
 use Rattle.rules.specs.declared.Report.{Report}
 use Rattle.rules.specs.Bytes.{Bytes}
-use Rattle.rules.specs.Answers.{answerNumber, isFinished, Ending, done, exit, endingAnswer, Fault, unclosedQuote, unclosedComment, unclosedCall, noName, noNumber, noExpression, divisor, badMark, noText, gone, deep, faultAnswer}
+use Rattle.rules.specs.Answers.{answerNumber, isFinished, Ending, done, exit, endingAnswer, Fault, unclosedQuote, unclosedComment, unclosedCall, noName, noNumber, noExpression, divisor, badMark, noText, gone, deep, noItem, faultAnswer}
+use Rattle.rules.specs.Sets.{Item, setItems}
 use Rattle.rules.specs.Source.{sourceOf}
-use Rattle.rules.specs.State.{State, Outcome, next, stop, refused, freshStart, startState}
+use Rattle.rules.specs.State.{State, Outcome, next, stop, refused, Start, freshStart, startState}
 use Rattle.rules.specs.Step.{step}
-use Rattle.rules.specs.Run.{Ended, endedWith, held, overfull, judged, continued, lengths, runFrom, allLendable}
+use Rattle.rules.specs.Run.{Setting, Ended, endedWith, held, overfull, judged, continued, lengths, runFrom, allLendable, started}
 use Rattle.rules.specs.Contract.{Buffers, settingOf, reportOf, errorsOf, outputOf, fronted, zeroedBy, leftBy, runIn, Expanded}
 use Rattle.rules.proofs.Run.{run-lend, run-starts}
+use Rattle.container.specs.Items.{isGood}
 use Rattle.expander.specs.Front.{Front}
 use Rattle.expander.specs.Machine.{memory, Limits}
 use Rattle.expander.specs.Run.{Ran, Wrote, Lent, LinkLengths, Zeroed}
@@ -40,13 +42,13 @@ all-lent t p c d s w e o q =
 
 -- the lent lengths, for a run that gets as much of its own texts as is lent
 pub lent-limits :
-    (text pending calls definitions streams wrap errors output errorText outputText : Bytes) (ends stack tableEnds owners : List ℕ) (budget : ℕ)
+    (text set pending calls definitions streams wrap errors output errorText outputText : Bytes) (ends stack tableEnds owners : List ℕ) (budget : ℕ)
     → Lent (length text) (length pending) (length calls) (length definitions) (length streams) (length wrap) (length errors) (length output)
     → LinkLengths ends stack tableEnds owners → length errorText ≡ mostLent → length outputText ≡ mostLent
     → Limits (settingOf (record { pending = pending; calls = calls; definitions = definitions; streams = streams; wrap = wrap; errors = errors; output = output }) budget)
-    (memory text pending calls ends stack definitions tableEnds streams owners wrap (take (length errors) errorText) (take (length output) outputText))
+    (memory text set pending calls ends stack definitions tableEnds streams owners wrap (take (length errors) errorText) (take (length output) outputText))
 unfolding settingOf
-lent-limits text pending calls definitions streams wrap errors output errorText outputText ends stack tableEnds owners budget l k e o =
+lent-limits text set pending calls definitions streams wrap errors output errorText outputText ends stack tableEnds owners budget l k e o =
     let p = length-take-le (length errors) errorText (omega (arith, l .errors-in)) in
     let q = length-take-le (length output) outputText (omega (arith, l .output-in)) in
     record {
@@ -106,6 +108,43 @@ wrote {errors} {output} x p q =
       output-are = q ∙ ap (λ (w : Bytes). fronted w output) (x .output-are .text-is);
     }
 
+-- ---- the set
+
+-- the items of a good set
+pub record Items (set : Bytes) : Type 0 where
+  pub items : List Item
+  pub are : setItems set ≡ some items
+
+module _ (set : Bytes) where
+  pub good-items : true ≡ isGood set → Items set
+  unfolding isGood
+  good-items e = go (setItems set) refl e
+    where
+      go : (o : Option (List Item)) → setItems set ≡ o → true ≡ elim o [ none ↦ false | some is ↦ true ] → Items set
+      go none q h = absurd (true≢false h)
+      go (some is) q h = record { items = is; are = q }
+
+  bad-items : false ≡ isGood set → setItems set ≡ none
+  unfolding isGood
+  bad-items e = go (setItems set) refl e
+    where
+      go : (o : Option (List Item)) → setItems set ≡ o → false ≡ elim o [ none ↦ false | some is ↦ true ] → setItems set ≡ none
+      go none q h = q
+      go (some is) q h = absurd (true≢false (sym h))
+
+  module _ (x : Start) (a : Setting) {errors output : Bytes} {r : Report} where
+    -- it is not good: nothing is written
+    pub wrote-nothing : false ≡ isGood set → r ≡ record { answer = answer.BadSet; steps = 0; place = 0; output = 0; errors = 0 }
+        → Wrote (started (setItems set) x a) errors output errors output r
+    unfolding started endedWith reportOf outputOf errorsOf isFinished answerNumber startState sourceOf fronted
+    wrote-nothing e f = rw (bad-items e) (record { report = f; errors-are = refl; output-are = refl })
+
+    -- it is good: the run is what follows
+    pub wrote-started : {errors′ output′ : Bytes} (i : Items set) → Wrote (runFrom (lengths a) (a .budget) 0 (startState (i .items) x)) errors output errors′ output′ r
+        → Wrote (started (setItems set) x a) errors output errors′ output′ r
+    unfolding started
+    wrote-started i w = rw (i .are) w
+
 -- ---- the whole call
 
 -- a run that was admitted does not end with "lend"
@@ -125,6 +164,7 @@ fault-not-lend badMark = refl
 fault-not-lend noText = refl
 fault-not-lend gone = refl
 fault-not-lend deep = refl
+fault-not-lend noItem = refl
 
 ending-not-lend : (x : Ending) → eqb (answerNumber (endingAnswer x)) 2 ≡ false
 unfolding answerNumber endingAnswer
@@ -157,20 +197,25 @@ left-are :
 unfolding leftBy
 left-are e b a p c d s w r o = rw (sym p, sym c, sym d, sym s, sym w, sym r, sym o) refl
 
-module _ (text : Bytes) (budget : ℕ) (b : Buffers) where
-  ran-in : true ≡ allLendable (length text ∷ lengths (settingOf b budget)) → runIn text b budget ≡ runFrom (lengths (settingOf b budget)) budget 0 (startState (freshStart text))
-  unfolding runIn freshStart settingOf
-  ran-in e = run-starts (freshStart text) (settingOf b budget) (sym e)
+started-not-lend : (o : Option (List Item)) (x : Start) (a : Setting) → NotLend (started o x a)
+unfolding started endedWith answerNumber
+started-not-lend none x a = refl
+started-not-lend (some is) x a = run-not-lend (lengths a) (a .budget) 0 (startState is x)
+
+module _ (text set : Bytes) (budget : ℕ) (b : Buffers) where
+  ran-in : true ≡ allLendable (length text ∷ lengths (settingOf b budget)) → runIn text set b budget ≡ started (setItems set) (freshStart text set) (settingOf b budget)
+  unfolding runIn freshStart
+  ran-in e = run-starts (freshStart text set) (settingOf b budget) (sym e)
 
   pub expanded :
       {a : Buffers} {r : Report} → true ≡ allLendable (length text ∷ lengths (settingOf b budget))
-      → Wrote (runFrom (lengths (settingOf b budget)) budget 0 (startState (freshStart text))) (b .errors) (b .output) (a .errors) (a .output) r
+      → Wrote (started (setItems set) (freshStart text set) (settingOf b budget)) (b .errors) (b .output) (a .errors) (a .output) r
       → a .pending ≡ replicate (length (b .pending)) 0 → a .calls ≡ replicate (length (b .calls)) 0 → a .definitions ≡ replicate (length (b .definitions)) 0
-      → a .streams ≡ replicate (length (b .streams)) 0 → a .wrap ≡ replicate (length (b .wrap)) 0 → Expanded text budget b a r
+      → a .streams ≡ replicate (length (b .streams)) 0 → a .wrap ≡ replicate (length (b .wrap)) 0 → Expanded text set budget b a r
   expanded {a} {r} l x p c d s w =
-      let e = runFrom (lengths (settingOf b budget)) budget 0 (startState (freshStart text)) in
-      let n = run-not-lend (lengths (settingOf b budget)) budget 0 (startState (freshStart text)) in
-      let q : runIn text b budget ≡ e = ran-in l in
+      let e = started (setItems set) (freshStart text set) (settingOf b budget) in
+      let n = started-not-lend (setItems set) (freshStart text set) (settingOf b budget) in
+      let q : runIn text set b budget ≡ e = ran-in l in
       record {
         report = x .report ∙ ap reportOf (sym q);
         buffers =
@@ -182,12 +227,12 @@ module _ (text : Bytes) (budget : ℕ) (b : Buffers) where
 
   -- something is above 65,536 bytes: nothing is written
   pub not-lent :
-      false ≡ allLendable (length text ∷ lengths (settingOf b budget))
-      → Expanded text budget b b (record { answer = answer.Lend; steps = 0; place = 0; output = 0; errors = 0 })
+      {r : Report} → r ≡ record { answer = answer.Lend; steps = 0; place = 0; output = 0; errors = 0 }
+      → false ≡ allLendable (length text ∷ lengths (settingOf b budget)) → Expanded text set budget b b r
   unfolding runIn freshStart reportOf leftBy zeroedBy fronted errorsOf outputOf isFinished answerNumber endedWith startState sourceOf
-  not-lent e =
-      let q : runIn text b budget ≡ endedWith answer.Lend 0 (startState (freshStart text)) = run-lend (freshStart text) (settingOf b budget) (sym e) in
-      record { report = ap reportOf (sym q); buffers = ap (λ (y : Ended). leftBy y b) (sym q) }
+  not-lent f e =
+      let q : runIn text set b budget ≡ endedWith answer.Lend 0 (startState [] (freshStart text set)) = run-lend (freshStart text set) (settingOf b budget) (sym e) in
+      record { report = f ∙ ap reportOf (sym q); buffers = ap (λ (y : Ended). leftBy y b) (sym q) }
 
 -- ---- for callers: the counts of an answer lie in the buffers, which keep their lengths
 
@@ -195,11 +240,11 @@ fronted-few : (w old : Bytes) → length (fronted w old) ≡ length old → leng
 unfolding fronted
 fronted-few w old e = omega (arith, length-append w (drop (length w) old), length-drop (length w) old)
 
-module _ {text : Bytes} {budget : ℕ} {b a : Buffers} {r : Report} (x : Expanded text budget b a r) where
+module _ {text set : Bytes} {budget : ℕ} {b a : Buffers} {r : Report} (x : Expanded text set budget b a r) where
   pub output-inside : length (a .output) ≡ length (b .output) → r .output ≤ length (a .output)
   unfolding leftBy reportOf
   output-inside e =
-      let w = outputOf (runIn text b budget) in
+      let w = outputOf (runIn text set b budget) in
       let o : a .output ≡ fronted w (b .output) = ap (λ (y : Buffers). y .output) (x .buffers) in
       let n : r .output ≡ length w = ap (λ (y : Report). y .output) (x .report) in
       omega (arith, fronted-few w (b .output) (sym (ap length o) ∙ e))
@@ -207,7 +252,7 @@ module _ {text : Bytes} {budget : ℕ} {b a : Buffers} {r : Report} (x : Expande
   pub errors-inside : length (a .errors) ≡ length (b .errors) → r .errors ≤ length (a .errors)
   unfolding leftBy reportOf
   errors-inside e =
-      let w = errorsOf (runIn text b budget) in
+      let w = errorsOf (runIn text set b budget) in
       let o : a .errors ≡ fronted w (b .errors) = ap (λ (y : Buffers). y .errors) (x .buffers) in
       let n : r .errors ≡ length w = ap (λ (y : Report). y .errors) (x .report) in
       omega (arith, fronted-few w (b .errors) (sym (ap length o) ∙ e))

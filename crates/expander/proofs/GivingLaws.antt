@@ -64,9 +64,9 @@ pub gap-long : (d : Bytes) (from n : ℕ) → n ≤ from → from ≤ length d �
 gap-long d from n h k = omega (arith, part-long d (from - n) from k)
 
 module _
-    {a : Setting} {text pending calls : Bytes} {callEnds stack : List ℕ} {definitions : Bytes} {tableEnds : List ℕ} {streams : Bytes} {owners : List ℕ}
+    {a : Setting} {text set pending calls : Bytes} {callEnds stack : List ℕ} {definitions : Bytes} {tableEnds : List ℕ} {streams : Bytes} {owners : List ℕ}
     {wrap errors output : Bytes} {m : Machine} {s : State}
-    (r : Represents a (memory text pending calls callEnds stack definitions tableEnds streams owners wrap errors output) m s)
+    (r : Represents a (memory text set pending calls callEnds stack definitions tableEnds streams owners wrap errors output) m s)
     (w : Bytes) (n : ℕ) (e : length w ≡ n)
   where
     resulting-long : length ((resulting w s) .source .pending) ≡ n + (length pending - m .source .from)
@@ -76,8 +76,8 @@ module _
     -- there is no room for it
     pub giving-room :
         m .source .from < n
-        → Refines a (memory text pending calls callEnds stack definitions tableEnds streams owners wrap errors output) (next (resulting w s))
-        (memory text pending calls callEnds stack definitions tableEnds streams owners wrap errors output) (pushedStep m (pushed.Refused (answer.Room 1)))
+        → Refines a (memory text set pending calls callEnds stack definitions tableEnds streams owners wrap errors output) (next (resulting w s))
+        (memory text set pending calls callEnds stack definitions tableEnds streams owners wrap errors output) (pushedStep m (pushed.Refused (answer.Room 1)))
     unfolding pushedStep
     giving-room h =
         refines-room (resulting w s) 0 (over-pending a (resulting w s) (omega (arith, resulting-long, r .limits .pending, r .source .from-in)))
@@ -86,7 +86,7 @@ module _
       -- it stands there
       pub giving-front :
           {before : Memory} {pending′ : Bytes} {at : ℕ} → at ≡ m .source .from - n → length pending′ ≡ length pending → drop at pending′ ≡ w ++ drop (m .source .from) pending
-          → Refines a before (next (resulting w s)) (memory text pending′ calls callEnds stack definitions tableEnds streams owners wrap errors output)
+          → Refines a before (next (resulting w s)) (memory text set pending′ calls callEnds stack definitions tableEnds streams owners wrap errors output)
           (pushedStep m (pushed.At at))
       unfolding resulting pushedStep
       giving-front {at = at} i l k = refines-next (with-source r (pushed-back w at (r .source) (omega (arith, r .source .from-in)) k) l)
@@ -94,7 +94,7 @@ module _
       -- it was written there, into the buffer
       pub giving-filled :
           {before : Memory} {pending′ : Bytes} → Filled pending (m .source .from - n) w pending′
-          → Refines a before (next (resulting w s)) (memory text pending′ calls callEnds stack definitions tableEnds streams owners wrap errors output)
+          → Refines a before (next (resulting w s)) (memory text set pending′ calls callEnds stack definitions tableEnds streams owners wrap errors output)
           (pushedStep m (pushed.At (m .source .from - n)))
       giving-filled f =
           let k : m .source .from - n + length w ≡ m .source .from = omega arith in
@@ -104,7 +104,7 @@ module _
       pub giving-part :
           {before : Memory} {y : Bytes} → y ≡ w
           → Refines a before (next (resulting w s))
-          (memory text (putMid (m .source .from - n) (m .source .from - (m .source .from - n)) pending y) calls callEnds stack definitions tableEnds streams owners wrap errors output)
+          (memory text set (putMid (m .source .from - n) (m .source .from - (m .source .from - n)) pending y) calls callEnds stack definitions tableEnds streams owners wrap errors output)
           (pushedStep m (pushed.At (m .source .from - n)))
       giving-part {y = y} f =
           giving-filled (rw f (part-fills pending w (m .source .from - n) (m .source .from) (omega arith) (r .source .from-in)))

@@ -14,6 +14,7 @@ pub mod ExpandLaws
 pub mod FilledLaws
 pub mod Fitting
 pub mod GivingLaws
+pub mod IncludingLaws
 pub mod ListLaws
 pub mod MachineLaws
 pub mod MacroLaws

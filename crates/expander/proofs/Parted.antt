@@ -51,20 +51,21 @@ same-limits q text pending calls callEnds stack definitions tableEnds streams ow
     }
 
 module _
-    {a : Setting} {text pending calls : Bytes} {callEnds stack : List ℕ} {definitions : Bytes} {tableEnds : List ℕ} {streams : Bytes} {owners : List ℕ}
+    {a : Setting} {text set pending calls : Bytes} {callEnds stack : List ℕ} {definitions : Bytes} {tableEnds : List ℕ} {streams : Bytes} {owners : List ℕ}
     {wrap errors output : Bytes} {m : Machine} {s : State}
-    (r : Represents a (memory text pending calls callEnds stack definitions tableEnds streams owners wrap errors output) m s)
+    (r : Represents a (memory text set pending calls callEnds stack definitions tableEnds streams owners wrap errors output) m s)
   where
-    pub with-marks : {x : Marks} → GoodMarks x → Represents a (memory text pending calls callEnds stack definitions tableEnds streams owners wrap errors output) (marksSet x m) (withMarks (markTexts x) s)
+    pub with-marks : {x : Marks} → GoodMarks x → Represents a (memory text set pending calls callEnds stack definitions tableEnds streams owners wrap errors output) (marksSet x m) (withMarks (markTexts x) s)
     unfolding withMarks
-    with-marks g = record { source = r .source; marks = refl; marks-good = g; calls = r .calls; table = r .table; sinks = r .sinks; wrap = r .wrap; errors = r .errors; limits = r .limits }
+    with-marks g = record { set = r .set; source = r .source; marks = refl; marks-good = g; calls = r .calls; table = r .table; sinks = r .sinks; wrap = r .wrap; errors = r .errors; limits = r .limits }
 
     pub with-source :
         {pending′ : Bytes} {x : Position} {y : Source} → SourceIn text pending′ x y → length pending′ ≡ length pending
-        → Represents a (memory text pending′ calls callEnds stack definitions tableEnds streams owners wrap errors output) (sourceSet x m) (withSource y s)
+        → Represents a (memory text set pending′ calls callEnds stack definitions tableEnds streams owners wrap errors output) (sourceSet x m) (withSource y s)
     unfolding withSource
     with-source h e-pending =
         record {
+          set = r .set;
           source = h;
           marks = r .marks;
           marks-good = r .marks-good;
@@ -78,10 +79,11 @@ module _
 
     pub with-calls :
         {calls′ : Bytes} {callEnds′ : List ℕ} {stack′ : List ℕ} {x : Calls} {y : List Call} → CallsIn calls′ callEnds′ stack′ x y → length calls′ ≡ length calls → length callEnds′ ≡ length callEnds → length stack′ ≡ length stack
-        → Represents a (memory text pending calls′ callEnds′ stack′ definitions tableEnds streams owners wrap errors output) (callsSet x m) (withCalls y s)
+        → Represents a (memory text set pending calls′ callEnds′ stack′ definitions tableEnds streams owners wrap errors output) (callsSet x m) (withCalls y s)
     unfolding withCalls
     with-calls h e-calls e-callEnds e-stack =
         record {
+          set = r .set;
           source = r .source;
           marks = r .marks;
           marks-good = r .marks-good;
@@ -95,10 +97,11 @@ module _
 
     pub with-table :
         {definitions′ : Bytes} {tableEnds′ : List ℕ} {x : Definitions} {y : Table} → TableIn definitions′ tableEnds′ (x .packed) (x .own) y → length definitions′ ≡ length definitions → length tableEnds′ ≡ length tableEnds
-        → Represents a (memory text pending calls callEnds stack definitions′ tableEnds′ streams owners wrap errors output) (tableSet x m) (withTable y s)
+        → Represents a (memory text set pending calls callEnds stack definitions′ tableEnds′ streams owners wrap errors output) (tableSet x m) (withTable y s)
     unfolding withTable
     with-table h e-definitions e-tableEnds =
         record {
+          set = r .set;
           source = r .source;
           marks = r .marks;
           marks-good = r .marks-good;
@@ -112,10 +115,11 @@ module _
 
     pub with-sinks :
         {streams′ : Bytes} {owners′ : List ℕ} {output′ : Bytes} {x : Sinks} {y : Streams} → SinksIn streams′ owners′ output′ x y → length streams′ ≡ length streams → length owners′ ≡ length owners → length output′ ≡ length output
-        → Represents a (memory text pending calls callEnds stack definitions tableEnds streams′ owners′ wrap errors output′) (sinksSet x m) (withStreams y s)
+        → Represents a (memory text set pending calls callEnds stack definitions tableEnds streams′ owners′ wrap errors output′) (sinksSet x m) (withStreams y s)
     unfolding withStreams
     with-sinks h e-streams e-owners e-output =
         record {
+          set = r .set;
           source = r .source;
           marks = r .marks;
           marks-good = r .marks-good;
@@ -129,10 +133,11 @@ module _
 
     pub with-wrap :
         {wrap′ : Bytes} {x : ℕ} {y : Bytes} → Front wrap′ x y → length wrap′ ≡ length wrap
-        → Represents a (memory text pending calls callEnds stack definitions tableEnds streams owners wrap′ errors output) (wrapSet x m) (withWrap y s)
+        → Represents a (memory text set pending calls callEnds stack definitions tableEnds streams owners wrap′ errors output) (wrapSet x m) (withWrap y s)
     unfolding withWrap
     with-wrap h e-wrap =
         record {
+          set = r .set;
           source = r .source;
           marks = r .marks;
           marks-good = r .marks-good;
@@ -146,10 +151,11 @@ module _
 
     pub with-errors :
         {errors′ : Bytes} {x : ℕ} {y : Bytes} → Front errors′ x y → length errors′ ≡ length errors
-        → Represents a (memory text pending calls callEnds stack definitions tableEnds streams owners wrap errors′ output) (errorsSet x m) (withErrors y s)
+        → Represents a (memory text set pending calls callEnds stack definitions tableEnds streams owners wrap errors′ output) (errorsSet x m) (withErrors y s)
     unfolding withErrors
     with-errors h e-errors =
         record {
+          set = r .set;
           source = r .source;
           marks = r .marks;
           marks-good = r .marks-good;

@@ -1,5 +1,5 @@
 -- The run loop: one law for its start, one for each way out and one for a turn; and what a call makes of the run.
-use Rattle.rules.proofs.Base.{_≤_, _+_, ℕ, _-_, _<_, suc, zero, _∙_, refl, sym, ap, _≡_, subst, true, Bool, false, List, [], _∷_, arith, length, drop-of-length-le, le-leb, lt-leb}
+use Rattle.rules.proofs.Base.{_≤_, _+_, ℕ, _-_, _<_, suc, zero, _∙_, refl, sym, ap, _≡_, subst, true, Bool, false, some, List, [], _∷_, arith, length, drop-of-length-le, le-leb, lt-leb}
 use mir.Syntax.{w32}
 use mir.Val.{Fits}
 use mir.Facts.{fits-le}
@@ -9,6 +9,7 @@ use Rattle.rules.specs.declared.Report.{Report}
 use Rattle.rules.specs.Bytes.{Bytes}
 use Rattle.rules.specs.Answers.{isFinished, answerNumber}
 use Rattle.rules.specs.State.{State, stop, freshStart, startState}
+use Rattle.rules.specs.Sets.{Item, setItems}
 use Rattle.rules.specs.Step.{step}
 use Rattle.rules.specs.Run.{Setting, lengths, Ended, endedWith, runFrom, allLendable}
 use Rattle.rules.specs.declared.Marks.{Marks}
@@ -107,7 +108,7 @@ nothing-front : (buffer : Bytes) → Front buffer 0 []
 nothing-front buffer = record { text-is = refl; inside = omega arith }
 
 pub started :
-    (a : Setting) (b : Memory) (marks : Marks) (from : ℕ) → markTexts marks ≡ defaultMarks → GoodMarks marks → Limits a b → length (b .pending) ≡ from
+    (a : Setting) (b : Memory) (is : List Item) (marks : Marks) (from : ℕ) → markTexts marks ≡ defaultMarks → GoodMarks marks → Limits a b → setItems (b .set) ≡ some is → length (b .pending) ≡ from
     → Represents a b (record {
       marks = marks;
       source = record { from = from; taken = 0 };
@@ -116,11 +117,12 @@ pub started :
       sinks = record { current = 0; waiting = 0; output = 0 };
       wrap = 0;
       errors = 0;
-    }) (startState (freshStart (b .text)))
+    }) (startState is (freshStart (b .text) (b .set)))
 unfolding startState freshStart sourceOf emptyStreams openStrings endsFrom joined Stacked signedValue
-started a b marks from e g l q =
+started a b is marks from e g l i q =
     let h : length (b .pending) ≤ from = omega arith in
     record {
+      set = i;
       source =
           record {
             from-in = omega arith;
@@ -149,8 +151,7 @@ started a b marks from e g l q =
 -- ---- the loop
 
 pub begun :
-    {a : Setting} {b : Memory} {m : Machine} (budget : ℕ) → Represents a b m (startState (freshStart (b .text)))
-    → Running a b m budget 0 (runFrom (lengths a) budget 0 (startState (freshStart (b .text))))
+    {a : Setting} {b : Memory} {m : Machine} {s : State} (budget : ℕ) → Represents a b m s → Running a b m budget 0 (runFrom (lengths a) budget 0 s)
 begun budget m = record { state = _; represents = m; so-far = refl }
 
 one-more :

@@ -46,21 +46,21 @@ front-over : {buffer : Bytes} {n : ℕ} {w : Bytes} (x : Bytes) → Front buffer
 front-over {w = w} x f h = omega (arith, length-append w x, front-long f, f .inside)
 
 module _
-    {a : Setting} {text pending calls : Bytes} {callEnds stack : List ℕ} {definitions : Bytes} {tableEnds : List ℕ} {streams : Bytes} {owners : List ℕ}
+    {a : Setting} {text set pending calls : Bytes} {callEnds stack : List ℕ} {definitions : Bytes} {tableEnds : List ℕ} {streams : Bytes} {owners : List ℕ}
     {wrap errors output : Bytes} {m : Machine} {s : State}
-    (r : Represents a (memory text pending calls callEnds stack definitions tableEnds streams owners wrap errors output) m s) (args : List Bytes) {t : Stepped}
+    (r : Represents a (memory text set pending calls callEnds stack definitions tableEnds streams owners wrap errors output) m s) (args : List Bytes) {t : Stepped}
   where
     pub line-taken :
         {before : Memory} {p : Position} {m′ : Machine} {n : ℕ} → LineEnd (ahead (s .source)) n → (n ≤ length (ahead (s .source)) → SourceIn text pending p (advance n (s .source)))
-        → m′ ≡ sourceSet p m → t ≡ stepped progress.On m′ → Refines a before (callDnl args s) (memory text pending calls callEnds stack definitions tableEnds streams owners wrap errors output) t
+        → m′ ≡ sourceSet p m → t ≡ stepped progress.On m′ → Refines a before (callDnl args s) (memory text set pending calls callEnds stack definitions tableEnds streams owners wrap errors output) t
     unfolding callDnl taking
     line-taken l f k e = stepped-on (with-source r (f (l .within)) refl) (ap (λ (n : ℕ). next (taking n s)) (sym (l .line))) (e ∙ ap (stepped progress.On) k)
 
     module _ {x : Bytes} (e : x ≡ arg 1 args) where
       pub wrap-full :
           length wrap - m .wrap < length x → t ≡ stepped (progress.Refused (answer.Room 5)) m
-          → Refines a (memory text pending calls callEnds stack definitions tableEnds streams owners wrap errors output) (callM4wrap args s)
-          (memory text pending calls callEnds stack definitions tableEnds streams owners wrap errors output) t
+          → Refines a (memory text set pending calls callEnds stack definitions tableEnds streams owners wrap errors output) (callM4wrap args s)
+          (memory text set pending calls callEnds stack definitions tableEnds streams owners wrap errors output) t
       unfolding callM4wrap withWrap
       wrap-full h f =
           let u = withWrap (s .wrap ++ x) s in
@@ -70,15 +70,15 @@ module _
 
       pub wrap-more :
           {before : Memory} {wrap′ : Bytes} {m′ : Machine} → Filled wrap (m .wrap) x wrap′ → m′ ≡ wrapSet (m .wrap + length x) m → t ≡ stepped progress.On m′
-          → Refines a before (callM4wrap args s) (memory text pending calls callEnds stack definitions tableEnds streams owners wrap′ errors output) t
+          → Refines a before (callM4wrap args s) (memory text set pending calls callEnds stack definitions tableEnds streams owners wrap′ errors output) t
       unfolding callM4wrap
       wrap-more g k f = stepped-on (with-wrap r (front-more (r .wrap) g) (filled-long g)) (rw e) (f ∙ ap (stepped progress.On) k)
 
     module _ {x : Bytes} (e : x ≡ separated 32 args) {n : ℕ} (l : n ≡ length x) where
       pub errors-full :
           length errors - m .errors < n → t ≡ stepped (progress.Refused (answer.Room 6)) m
-          → Refines a (memory text pending calls callEnds stack definitions tableEnds streams owners wrap errors output) (callErrprint args s)
-          (memory text pending calls callEnds stack definitions tableEnds streams owners wrap errors output) t
+          → Refines a (memory text set pending calls callEnds stack definitions tableEnds streams owners wrap errors output) (callErrprint args s)
+          (memory text set pending calls callEnds stack definitions tableEnds streams owners wrap errors output) t
       unfolding callErrprint withErrors
       errors-full h f =
           let u = withErrors (s .errors ++ x) s in
@@ -88,7 +88,7 @@ module _
 
       pub errors-more :
           {before : Memory} {errors′ : Bytes} {m′ : Machine} → Filled errors (m .errors) x errors′ → m′ ≡ errorsSet (m .errors + n) m → t ≡ stepped progress.On m′
-          → Refines a before (callErrprint args s) (memory text pending calls callEnds stack definitions tableEnds streams owners wrap errors′ output) t
+          → Refines a before (callErrprint args s) (memory text set pending calls callEnds stack definitions tableEnds streams owners wrap errors′ output) t
       unfolding callErrprint
       errors-more g k f =
           stepped-on (with-errors r (front-more (r .errors) g) (filled-long g)) (rw e)
@@ -97,8 +97,8 @@ module _
     module _ {c : Natural} (e : c ≡ naturalOf (bounded 0 255 (numberOr (pos 0) 1 args))) where
       pub exit-refused :
           c ≡ natural.NoNumber → t ≡ stepped (progress.Refused answer.Number) m
-          → Refines a (memory text pending calls callEnds stack definitions tableEnds streams owners wrap errors output) (callM4exit args s)
-          (memory text pending calls callEnds stack definitions tableEnds streams owners wrap errors output) t
+          → Refines a (memory text set pending calls callEnds stack definitions tableEnds streams owners wrap errors output) (callM4exit args s)
+          (memory text set pending calls callEnds stack definitions tableEnds streams owners wrap errors output) t
       unfolding callM4exit faultAnswer
       exit-refused h f =
           let q : bounded 0 255 (numberOr (pos 0) 1 args) ≡ none = reads-none e h in
@@ -107,7 +107,7 @@ module _
       pub exited :
           {before : Memory} {m′ m″ : Machine} (code : ℕ) → c ≡ natural.Number code → m′ ≡ sinksSet (record { current = m .sinks .current; waiting = 0; output = m .sinks .output }) m
           → m″ ≡ wrapSet 0 m′ → t ≡ stepped (progress.Ended (answer.Exit code)) m″
-          → Refines a before (callM4exit args s) (memory text pending calls callEnds stack definitions tableEnds streams owners wrap errors output) t
+          → Refines a before (callM4exit args s) (memory text set pending calls callEnds stack definitions tableEnds streams owners wrap errors output) t
       unfolding callM4exit changing changedInTurn changed endingAnswer droppedStreams
       exited code h j k f =
           let q : bounded 0 255 (numberOr (pos 0) 1 args) ≡ some code = reads-some e code h in

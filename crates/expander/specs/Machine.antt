@@ -2,8 +2,10 @@
 use Prim.Native.Nat.{ℕ, _+_, _-_, _≤_}
 use mathlib.Core.Path.{_≡_}
 use mathlib.Core.List.{List}
+use mathlib.Core.Option.{some}
 use lib.ListN.{length}
 use Rattle.rules.specs.Bytes.{Bytes}
+use Rattle.rules.specs.Sets.{setItems}
 use Rattle.rules.specs.Marks.{markTexts}
 use Rattle.rules.specs.State.{State, Outcome}
 use Rattle.rules.specs.Run.{Setting, lengths}
@@ -25,10 +27,11 @@ use Rattle.expander.specs.Sinks.{SinksIn}
 use Rattle.expander.specs.Front.{Front}
 use Rattle.expander.specs.Verdict.{Verdict, going, over, denied, verdict}
 
--- the lent buffers, and the links and texts beside them that belong to the run. `errors` and `output` are the run's own, as long as the
+-- the text and the set, the lent buffers, and the links and texts beside them that belong to the run. `errors` and `output` are the run's own, as long as the
 -- lent ones, which are written only when the run has finished
 pub record Memory : Type 0 where
   pub text : Bytes
+  pub set : Bytes
   pub pending : Bytes
   pub calls : Bytes
   pub callEnds : List ℕ
@@ -42,10 +45,11 @@ pub record Memory : Type 0 where
   pub output : Bytes
 
 abbrev pub memory :
-    Bytes → Bytes → Bytes → List ℕ → List ℕ → Bytes → List ℕ → Bytes → List ℕ → Bytes → Bytes → Bytes → Memory
-memory text pending calls callEnds stack definitions tableEnds streams owners wrap errors output =
+    Bytes → Bytes → Bytes → Bytes → List ℕ → List ℕ → Bytes → List ℕ → Bytes → List ℕ → Bytes → Bytes → Bytes → Memory
+memory text set pending calls callEnds stack definitions tableEnds streams owners wrap errors output =
     record {
       text = text;
+      set = set;
       pending = pending;
       calls = calls;
       callEnds = callEnds;
@@ -62,39 +66,47 @@ memory text pending calls callEnds stack definitions tableEnds streams owners wr
 -- the memory with some of its parts replaced: a function is lent these, and its promise holds whatever the others hold
 abbrev pub textAt : Bytes → Memory → Memory
 textAt text b =
-    memory text (b .pending) (b .calls) (b .callEnds) (b .stack) (b .definitions) (b .tableEnds) (b .streams) (b .owners) (b .wrap) (b .errors) (b .output)
+    memory text (b .set) (b .pending) (b .calls) (b .callEnds) (b .stack) (b .definitions) (b .tableEnds) (b .streams) (b .owners) (b .wrap) (b .errors) (b .output)
+
+abbrev pub inputAt : Bytes → Bytes → Memory → Memory
+inputAt text set b =
+    memory text set (b .pending) (b .calls) (b .callEnds) (b .stack) (b .definitions) (b .tableEnds) (b .streams) (b .owners) (b .wrap) (b .errors) (b .output)
+
+abbrev pub setAt : Bytes → Memory → Memory
+setAt set b =
+    memory (b .text) set (b .pending) (b .calls) (b .callEnds) (b .stack) (b .definitions) (b .tableEnds) (b .streams) (b .owners) (b .wrap) (b .errors) (b .output)
 
 abbrev pub pendingAt : Bytes → Memory → Memory
 pendingAt pending b =
-    memory (b .text) pending (b .calls) (b .callEnds) (b .stack) (b .definitions) (b .tableEnds) (b .streams) (b .owners) (b .wrap) (b .errors) (b .output)
+    memory (b .text) (b .set) pending (b .calls) (b .callEnds) (b .stack) (b .definitions) (b .tableEnds) (b .streams) (b .owners) (b .wrap) (b .errors) (b .output)
 
 abbrev pub stringsAt : Bytes → List ℕ → Memory → Memory
 stringsAt calls callEnds b =
-    memory (b .text) (b .pending) calls callEnds (b .stack) (b .definitions) (b .tableEnds) (b .streams) (b .owners) (b .wrap) (b .errors) (b .output)
+    memory (b .text) (b .set) (b .pending) calls callEnds (b .stack) (b .definitions) (b .tableEnds) (b .streams) (b .owners) (b .wrap) (b .errors) (b .output)
 
 abbrev pub stackAt : List ℕ → Memory → Memory
 stackAt stack b =
-    memory (b .text) (b .pending) (b .calls) (b .callEnds) stack (b .definitions) (b .tableEnds) (b .streams) (b .owners) (b .wrap) (b .errors) (b .output)
+    memory (b .text) (b .set) (b .pending) (b .calls) (b .callEnds) stack (b .definitions) (b .tableEnds) (b .streams) (b .owners) (b .wrap) (b .errors) (b .output)
 
 abbrev pub callsAt : Bytes → List ℕ → List ℕ → Memory → Memory
 callsAt calls callEnds stack b =
-    memory (b .text) (b .pending) calls callEnds stack (b .definitions) (b .tableEnds) (b .streams) (b .owners) (b .wrap) (b .errors) (b .output)
+    memory (b .text) (b .set) (b .pending) calls callEnds stack (b .definitions) (b .tableEnds) (b .streams) (b .owners) (b .wrap) (b .errors) (b .output)
 
 abbrev pub definitionsAt : Bytes → List ℕ → Memory → Memory
 definitionsAt definitions tableEnds b =
-    memory (b .text) (b .pending) (b .calls) (b .callEnds) (b .stack) definitions tableEnds (b .streams) (b .owners) (b .wrap) (b .errors) (b .output)
+    memory (b .text) (b .set) (b .pending) (b .calls) (b .callEnds) (b .stack) definitions tableEnds (b .streams) (b .owners) (b .wrap) (b .errors) (b .output)
 
 abbrev pub sinksAt : Bytes → List ℕ → Bytes → Memory → Memory
 sinksAt streams owners output b =
-    memory (b .text) (b .pending) (b .calls) (b .callEnds) (b .stack) (b .definitions) (b .tableEnds) streams owners (b .wrap) (b .errors) output
+    memory (b .text) (b .set) (b .pending) (b .calls) (b .callEnds) (b .stack) (b .definitions) (b .tableEnds) streams owners (b .wrap) (b .errors) output
 
 abbrev pub wrapAt : Bytes → Memory → Memory
 wrapAt wrap b =
-    memory (b .text) (b .pending) (b .calls) (b .callEnds) (b .stack) (b .definitions) (b .tableEnds) (b .streams) (b .owners) wrap (b .errors) (b .output)
+    memory (b .text) (b .set) (b .pending) (b .calls) (b .callEnds) (b .stack) (b .definitions) (b .tableEnds) (b .streams) (b .owners) wrap (b .errors) (b .output)
 
 abbrev pub errorsAt : Bytes → Memory → Memory
 errorsAt errors b =
-    memory (b .text) (b .pending) (b .calls) (b .callEnds) (b .stack) (b .definitions) (b .tableEnds) (b .streams) (b .owners) (b .wrap) errors (b .output)
+    memory (b .text) (b .set) (b .pending) (b .calls) (b .callEnds) (b .stack) (b .definitions) (b .tableEnds) (b .streams) (b .owners) (b .wrap) errors (b .output)
 
 -- how much is lent, and how long the links are
 pub record Limits (a : Setting) (b : Memory) : Type 0 where
@@ -120,6 +132,7 @@ pub record Limits (a : Setting) (b : Memory) : Type 0 where
 
 -- with the lengths of the setting a lent, the memory b and the machine m represent the state s, part by part
 pub record Represents (a : Setting) (b : Memory) (m : Machine) (s : State) : Type 0 where
+  pub set : setItems (b .set) ≡ some (s .set)
   pub source : SourceIn (b .text) (b .pending) (m .source) (s .source)
   pub marks : s .marks ≡ markTexts (m .marks)
   pub marks-good : GoodMarks (m .marks)

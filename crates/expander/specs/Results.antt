@@ -1,13 +1,13 @@
 -- What the functions that work out results answer: a number to be written, a part of buffer 2, or a length.
 use Prim.Native.Nat.{_-_, _≤_}
 use mathlib.Core.Path.{_≡_}
-use mathlib.Core.Bool.{true}
-use mathlib.Core.List.{List}
+use mathlib.Core.Bool.{Bool, true, false}
+use mathlib.Core.List.{List, []}
 use lib.IntN.{pos}
 use lib.ListN.{length, take, drop}
 use Rattle.rules.specs.declared.Evaluated.{Evaluated}
 use Rattle.rules.specs.Bytes.{Bytes}
-use Rattle.rules.specs.Answers.{noNumber, noExpression, divisor}
+use Rattle.rules.specs.Answers.{noNumber, noExpression, divisor, noItem}
 use Rattle.rules.specs.Words.{largest, signedValue}
 use Rattle.rules.specs.Numerals.{writtenIn}
 use Rattle.rules.specs.Results.{Result, yields, fails, needing, shownResult}
@@ -47,6 +47,11 @@ PartInside bytes part-result.NoNumber = Unit {0}
 pub record ShowsPart (bytes : Bytes) (w : Result) (c : PartResult) : Type 0 where
   pub is : w ≡ resultOfPart bytes c
   pub inside : PartInside bytes c
+
+-- what an item gives that is not in the set, where it is needed and where it is not
+unfoldable pub unknown : Bool → Result
+unknown true = fails noItem
+unknown false = yields []
 
 -- eval's result from a value that could be read
 unfoldable pub readResult : Evaluated → List Bytes → Result

@@ -3,10 +3,12 @@ use Prim.Native.Nat.{ℕ, _+_, _-_, _≤_, _<_}
 use mathlib.Core.Path.{_≡_}
 use mathlib.Core.Bool.{true, false}
 use mathlib.Core.List.{List}
+use mathlib.Core.Option.{some}
 use lib.ListN.{length, replicate}
 use Rattle.rules.specs.declared.Answer.{Answer}
 use Rattle.rules.specs.declared.Report.{Report}
 use Rattle.rules.specs.Bytes.{Bytes}
+use Rattle.rules.specs.Sets.{Item, setItems}
 use Rattle.rules.specs.Answers.{isFinished}
 use Rattle.rules.specs.State.{State}
 use Rattle.rules.specs.Run.{Setting, Ended, lengths, runFrom}
@@ -22,10 +24,12 @@ use Rattle.expander.specs.Events.{SpecialWithin, SpecialIs}
 use Rattle.expander.specs.Front.{Front}
 use Rattle.expander.specs.Machine.{Memory, Limits, Represents}
 
--- there are limits: what the run asks
+-- there are limits, and the set is good: what the run asks
 pub record Roomy (b : Memory) : Type 0 where
   pub setting : Setting
   pub limits : Limits setting b
+  pub items : List Item
+  pub items-are : setItems (b .set) ≡ some items
 
 -- what the loop has in hand after `count` steps, of which `left` more may follow: the whole run is the run from here
 pub record Running (a : Setting) (b : Memory) (m : Machine) (left count : ℕ) (whole : Ended) : Type 0 where

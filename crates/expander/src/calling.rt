@@ -21,7 +21,7 @@ ghost use lib.ListN.{length, take};
 ghost use Rattle.rules.specs.State.{State, Call, taking};
 ghost use Rattle.rules.specs.Run.{Setting};
 ghost use Rattle.rules.specs.Source.{ahead};
-ghost use Rattle.expander.specs.Machine.{Memory, Represents, Refines, Valid, Reach, textAt, pendingAt, stringsAt, callsAt, definitionsAt, sinksAt, wrapAt, errorsAt};
+ghost use Rattle.expander.specs.Machine.{Memory, Represents, Refines, Valid, Reach, inputAt, pendingAt, stringsAt, callsAt, definitionsAt, sinksAt, wrapAt, errorsAt};
 ghost use Rattle.rules.specs.Step.{closed};
 ghost use Rattle.rules.specs.Macros.{called};
 ghost use Rattle.rules.specs.Table.{Meaning as TableMeaning};
@@ -30,6 +30,7 @@ ghost use Rattle.expander.specs.Events.{ValidName};
 // The name of n bytes ahead, which means something, is called without arguments.
 pub(crate) fn bare(
     text: &[u8],
+    set: &[u8],
     pending: &mut [u8],
     calls: &[u8],
     ends: &[u32],
@@ -45,10 +46,10 @@ pub(crate) fn bare(
     n: usize,
     meaning: Meaning,
 ) -> Stepped
-    requires { ⌜ ValidName (λ b. textAt (now text) (pendingAt (now pending) (stringsAt (now calls) (now ends) (definitionsAt (now definitions) (now «table_ends») (sinksAt (now streams) (now owners) (now output) (wrapAt (now wrap) (errorsAt (now errors) b))))))) m n meaning ⌝ }
+    requires { ⌜ ValidName (λ b. inputAt (now text) (now set) (pendingAt (now pending) (stringsAt (now calls) (now ends) (definitionsAt (now definitions) (now «table_ends») (sinksAt (now streams) (now owners) (now output) (wrapAt (now wrap) (errorsAt (now errors) b))))))) m n meaning ⌝ }
     requires { ⌜ Reach (now text) (now pending) (m .source) 0 n n ⌝ }
     requires { ⌜ length (now scratch) ≡ mostLent ⌝ }
-    ensures { λ t. ⌜ ((a : Setting) (s : State) (b : Memory) (w : Option TableMeaning) → Represents a (textAt (now (text .entry)) (pendingAt (now (pending .entry)) (stringsAt (now (calls .entry)) (now (ends .entry)) (definitionsAt (now (definitions .entry)) (now («table_ends» .entry)) (sinksAt (now (streams .entry)) (now (owners .entry)) (now (output .entry)) (wrapAt (now (wrap .entry)) (errorsAt (now (errors .entry)) b))))))) m s → Finds (s .table .definitions) w meaning → Refines a (textAt (now (text .entry)) (pendingAt (now (pending .entry)) (stringsAt (now (calls .entry)) (now (ends .entry)) (definitionsAt (now (definitions .entry)) (now («table_ends» .entry)) (sinksAt (now (streams .entry)) (now (owners .entry)) (now (output .entry)) (wrapAt (now (wrap .entry)) (errorsAt (now (errors .entry)) b))))))) (called w (take n (ahead (s .source))) [] (taking n s)) (textAt (now (text .entry)) (pendingAt (now (pending .exit)) (stringsAt (now (calls .entry)) (now (ends .entry)) (definitionsAt (now (definitions .exit)) (now («table_ends» .exit)) (sinksAt (now (streams .exit)) (now (owners .exit)) (now (output .exit)) (wrapAt (now (wrap .exit)) (errorsAt (now (errors .exit)) b))))))) t) ⌝ }
+    ensures { λ t. ⌜ ((a : Setting) (s : State) (b : Memory) (w : Option TableMeaning) → Represents a (inputAt (now (text .entry)) (now (set .entry)) (pendingAt (now (pending .entry)) (stringsAt (now (calls .entry)) (now (ends .entry)) (definitionsAt (now (definitions .entry)) (now («table_ends» .entry)) (sinksAt (now (streams .entry)) (now (owners .entry)) (now (output .entry)) (wrapAt (now (wrap .entry)) (errorsAt (now (errors .entry)) b))))))) m s → Finds (s .table .definitions) w meaning → Refines a (inputAt (now (text .entry)) (now (set .entry)) (pendingAt (now (pending .entry)) (stringsAt (now (calls .entry)) (now (ends .entry)) (definitionsAt (now (definitions .entry)) (now («table_ends» .entry)) (sinksAt (now (streams .entry)) (now (owners .entry)) (now (output .entry)) (wrapAt (now (wrap .entry)) (errorsAt (now (errors .entry)) b))))))) (called w (take n (ahead (s .source))) [] (taking n s)) (inputAt (now (text .entry)) (now (set .entry)) (pendingAt (now (pending .exit)) (stringsAt (now (calls .entry)) (now (ends .entry)) (definitionsAt (now (definitions .exit)) (now («table_ends» .exit)) (sinksAt (now (streams .exit)) (now (owners .exit)) (now (output .exit)) (wrapAt (now (wrap .exit)) (errorsAt (now (errors .exit)) b))))))) t) ⌝ }
 {
     let strings = m.calls.strings;
     let base = strings.count;
@@ -101,6 +102,7 @@ pub(crate) fn bare(
                 let after = m.with_source(to);
                 macros::perform(
                     text,
+                    set,
                     pending,
                     calls,
                     ends,
@@ -125,6 +127,7 @@ pub(crate) fn bare(
 // The innermost call is closed, and made with the definition in force now.
 pub(crate) fn close(
     text: &[u8],
+    set: &[u8],
     pending: &mut [u8],
     calls: &[u8],
     ends: &[u32],
@@ -139,10 +142,10 @@ pub(crate) fn close(
     scratch: &mut [u8],
     m: Machine,
 ) -> Stepped
-    requires { ⌜ Valid (λ b. textAt (now text) (pendingAt (now pending) (callsAt (now calls) (now ends) (now stack) (definitionsAt (now definitions) (now «table_ends») (sinksAt (now streams) (now owners) (now output) (wrapAt (now wrap) (errorsAt (now errors) b))))))) m ⌝ }
+    requires { ⌜ Valid (λ b. inputAt (now text) (now set) (pendingAt (now pending) (callsAt (now calls) (now ends) (now stack) (definitionsAt (now definitions) (now «table_ends») (sinksAt (now streams) (now owners) (now output) (wrapAt (now wrap) (errorsAt (now errors) b))))))) m ⌝ }
     requires { ⌜ 0 < m .calls .opens ⌝ }
     requires { ⌜ length (now scratch) ≡ mostLent ⌝ }
-    ensures { λ t. ⌜ ((a : Setting) (s : State) (b : Memory) (c : Call) (cs : List Call) → Represents a (textAt (now (text .entry)) (pendingAt (now (pending .entry)) (callsAt (now (calls .entry)) (now (ends .entry)) (now (stack .entry)) (definitionsAt (now (definitions .entry)) (now («table_ends» .entry)) (sinksAt (now (streams .entry)) (now (owners .entry)) (now (output .entry)) (wrapAt (now (wrap .entry)) (errorsAt (now (errors .entry)) b))))))) m s → s .calls ≡ c ∷ cs → Refines a (textAt (now (text .entry)) (pendingAt (now (pending .entry)) (callsAt (now (calls .entry)) (now (ends .entry)) (now (stack .entry)) (definitionsAt (now (definitions .entry)) (now («table_ends» .entry)) (sinksAt (now (streams .entry)) (now (owners .entry)) (now (output .entry)) (wrapAt (now (wrap .entry)) (errorsAt (now (errors .entry)) b))))))) (closed c cs s) (textAt (now (text .entry)) (pendingAt (now (pending .exit)) (callsAt (now (calls .entry)) (now (ends .entry)) (now (stack .entry)) (definitionsAt (now (definitions .exit)) (now («table_ends» .exit)) (sinksAt (now (streams .exit)) (now (owners .exit)) (now (output .exit)) (wrapAt (now (wrap .exit)) (errorsAt (now (errors .exit)) b))))))) t) ⌝ }
+    ensures { λ t. ⌜ ((a : Setting) (s : State) (b : Memory) (c : Call) (cs : List Call) → Represents a (inputAt (now (text .entry)) (now (set .entry)) (pendingAt (now (pending .entry)) (callsAt (now (calls .entry)) (now (ends .entry)) (now (stack .entry)) (definitionsAt (now (definitions .entry)) (now («table_ends» .entry)) (sinksAt (now (streams .entry)) (now (owners .entry)) (now (output .entry)) (wrapAt (now (wrap .entry)) (errorsAt (now (errors .entry)) b))))))) m s → s .calls ≡ c ∷ cs → Refines a (inputAt (now (text .entry)) (now (set .entry)) (pendingAt (now (pending .entry)) (callsAt (now (calls .entry)) (now (ends .entry)) (now (stack .entry)) (definitionsAt (now (definitions .entry)) (now («table_ends» .entry)) (sinksAt (now (streams .entry)) (now (owners .entry)) (now (output .entry)) (wrapAt (now (wrap .entry)) (errorsAt (now (errors .entry)) b))))))) (closed c cs s) (inputAt (now (text .entry)) (now (set .entry)) (pendingAt (now (pending .exit)) (callsAt (now (calls .entry)) (now (ends .entry)) (now (stack .entry)) (definitionsAt (now (definitions .exit)) (now («table_ends» .exit)) (sinksAt (now (streams .exit)) (now (owners .exit)) (now (output .exit)) (wrapAt (now (wrap .exit)) (errorsAt (now (errors .exit)) b))))))) t) ⌝ }
 {
     let strings = m.calls.strings;
     let first = calls::first_string(stack, m.calls);
@@ -198,6 +201,7 @@ pub(crate) fn close(
                 let after = m.with_calls(left);
                 macros::perform(
                     text,
+                    set,
                     pending,
                     calls,
                     ends,

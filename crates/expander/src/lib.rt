@@ -13,6 +13,7 @@ mod diverting;
 mod dnl;
 mod events;
 mod giving;
+mod including;
 mod limits;
 mod lists;
 mod machine;
@@ -42,15 +43,30 @@ use rules::Report;
 ghost use mathlib.Core.Path.{_≡_};
 ghost use mathlib.Core.List.{[], _∷_};
 ghost use lib.ListN.{length};
-ghost use Rattle.rules.specs.State.{freshStart, startState};
-ghost use Rattle.rules.specs.Run.{lengths, runFrom, allLendable};
+ghost use Rattle.rules.specs.Sets.{setItems};
+ghost use Rattle.rules.specs.State.{freshStart};
+ghost use Rattle.rules.specs.Run.{allLendable, started};
 ghost use Rattle.rules.specs.Contract.{settingOf, Expanded};
 ghost use Rattle.expander.specs.Limits.{mostLent};
 ghost use Rattle.expander.specs.Run.{Lent, LinkLengths, Wrote, Zeroed};
 
-// The run over links and texts of its own, with what it wrote copied out. Of error text and output it gets as much as is lent.
+// The report of a call that is refused before its first step.
+fn not_started(answer: Answer) -> Report
+    ensures { λ r. ⌜ r ≡ record { answer = answer; steps = 0; place = 0; output = 0; errors = 0 } ⌝ }
+{
+    Report {
+        answer,
+        steps: 0,
+        place: 0,
+        output: 0,
+        errors: 0,
+    }
+}
+
+// The run over links and texts of its own, with what it wrote copied out, if the set is good. Of error text and output it gets as much as is lent.
 fn work(
     text: &[u8],
+    set: &[u8],
     pending: &mut [u8],
     calls: &mut [u8],
     definitions: &mut [u8],
@@ -61,8 +77,11 @@ fn work(
     budget: u32,
 ) -> Report
     requires { ⌜ Lent (length (now text)) (length (now pending)) (length (now calls)) (length (now definitions)) (length (now streams)) (length (now wrap)) (length (now errors)) (length (now output)) ⌝ }
-    ensures { λ r. ⌜ Wrote (runFrom (lengths (settingOf (record { pending = now (pending .entry); calls = now (calls .entry); definitions = now (definitions .entry); streams = now (streams .entry); wrap = now (wrap .entry); errors = now (errors .entry); output = now (output .entry) }) budget)) budget 0 (startState (freshStart (now (text .entry))))) (now (errors .entry)) (now (output .entry)) (now (errors .exit)) (now (output .exit)) r ⌝ }
+    ensures { λ r. ⌜ Wrote (started (setItems (now (set .entry))) (freshStart (now (text .entry)) (now (set .entry))) (settingOf (record { pending = now (pending .entry); calls = now (calls .entry); definitions = now (definitions .entry); streams = now (streams .entry); wrap = now (wrap .entry); errors = now (errors .entry); output = now (output .entry) }) budget)) (now (errors .entry)) (now (output .entry)) (now (errors .exit)) (now (output .exit)) r ⌝ }
 {
+    if !container::is_good(set) {
+        return not_started(Answer::BadSet);
+    }
     let mut ends = [0u32; CALL_ENDS];
     let mut stack = [0u32; STACK];
     let mut table_ends = [0u32; TABLE_ENDS];
@@ -74,6 +93,7 @@ fn work(
     let most_errors = errors.len();
     let h = run::run(
         text,
+        set,
         pending,
         calls,
         &mut ends,
@@ -138,9 +158,10 @@ fn lendable(t: usize, a: usize, b: usize, c: usize, d: usize, e: usize, f: usize
     true
 }
 
-// Expands a text in lent buffers, under a budget of steps.
+// Expands a text in lent buffers, under a budget of steps. What it includes is in the set.
 pub fn expand(
     text: &[u8],
+    set: &[u8],
     pending: &mut [u8],
     calls: &mut [u8],
     definitions: &mut [u8],
@@ -150,7 +171,7 @@ pub fn expand(
     output: &mut [u8],
     budget: u32,
 ) -> Report
-    ensures { λ r. ⌜ Expanded (now (text .entry)) budget (record { pending = now (pending .entry); calls = now (calls .entry); definitions = now (definitions .entry); streams = now (streams .entry); wrap = now (wrap .entry); errors = now (errors .entry); output = now (output .entry) }) (record { pending = now (pending .exit); calls = now (calls .exit); definitions = now (definitions .exit); streams = now (streams .exit); wrap = now (wrap .exit); errors = now (errors .exit); output = now (output .exit) }) r ⌝ }
+    ensures { λ r. ⌜ Expanded (now (text .entry)) (now (set .entry)) budget (record { pending = now (pending .entry); calls = now (calls .entry); definitions = now (definitions .entry); streams = now (streams .entry); wrap = now (wrap .entry); errors = now (errors .entry); output = now (output .entry) }) (record { pending = now (pending .exit); calls = now (calls .exit); definitions = now (definitions .exit); streams = now (streams .exit); wrap = now (wrap .exit); errors = now (errors .exit); output = now (output .exit) }) r ⌝ }
 {
     if lendable(
         text.len(),
@@ -164,6 +185,7 @@ pub fn expand(
     ) {
         let r = work(
             text,
+            set,
             pending,
             calls,
             definitions,
@@ -176,11 +198,5 @@ pub fn expand(
         clear_five(pending, calls, definitions, streams, wrap);
         return r;
     }
-    Report {
-        answer: Answer::Lend,
-        steps: 0,
-        place: 0,
-        output: 0,
-        errors: 0,
-    }
+    not_started(Answer::Lend)
 }

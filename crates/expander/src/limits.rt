@@ -17,7 +17,7 @@ pub(crate) const STACK: usize = 3 * MOST_CALLS;
 pub(crate) const TABLE_ENDS: usize = 2 * MOST_LENT;
 
 // The predefined macros, and the mask in which each keeps its own meaning.
-const MACROS: u32 = 24;
+const MACROS: u32 = 26;
 
 pub(crate) const ALL_OWN: u32 = (1 << MACROS) - 1;
 

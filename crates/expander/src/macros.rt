@@ -7,6 +7,7 @@ use crate::diverting;
 use crate::dnl;
 use crate::giving;
 use crate::giving::Pushed;
+use crate::including;
 use crate::machine::Machine;
 use crate::machine::Stepped;
 use crate::number_results;
@@ -26,7 +27,7 @@ ghost use Rattle.rules.specs.State.{State};
 ghost use Rattle.rules.specs.Run.{Setting};
 ghost use Rattle.expander.specs.Limits.{mostLent};
 ghost use Rattle.expander.specs.Arguments.{ArgumentsIn, SomeArguments};
-ghost use Rattle.expander.specs.Machine.{Memory, Represents, Refines, Valid, ValidAt, textAt, pendingAt, stringsAt, definitionsAt, sinksAt, wrapAt, errorsAt, sourceSet, marksSet, tableSet};
+ghost use Rattle.expander.specs.Machine.{Memory, Represents, Refines, Valid, ValidAt, inputAt, pendingAt, stringsAt, definitionsAt, sinksAt, wrapAt, errorsAt, sourceSet, marksSet, tableSet};
 ghost use Rattle.expander.specs.declared.machine.Machine.{Machine};
 ghost use Rattle.expander.specs.Giving.{pushedStep};
 ghost use Rattle.rules.specs.Macros.{callIndex};
@@ -130,9 +131,10 @@ pub(crate) fn given(m: Machine, g: Pushed) -> Stepped
     }
 }
 
-// Those that change other things, and divnum, which reads the current stream.
+// Those that change other things; divnum, which reads the current stream; include and sinclude, which read the set.
 pub(crate) fn perform(
     text: &[u8],
+    set: &[u8],
     pending: &mut [u8],
     calls: &[u8],
     ends: &[u32],
@@ -148,9 +150,9 @@ pub(crate) fn perform(
     x: Arguments,
     number: u8,
 ) -> Stepped
-    requires { ⌜ Valid (λ b. textAt (now text) (pendingAt (now pending) (stringsAt (now calls) (now ends) (definitionsAt (now definitions) (now «table_ends») (sinksAt (now streams) (now owners) (now output) (wrapAt (now wrap) (errorsAt (now errors) b))))))) m ⌝ }
+    requires { ⌜ Valid (λ b. inputAt (now text) (now set) (pendingAt (now pending) (stringsAt (now calls) (now ends) (definitionsAt (now definitions) (now «table_ends») (sinksAt (now streams) (now owners) (now output) (wrapAt (now wrap) (errorsAt (now errors) b))))))) m ⌝ }
     requires { ⌜ SomeArguments (now calls) (now ends) x × (length (now scratch) ≡ mostLent) ⌝ }
-    ensures { λ t. ⌜ ((a : Setting) (s : State) (b : Memory) (args : List Bytes) → Represents a (textAt (now (text .entry)) (pendingAt (now (pending .entry)) (stringsAt (now (calls .entry)) (now (ends .entry)) (definitionsAt (now (definitions .entry)) (now («table_ends» .entry)) (sinksAt (now (streams .entry)) (now (owners .entry)) (now (output .entry)) (wrapAt (now (wrap .entry)) (errorsAt (now (errors .entry)) b))))))) m s → ArgumentsIn (now (calls .entry)) (now (ends .entry)) x args → Refines a (textAt (now (text .entry)) (pendingAt (now (pending .entry)) (stringsAt (now (calls .entry)) (now (ends .entry)) (definitionsAt (now (definitions .entry)) (now («table_ends» .entry)) (sinksAt (now (streams .entry)) (now (owners .entry)) (now (output .entry)) (wrapAt (now (wrap .entry)) (errorsAt (now (errors .entry)) b))))))) (changeCall (changeOf (builtinAt number)) args s) (textAt (now (text .entry)) (pendingAt (now (pending .exit)) (stringsAt (now (calls .entry)) (now (ends .entry)) (definitionsAt (now (definitions .exit)) (now («table_ends» .exit)) (sinksAt (now (streams .exit)) (now (owners .exit)) (now (output .exit)) (wrapAt (now (wrap .exit)) (errorsAt (now (errors .exit)) b))))))) t) ⌝ }
+    ensures { λ t. ⌜ ((a : Setting) (s : State) (b : Memory) (args : List Bytes) → Represents a (inputAt (now (text .entry)) (now (set .entry)) (pendingAt (now (pending .entry)) (stringsAt (now (calls .entry)) (now (ends .entry)) (definitionsAt (now (definitions .entry)) (now («table_ends» .entry)) (sinksAt (now (streams .entry)) (now (owners .entry)) (now (output .entry)) (wrapAt (now (wrap .entry)) (errorsAt (now (errors .entry)) b))))))) m s → ArgumentsIn (now (calls .entry)) (now (ends .entry)) x args → Refines a (inputAt (now (text .entry)) (now (set .entry)) (pendingAt (now (pending .entry)) (stringsAt (now (calls .entry)) (now (ends .entry)) (definitionsAt (now (definitions .entry)) (now («table_ends» .entry)) (sinksAt (now (streams .entry)) (now (owners .entry)) (now (output .entry)) (wrapAt (now (wrap .entry)) (errorsAt (now (errors .entry)) b))))))) (changeCall (changeOf (builtinAt number)) args s) (inputAt (now (text .entry)) (now (set .entry)) (pendingAt (now (pending .exit)) (stringsAt (now (calls .entry)) (now (ends .entry)) (definitionsAt (now (definitions .exit)) (now («table_ends» .exit)) (sinksAt (now (streams .exit)) (now (owners .exit)) (now (output .exit)) (wrapAt (now (wrap .exit)) (errorsAt (now (errors .exit)) b))))))) t) ⌝ }
 {
     match builtins::change_macro(number) {
         ChangeMacro::Changecom => change_marks::changecom(calls, ends, m, x),
@@ -177,6 +179,14 @@ pub(crate) fn perform(
         ChangeMacro::Divnum => given(
             m,
             giving::give_number_result(pending, m.source, number_results::divnum(m.sinks.current)),
+        ),
+        ChangeMacro::Include => given(
+            m,
+            including::give_contents(set, pending, calls, ends, m.source, x, true),
+        ),
+        ChangeMacro::Sinclude => given(
+            m,
+            including::give_contents(set, pending, calls, ends, m.source, x, false),
         ),
         ChangeMacro::None => m.refused(Answer::Gone),
     }

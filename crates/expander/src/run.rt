@@ -14,6 +14,9 @@ use crate::table::Definitions;
 use rules::Answer;
 ghost use mathlib.Core.Path.{_≡_};
 ghost use lib.ListN.{length};
+ghost use mathlib.Core.List.{List};
+ghost use mathlib.Core.Option.{some};
+ghost use Rattle.rules.specs.Sets.{Item, setItems};
 ghost use Rattle.rules.specs.State.{freshStart, startState};
 ghost use Rattle.rules.specs.Run.{Setting, lengths, runFrom};
 ghost use Rattle.expander.specs.Limits.{mostLent};
@@ -29,7 +32,7 @@ pub(crate) struct Halted {
 
 // The machine at the start of a run, over a buffer for pending text of `from` bytes.
 fn start(from: usize) -> Machine
-    ensures { λ r. ⌜ ((a : Setting) (b : Memory) → Limits a b → length (b .pending) ≡ from → Represents a b r (startState (freshStart (b .text)))) ⌝ }
+    ensures { λ r. ⌜ ((a : Setting) (b : Memory) (is : List Item) → Limits a b → setItems (b .set) ≡ some is → length (b .pending) ≡ from → Represents a b r (startState is (freshStart (b .text) (b .set)))) ⌝ }
 {
     let none = Packed { count: 0, used: 0 };
     Machine {
@@ -53,9 +56,10 @@ fn start(from: usize) -> Machine
     }
 }
 
-// A run of a text. Whatever the answer, memory and machine represent the standing state, which on a refusal is that before the refused step.
+// A run of a text with a good set. Whatever the answer, memory and machine represent the standing state, which on a refusal is that before the refused step.
 pub(crate) fn run(
     text: &[u8],
+    set: &[u8],
     pending: &mut [u8],
     calls: &mut [u8],
     ends: &mut [u32],
@@ -70,8 +74,8 @@ pub(crate) fn run(
     scratch: &mut [u8],
     budget: u32,
 ) -> Halted
-    requires { ⌜ Roomy (memory (now text) (now pending) (now calls) (now ends) (now stack) (now definitions) (now «table_ends») (now streams) (now owners) (now wrap) (now errors) (now output)) × (length (now scratch) ≡ mostLent) ⌝ }
-    ensures { λ r. ⌜ ((a : Setting) → Limits a (memory (now (text .entry)) (now (pending .entry)) (now (calls .entry)) (now (ends .entry)) (now (stack .entry)) (now (definitions .entry)) (now («table_ends» .entry)) (now (streams .entry)) (now (owners .entry)) (now (wrap .entry)) (now (errors .entry)) (now (output .entry))) → Leaves a (runFrom (lengths a) budget 0 (startState (freshStart (now (text .entry))))) (memory (now (text .entry)) (now (pending .exit)) (now (calls .exit)) (now (ends .exit)) (now (stack .exit)) (now (definitions .exit)) (now («table_ends» .exit)) (now (streams .exit)) (now (owners .exit)) (now (wrap .exit)) (now (errors .exit)) (now (output .exit))) r) ⌝ }
+    requires { ⌜ Roomy (memory (now text) (now set) (now pending) (now calls) (now ends) (now stack) (now definitions) (now «table_ends») (now streams) (now owners) (now wrap) (now errors) (now output)) × (length (now scratch) ≡ mostLent) ⌝ }
+    ensures { λ r. ⌜ ((a : Setting) (is : List Item) → setItems (now (set .entry)) ≡ some is → Limits a (memory (now (text .entry)) (now (set .entry)) (now (pending .entry)) (now (calls .entry)) (now (ends .entry)) (now (stack .entry)) (now (definitions .entry)) (now («table_ends» .entry)) (now (streams .entry)) (now (owners .entry)) (now (wrap .entry)) (now (errors .entry)) (now (output .entry))) → Leaves a (runFrom (lengths a) budget 0 (startState is (freshStart (now (text .entry)) (now (set .entry))))) (memory (now (text .entry)) (now (set .entry)) (now (pending .exit)) (now (calls .exit)) (now (ends .exit)) (now (stack .exit)) (now (definitions .exit)) (now («table_ends» .exit)) (now (streams .exit)) (now (owners .exit)) (now (wrap .exit)) (now (errors .exit)) (now (output .exit))) r) ⌝ }
 {
     let from = pending.len();
     let mut m = start(from);
@@ -107,6 +111,7 @@ pub(crate) fn run(
             Stop::Special(e) => {
                 let t = special_steps::special_step(
                     text,
+                    set,
                     pending,
                     calls,
                     ends,

@@ -13,7 +13,7 @@ ghost use Rattle.rules.specs.Run.{Setting};
 ghost use Rattle.rules.specs.Step.{atEnd, step};
 ghost use Rattle.expander.specs.Limits.{mostLent};
 ghost use Rattle.expander.specs.Events.{SpecialWithin, SpecialIs, ValidSpecial};
-ghost use Rattle.expander.specs.Machine.{Memory, Represents, Refines, Valid, textAt, pendingAt, callsAt, definitionsAt, sinksAt, wrapAt, errorsAt};
+ghost use Rattle.expander.specs.Machine.{Memory, Represents, Refines, Valid, inputAt, pendingAt, callsAt, definitionsAt, sinksAt, wrapAt, errorsAt};
 
 // Nothing is ahead.
 fn at_end(
@@ -45,6 +45,7 @@ fn at_end(
 // One special step.
 pub(crate) fn special_step(
     text: &[u8],
+    set: &[u8],
     pending: &mut [u8],
     calls: &[u8],
     ends: &[u32],
@@ -60,10 +61,10 @@ pub(crate) fn special_step(
     m: Machine,
     e: Special,
 ) -> Stepped
-    requires { ⌜ ValidSpecial (λ b. textAt (now text) (pendingAt (now pending) (callsAt (now calls) (now ends) (now stack) (definitionsAt (now definitions) (now «table_ends») (sinksAt (now streams) (now owners) (now output) (wrapAt (now wrap) (errorsAt (now errors) b))))))) m e ⌝ }
+    requires { ⌜ ValidSpecial (λ b. inputAt (now text) (now set) (pendingAt (now pending) (callsAt (now calls) (now ends) (now stack) (definitionsAt (now definitions) (now «table_ends») (sinksAt (now streams) (now owners) (now output) (wrapAt (now wrap) (errorsAt (now errors) b))))))) m e ⌝ }
     requires { ⌜ SpecialWithin (now text) (now pending) m e ⌝ }
     requires { ⌜ length (now scratch) ≡ mostLent ⌝ }
-    ensures { λ t. ⌜ ((a : Setting) (s : State) (b : Memory) → Represents a (textAt (now (text .entry)) (pendingAt (now (pending .entry)) (callsAt (now (calls .entry)) (now (ends .entry)) (now (stack .entry)) (definitionsAt (now (definitions .entry)) (now («table_ends» .entry)) (sinksAt (now (streams .entry)) (now (owners .entry)) (now (output .entry)) (wrapAt (now (wrap .entry)) (errorsAt (now (errors .entry)) b))))))) m s → SpecialIs s e → Refines a (textAt (now (text .entry)) (pendingAt (now (pending .entry)) (callsAt (now (calls .entry)) (now (ends .entry)) (now (stack .entry)) (definitionsAt (now (definitions .entry)) (now («table_ends» .entry)) (sinksAt (now (streams .entry)) (now (owners .entry)) (now (output .entry)) (wrapAt (now (wrap .entry)) (errorsAt (now (errors .entry)) b))))))) (step s) (textAt (now (text .entry)) (pendingAt (now (pending .exit)) (callsAt (now (calls .entry)) (now (ends .entry)) (now (stack .entry)) (definitionsAt (now (definitions .exit)) (now («table_ends» .exit)) (sinksAt (now (streams .exit)) (now (owners .exit)) (now (output .exit)) (wrapAt (now (wrap .exit)) (errorsAt (now (errors .exit)) b))))))) t) ⌝ }
+    ensures { λ t. ⌜ ((a : Setting) (s : State) (b : Memory) → Represents a (inputAt (now (text .entry)) (now (set .entry)) (pendingAt (now (pending .entry)) (callsAt (now (calls .entry)) (now (ends .entry)) (now (stack .entry)) (definitionsAt (now (definitions .entry)) (now («table_ends» .entry)) (sinksAt (now (streams .entry)) (now (owners .entry)) (now (output .entry)) (wrapAt (now (wrap .entry)) (errorsAt (now (errors .entry)) b))))))) m s → SpecialIs s e → Refines a (inputAt (now (text .entry)) (now (set .entry)) (pendingAt (now (pending .entry)) (callsAt (now (calls .entry)) (now (ends .entry)) (now (stack .entry)) (definitionsAt (now (definitions .entry)) (now («table_ends» .entry)) (sinksAt (now (streams .entry)) (now (owners .entry)) (now (output .entry)) (wrapAt (now (wrap .entry)) (errorsAt (now (errors .entry)) b))))))) (step s) (inputAt (now (text .entry)) (now (set .entry)) (pendingAt (now (pending .exit)) (callsAt (now (calls .entry)) (now (ends .entry)) (now (stack .entry)) (definitionsAt (now (definitions .exit)) (now («table_ends» .exit)) (sinksAt (now (streams .exit)) (now (owners .exit)) (now (output .exit)) (wrapAt (now (wrap .exit)) (errorsAt (now (errors .exit)) b))))))) t) ⌝ }
 {
     match e {
         Special::End => at_end(pending, streams, owners, wrap, output, m),
@@ -73,6 +74,7 @@ pub(crate) fn special_step(
             let to = m.source.advanced(pending, 1);
             calling::close(
                 text,
+                set,
                 pending,
                 calls,
                 ends,
@@ -90,6 +92,7 @@ pub(crate) fn special_step(
         }
         Special::Bare { n, meaning } => calling::bare(
             text,
+            set,
             pending,
             calls,
             ends,

@@ -8,8 +8,8 @@ use Rattle.quenhovach.specs.Reported.{Reported}
 
 -- the numbers of what the expander reports, with the first of them given back
 pub reported :
-    {text : Bytes} {budget : ℕ} {b a : Buffers} {r : Report} {ns : List ℕ} → Expanded text budget b a r → ns ≡ numbers r
-    → Reported text budget b a (getD ns 0 0) ns
+    {text set : Bytes} {budget : ℕ} {b a : Buffers} {r : Report} {ns : List ℕ} → Expanded text set budget b a r → ns ≡ numbers r
+    → Reported text set budget b a (getD ns 0 0) ns
 unfolding numbers reportOf
 reported x e =
     let n = e ∙ ap numbers (x .report) in

@@ -5,10 +5,10 @@ use native.Mathlib.Omega.{arith}
 use mathlib.Core.Path.{_≡_, refl, sym, ap, _∙_}
 use mathlib.Core.Bool.{Bool, true, false, true≢false, cond, not, _&&_}
 use mathlib.Core.List.{List, [], _∷_}
-use borrow.Author.Tests.{leb-true, leb-false, eqb-true, eqb-false}
-use lib.Dec.{leb, eqb}
-use lib.ListN.{length, List·getD-eq-default}
-use Rattle.rules.specs.Bytes.{Bytes, bytesOf}
+use borrow.Author.Tests.{eqb-true, eqb-false}
+use lib.Dec.{eqb}
+use lib.ListN.{length, getD, List·getD-eq-default}
+use Rattle.rules.specs.Bytes.{Bytes, bytesOf, leftParenthesis}
 use Rattle.rules.specs.Table.{predefinedNames, plainUnlessOpened, among, needsParenthesis}
 use Rattle.rules.proofs.Book.{book}
 
@@ -30,62 +30,49 @@ abbrev allAmong : List Bytes → List Bytes → Bool
 allAmong ns [] = true
 allAmong ns (w ∷ ws) = among w ns && allAmong ns ws
 
--- each name on the list is predefined, and there are seventeen of them
-pub listed-are-predefined : (allAmong predefinedNames plainUnlessOpened ≡ true) × (length plainUnlessOpened ≡ 17)
+-- each name on the list is predefined, and there are nineteen of them
+pub listed-are-predefined : (allAmong predefinedNames plainUnlessOpened ≡ true) × (length plainUnlessOpened ≡ 19)
 unfolding book
 listed-are-predefined = (refl, refl)
 
--- ---- range by range of the numbers, as builtins asks
+-- ---- the numbers in a table, as builtins has them
 
--- a test answers v at each of the n numbers from k on
-abbrev steady : (ℕ → Bool) → Bool → ℕ → ℕ → Bool
-steady f v k zero = true
-steady f v k (suc n) = cond (f k) v (not v) && steady f v (suc k) n
+-- a test holds of each of the n numbers from k on
+abbrev holdsFrom : (ℕ → Bool) → ℕ → ℕ → Bool
+holdsFrom f k zero = true
+holdsFrom f k (suc n) = f k && holdsFrom f (suc k) n
 
-alike : (a b : Bool) {c : Bool} → cond a b (not b) && c ≡ true → (a ≡ b) × (c ≡ true)
-alike true true e = (refl, e)
-alike true false e = absurd (true≢false (sym e))
-alike false true e = absurd (true≢false (sym e))
-alike false false e = (refl, e)
+both : (a : Bool) {b : Bool} → a && b ≡ true → (a ≡ true) × (b ≡ true)
+both true e = (refl, e)
+both false e = absurd (true≢false (sym e))
 
-steady-at : (f : ℕ → Bool) (v : Bool) (k n : ℕ) → steady f v k n ≡ true → (i : ℕ) → k ≤ i → i < k + n → f i ≡ v
-steady-at f v k zero e i h l = absurd (omega (arith, h, l))
-steady-at f v k (suc n) e i h l = let both = alike (f k) v e in go (both .0) (λ m. steady-at f v (suc k) n (both .1) i m (omega (arith, l))) (eqb i k) refl
+holds-at : (f : ℕ → Bool) (k n : ℕ) → holdsFrom f k n ≡ true → (i : ℕ) → k ≤ i → i < k + n → f i ≡ true
+holds-at f k zero e i h l = absurd (omega (arith, h, l))
+holds-at f k (suc n) e i h l = let b = both (f k) e in go (b .0) (λ m. holds-at f (suc k) n (b .1) i m (omega (arith, l))) (eqb i k) refl
   where
-    go : f k ≡ v → (suc k ≤ i → f i ≡ v) → (t : Bool) → eqb i k ≡ t → f i ≡ v
+    go : f k ≡ true → (suc k ≤ i → f i ≡ true) → (t : Bool) → eqb i k ≡ t → f i ≡ true
     go first behind true q = ap f (eqb-true i k q) ∙ first
     go first behind false q = behind (omega (arith, h, eqb-false i k q))
 
--- no macro has a number above 24
-none-above : (k : ℕ) → 24 < k → needsParenthesis k ≡ false
+alike : (a b : Bool) → cond a b (not b) ≡ true → a ≡ b
+alike true true e = refl
+alike true false e = absurd (true≢false (sym e))
+alike false true e = absurd (true≢false (sym e))
+alike false false e = refl
+
+-- the table has a left parenthesis for each number up to its end that needs one
+abbrev pub tableHolds : Bytes → Bool
+tableHolds t = holdsFrom (λ i. cond (eqb (getD t i 0) leftParenthesis) (needsParenthesis i) (not (needsParenthesis i))) 0 (length t)
+
+pub by-table : (t : Bytes) → tableHolds t ≡ true → (k : ℕ) → k < length t → eqb (getD t k 0) leftParenthesis ≡ needsParenthesis k
+by-table t e k l =
+    alike (eqb (getD t k 0) leftParenthesis) (needsParenthesis k)
+    (holds-at (λ i. cond (eqb (getD t i 0) leftParenthesis) (needsParenthesis i) (not (needsParenthesis i))) 0 (length t) e k (omega arith) (omega (arith, l)))
+
+-- no macro has a number above 26
+pub none-above : (k : ℕ) → 26 < k → needsParenthesis k ≡ false
 unfolding needsParenthesis predefinedNames
 none-above zero h = absurd (omega (arith, h))
 none-above (suc i) h =
     let few : length predefinedNames ≤ i = omega (arith, h) in
     ap (λ (w : Bytes). among w plainUnlessOpened) (List·getD-eq-default predefinedNames [] few) ∙ unfold book in refl
-
-module _ (k : ℕ) where
-  pub changecom-changequote : k < 3 → needsParenthesis k ≡ false
-  changecom-changequote h = steady-at needsParenthesis false 0 3 (unfold book in refl) k (omega arith) (omega (arith, h))
-
-  pub decr-to-defn : 3 ≤ k → k < 6 → needsParenthesis k ≡ true
-  decr-to-defn h l = steady-at needsParenthesis true 3 3 (unfold book in refl) k h (omega (arith, l))
-
-  pub divert-to-dnl : 6 ≤ k → k < 9 → needsParenthesis k ≡ false
-  divert-to-dnl h l = steady-at needsParenthesis false 6 3 (unfold book in refl) k h (omega (arith, l))
-
-  pub errprint-to-len : 9 ≤ k → k < 16 → needsParenthesis k ≡ true
-  errprint-to-len h l = steady-at needsParenthesis true 9 7 (unfold book in refl) k h (omega (arith, l))
-
-  pub m4exit : 16 ≤ k → k < 17 → needsParenthesis k ≡ false
-  m4exit h l = steady-at needsParenthesis false 16 1 (unfold book in refl) k h (omega (arith, l))
-
-  pub m4wrap-to-undefine : 17 ≤ k → k < 24 → needsParenthesis k ≡ true
-  m4wrap-to-undefine h l = steady-at needsParenthesis true 17 7 (unfold book in refl) k h (omega (arith, l))
-
-  pub undivert-on : 24 ≤ k → needsParenthesis k ≡ false
-  undivert-on h = go (leb k 24) refl
-    where
-      go : (t : Bool) → leb k 24 ≡ t → needsParenthesis k ≡ false
-      go true e = steady-at needsParenthesis false 24 1 (unfold book in refl) k h (omega (arith, leb-true k 24 e))
-      go false e = none-above k (omega (arith, leb-false k 24 e))

@@ -22,7 +22,7 @@ use Rattle.rules.specs.Streams.{Streams, moved, movedInTurn, Change, mov
 use Rattle.rules.specs.State.{Call, State, Outcome, next, stop, refused, withSource, withMarks, withCalls, withTable, withStreams, withWrap, withErrors, taking, resulting, changing, emitting}
 use Rattle.rules.specs.Arguments.{arg, numberOr, bounded}
 use Rattle.rules.specs.Results.{Result, yields, fails}
-use Rattle.rules.specs.Macros.{giving, marking, callChangecom, callChangequote, callDecr, naming, callDefine, callDefn, callDivert, callDivnum, callDnl, callErrprint, callEval, callIfdef, callIfelse, callIncr, callIndex, callLen, callM4exit, callM4wrap, callPopdef, callPushdef, callShift, callSubstr, callTranslit, callUndefine, undivertNumbers, callUndivert, callNothing, macros, perform, performed, called}
+use Rattle.rules.specs.Macros.{giving, marking, callChangecom, callChangequote, callDecr, naming, callDefine, callDefn, callDivert, callDivnum, callDnl, callErrprint, callEval, callIfdef, callIfelse, callIncr, callIndex, callLen, callM4exit, callM4wrap, callPopdef, callPushdef, callShift, callSubstr, callTranslit, callUndefine, undivertNumbers, callUndivert, callInclude, callSinclude, callNothing, macros, perform, performed, called}
 use Rattle.rules.specs.Step.{NameUse, plain, opening, bare, nameUse, atEnd, delivered, argumentCount, opened, named, closed, commaMet, rightMet, commaAtDepth, otherMet, inCall, singleByte, act, reacted, step}
 use Rattle.rules.specs.Changes.{Calling, bareCall, closedCall, rightCall, byteCall, tokenCall, readCall, callOf, divertChanges, exitChanges, undivertChanges, noChanges, macroChanges, callChanges, ownChanges, nameChanges, endChanges, tokenChanges, readChanges, callOr, changesOf, Makes}
 
@@ -122,7 +122,7 @@ _also_ : {A B : Type 0} → A → B → A × B
 a also b = (a, b)
 
 macros-make : AllChanging macros macroChanges
-unfolding macros macroChanges noChanges callDecr callDefine callDefn callDivnum callDnl callErrprint callEval callIfdef callIfelse callIncr callIndex callLen callM4wrap callPopdef callPushdef callShift callSubstr callTranslit callUndefine withSource withTable withWrap withErrors taking changedInTurn
+unfolding macros macroChanges noChanges callDecr callDefine callDefn callDivnum callDnl callErrprint callEval callIfdef callIfelse callIncr callIndex callLen callM4wrap callPopdef callPushdef callShift callSubstr callTranslit callUndefine callInclude callSinclude withSource withTable withWrap withErrors taking changedInTurn
 macros-make =
     changecom-makes
     also changequote-makes
@@ -148,6 +148,8 @@ macros-make =
     also (λ args s. giving-makes _ s)
     also (λ args s. goes-on _ refl)
     also undivert-makes
+    also (λ args s. giving-makes _ s)
+    also (λ args s. giving-makes _ s)
     also tt
 
 call-makes : (m : Meaning) (name : Bytes) (args : List Bytes) (s : State) → Makes (callChanges m args) (s .streams) (performed m name args s)

@@ -31,12 +31,12 @@ agree r t x y u =
       again = λ p q. ap (λ (e : Ended). numbers (reportOf e)) (u .again p q);
     }
 
--- demand 3: two calls on one text, the second's lengths and budget nowhere smaller and none of its lengths above 65,536
+-- demand 3: two calls on one text with one set, the second's lengths and budget nowhere smaller and none of its lengths above 65,536
 pub calls-agree :
-    (text : Bytes) (n m : ℕ) (before after before′ after′ : Buffers) (r t : Report) → Lendable (settingOf before′ m)
-    → NowhereSmaller (settingOf before n) (settingOf before′ m) → Expanded text n before after r → Expanded text m before′ after′ t
+    (text set : Bytes) (n m : ℕ) (before after before′ after′ : Buffers) (r t : Report) → Lendable (settingOf before′ m)
+    → NowhereSmaller (settingOf before n) (settingOf before′ m) → Expanded text set n before after r → Expanded text set m before′ after′ t
     → Agree (settingOf before n) (settingOf before′ m) r t after after′
 unfolding runIn
-calls-agree text n m b x b′ x′ r t l w e f =
+calls-agree text set n m b x b′ x′ r t l w e f =
     rw (e .report, e .buffers, f .report, f .buffers)
-    (agree (runIn text b n) (runIn text b′ m) b b′ (monotone-in-room (freshStart text) (settingOf b n) (settingOf b′ m) l w))
+    (agree (runIn text set b n) (runIn text set b′ m) b b′ (monotone-in-room (freshStart text set) (settingOf b n) (settingOf b′ m) l w))

@@ -9,6 +9,7 @@ use Rattle.rules.specs.declared.Answer.the-variants as answer
 use Rattle.rules.specs.declared.Report.{Report}
 use Rattle.rules.specs.Bytes.{Bytes, bytesOf}
 use Rattle.rules.specs.Answers.{answerNumber}
+use Rattle.rules.specs.Sets.{emptySet}
 use Rattle.rules.specs.State.{freshStart}
 use Rattle.rules.specs.Run.{Setting, run}
 use Rattle.rules.specs.Contract.{Buffers, settingOf, outputOf, errorsOf, reportOf, runIn, Expanded, written}
@@ -22,21 +23,21 @@ pub record ThirdCall (lent : Setting) (r : Report) : Type 0 where
   pub after : Buffers
   pub budget : ℕ
   pub setting : settingOf before budget ≡ lent
-  pub promise : Expanded (bytesOf thirdText) budget before after r
+  pub promise : Expanded (bytesOf thirdText) emptySet budget before after r
 
 -- it reports what the definition says
-reports : {lent : Setting} {r : Report} → ThirdCall lent r → r ≡ reportOf (run (freshStart (bytesOf thirdText)) lent)
+reports : {lent : Setting} {r : Report} → ThirdCall lent r → r ≡ reportOf (run (freshStart (bytesOf thirdText) emptySet) lent)
 unfolding runIn
-reports c = c .promise .report ∙ ap (λ (a : Setting). reportOf (run (freshStart (bytesOf thirdText)) a)) (c .setting)
+reports c = c .promise .report ∙ ap (λ (a : Setting). reportOf (run (freshStart (bytesOf thirdText) emptySet) a)) (c .setting)
 
 -- and has written what the definition says: its output and its error text
-writes : {lent : Setting} {r : Report} (c : ThirdCall lent r) → let e = run (freshStart (bytesOf thirdText)) lent in written r (c .after) ≡ outputOf e ∷ errorsOf e ∷ []
+writes : {lent : Setting} {r : Report} (c : ThirdCall lent r) → let e = run (freshStart (bytesOf thirdText) emptySet) lent in written r (c .after) ≡ outputOf e ∷ errorsOf e ∷ []
 unfolding runIn
 writes {r = r} c =
     ap (λ (x : Report). written x (c .after)) (c .promise .report)
-    ∙ ap (written (reportOf (runIn (bytesOf thirdText) (c .before) (c .budget)))) (c .promise .buffers)
-    ∙ written-run (runIn (bytesOf thirdText) (c .before) (c .budget)) (c .before)
-    ∙ ap (λ (a : Setting). outputOf (run (freshStart (bytesOf thirdText)) a) ∷ errorsOf (run (freshStart (bytesOf thirdText)) a) ∷ []) (c .setting)
+    ∙ ap (written (reportOf (runIn (bytesOf thirdText) emptySet (c .before) (c .budget)))) (c .promise .buffers)
+    ∙ written-run (runIn (bytesOf thirdText) emptySet (c .before) (c .budget)) (c .before)
+    ∙ ap (λ (a : Setting). outputOf (run (freshStart (bytesOf thirdText) emptySet) a) ∷ errorsOf (run (freshStart (bytesOf thirdText) emptySet) a) ∷ []) (c .setting)
 
 -- in ample room: done, in 8 steps, with one byte of output, `5`
 in-ample-room : {r : Report} → ThirdCall ample r → r ≡ record { answer = answer.Done; steps = 8; place = 16; output = 1; errors = 0 }

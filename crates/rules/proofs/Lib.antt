@@ -14,3 +14,4 @@ pub mod Contract
 pub mod Empty
 pub mod Newlines
 pub mod Lines
+pub mod Sets

@@ -11,9 +11,10 @@ use borrow.Author.Tests.{le-leb, leb-true, leb-false, lt-leb}
 use Rattle.rules.specs.declared.Answer.the-variants as answer
 use Rattle.rules.specs.Answers.{answerNumber, answerDetail, isStopped, endingAnswer, faultAnswer}
 use Rattle.rules.specs.Places.{plusOne}
+use Rattle.rules.specs.Sets.{Item, setItems}
 use Rattle.rules.specs.State.{State, Outcome, next, stop, refused, Start, startState}
 use Rattle.rules.specs.Step.{step}
-use Rattle.rules.specs.Run.{Setting, lengths, held, overfull, Ended, endedWith, judged, continued, runFrom, allLendable, admitted, run, mostLent}
+use Rattle.rules.specs.Run.{Setting, lengths, held, overfull, Ended, endedWith, judged, continued, runFrom, allLendable, started, admitted, run, mostLent}
 use Rattle.rules.specs.Room.{Lendable, NowhereSmaller, lengthNumbered, stopper, stoppedBy, Monotone}
 
 -- lengths that are nowhere smaller
@@ -192,10 +193,16 @@ monotone : {a b : Setting} {r t : Ended} → Kept (lengths a) (lengths b) (a .bu
 unfolding stoppedBy
 monotone u = record { same = u .same; further = λ _. u .further; again = u .again }
 
+-- so is whether its set is good up to the set
+started-monotone : (x : Start) (a b : Setting) → NowhereSmaller a b → (o : Option (List Item)) → Monotone a b (started o x a) (started o x b)
+unfolding started
+started-monotone x a b w none = monotone (kept-refl _)
+started-monotone x a b w (some is) =
+    monotone (run-kept (lengths a) (lengths b) (a .budget) (b .budget) (below w) (a .budget) (b .budget) 0 (startState is x) (omega arith) (omega arith) (w .budget))
+
 admitted-monotone : (x : Start) (a b : Setting) → NowhereSmaller a b → (p q : Bool) → p ≡ q → Monotone a b (admitted p x a) (admitted q x b)
 unfolding admitted
-admitted-monotone x a b w true true e =
-    monotone (run-kept (lengths a) (lengths b) (a .budget) (b .budget) (below w) (a .budget) (b .budget) 0 (startState x) (omega arith) (omega arith) (w .budget))
+admitted-monotone x a b w true true e = started-monotone x a b w (setItems (x .set))
 admitted-monotone x a b w true false e = absurd (true≢false e)
 admitted-monotone x a b w false true e = absurd (false≢true e)
 admitted-monotone x a b w false false e = monotone (kept-refl _)

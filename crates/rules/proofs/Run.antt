@@ -2,24 +2,24 @@
 use Prim.Native.Nat.{ℕ, zero, suc, _+_}
 use mathlib.Core.Path.{_≡_, refl}
 use mathlib.Core.Bool.{Bool, true, false}
-use mathlib.Core.List.{List, _∷_}
+use mathlib.Core.List.{List, [], _∷_}
 use mathlib.Core.Option.{Option, none, some}
 use native.Mathlib.Omega.{arith}
 use lib.ListN.{length}
 use Rattle.rules.specs.declared.Answer.the-variants as answer
-use Rattle.rules.specs.Answers.{answerNumber, Ending, done, exit, endingAnswer, Fault, unclosedQuote, unclosedComment, unclosedCall, noName, noNumber, noExpression, divisor, badMark, noText, gone, deep, faultAnswer}
+use Rattle.rules.specs.Answers.{answerNumber, Ending, done, exit, endingAnswer, Fault, unclosedQuote, unclosedComment, unclosedCall, noName, noNumber, noExpression, divisor, badMark, noText, gone, deep, noItem, faultAnswer}
 use Rattle.rules.specs.State.{State, Outcome, next, stop, refused, Start, startState}
+use Rattle.rules.specs.Sets.{Item, setItems}
 use Rattle.rules.specs.Step.{step}
-use Rattle.rules.specs.Run.{Setting, lengths, held, overfull, Ended, endedWith, judged, continued, runFrom, allLendable, admitted, run}
+use Rattle.rules.specs.Run.{Setting, lengths, held, overfull, Ended, endedWith, judged, continued, runFrom, allLendable, started, admitted, run}
 
 -- the text or a buffer is too long
-pub run-lend : (b : Start) (a : Setting) → allLendable (length (b .text) ∷ lengths a) ≡ false → run b a ≡ endedWith answer.Lend 0 (startState b)
+pub run-lend : (b : Start) (a : Setting) → allLendable (length (b .text) ∷ lengths a) ≡ false → run b a ≡ endedWith answer.Lend 0 (startState [] b)
 unfolding run admitted
 run-lend b a e = rw (e, run)
 
--- the run is admitted: its steps begin
-pub run-starts :
-    (b : Start) (a : Setting) → allLendable (length (b .text) ∷ lengths a) ≡ true → run b a ≡ runFrom (lengths a) (a .budget) 0 (startState b)
+-- they are not: what follows is up to the set
+pub run-starts : (b : Start) (a : Setting) → allLendable (length (b .text) ∷ lengths a) ≡ true → run b a ≡ started (setItems (b .set)) b a
 unfolding run admitted
 run-starts b a e = rw (e, run)
 
@@ -71,6 +71,7 @@ fault-not-spent badMark e = omega arith
 fault-not-spent noText e = omega arith
 fault-not-spent gone e = omega arith
 fault-not-spent deep e = omega arith
+fault-not-spent noItem e = omega arith
 
 ending-not-spent : (x : Ending) → answerNumber (endingAnswer x) ≡ 3 → ⊥
 unfolding answerNumber endingAnswer
@@ -100,9 +101,14 @@ from-spent ls zero k s e = omega arith
 from-spent ls (suc n) k s e =
     continued-spent (k + suc n) ls (λ t. runFrom ls n (suc k) t) k s (step s) (λ t q. omega (arith, from-spent ls n (suc k) t q)) e
 
+started-spent : (x : Option (List Item)) (b : Start) (a : Setting) → SpentAt (a .budget) (started x b a)
+unfolding started endedWith answerNumber
+started-spent none b a e = omega arith
+started-spent (some is) b a e = omega (arith, from-spent (lengths a) (a .budget) 0 (startState is b) e)
+
 admitted-spent : (x : Bool) (b : Start) (a : Setting) → SpentAt (a .budget) (admitted x b a)
 unfolding admitted endedWith answerNumber
-admitted-spent true b a e = omega (arith, from-spent (lengths a) (a .budget) 0 (startState b) e)
+admitted-spent true b a e = started-spent (setItems (b .set)) b a e
 admitted-spent false b a e = omega arith
 
 pub spent-budget : (b : Start) (a : Setting) → answerNumber ((run b a) .answer) ≡ 3 → (run b a) .steps ≡ a .budget

@@ -23,6 +23,8 @@ answerNumber answer.Mark = 10
 answerNumber answer.NoText = 11
 answerNumber answer.Gone = 12
 answerNumber answer.Deep = 13
+answerNumber answer.BadSet = 14
+answerNumber answer.NoItem = 15
 
 -- the column "Detail"
 unfoldable pub answerDetail : Answer → ℕ
@@ -40,6 +42,8 @@ answerDetail answer.Mark = 0
 answerDetail answer.NoText = 0
 answerDetail answer.Gone = 0
 answerDetail answer.Deep = 0
+answerDetail answer.BadSet = 0
+answerDetail answer.NoItem = 0
 
 -- 0 and 1: what is not a refusal
 unfoldable pub isFinished : Answer → Bool
@@ -65,9 +69,9 @@ unfoldable pub endingAnswer : Ending → Answer
 endingAnswer done = answer.Done
 endingAnswer (exit code) = answer.Exit code
 
--- why a step is refused, apart from room: the answers 5 to 13
+-- why a step is refused, apart from room: the answers 5 to 13, and 15 of 02, request 1
 pub data Fault : Type 0 where
-  unclosedQuote unclosedComment unclosedCall noName noNumber noExpression divisor badMark noText gone deep : Fault
+  unclosedQuote unclosedComment unclosedCall noName noNumber noExpression divisor badMark noText gone deep noItem : Fault
 
 unfoldable pub faultAnswer : Fault → Answer
 faultAnswer unclosedQuote = answer.Unclosed 1
@@ -81,3 +85,4 @@ faultAnswer badMark = answer.Mark
 faultAnswer noText = answer.NoText
 faultAnswer gone = answer.Gone
 faultAnswer deep = answer.Deep
+faultAnswer noItem = answer.NoItem

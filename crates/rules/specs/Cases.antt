@@ -7,6 +7,7 @@ use mathlib.Core.List.{List, [], _∷_}
 use lib.Dec.{eqb}
 use Rattle.rules.specs.Bytes.{bytesOf, sameBytes}
 use Rattle.rules.specs.Answers.{answerNumber, answerDetail}
+use Rattle.rules.specs.Sets.{emptySet}
 use Rattle.rules.specs.State.{freshStart}
 use Rattle.rules.specs.Run.{Setting, mostLent, Ended, run}
 use Rattle.rules.specs.Contract.{outputOf, errorsOf}
@@ -39,7 +40,7 @@ meets (answers number detail steps place output) e =
     && writes e output
 
 unfoldable pub caseHolds : Case → Bool
-caseHolds c = meets (c .expected) (run (freshStart (bytesOf (c .text))) (c .setting))
+caseHolds c = meets (c .expected) (run (freshStart (bytesOf (c .text)) emptySet) (c .setting))
 
 -- the number, from n, of the first case that does not hold; 0: all hold
 unfoldable pub firstWrong : ℕ → List Case → ℕ

@@ -109,6 +109,8 @@ macroChanges =
     ∷ noChanges
     ∷ noChanges
     ∷ undivertChanges
+    ∷ noChanges
+    ∷ noChanges
     ∷ []
 
 unfoldable pub callChanges : Meaning → List Bytes → List Change

@@ -67,20 +67,20 @@ leftBy e b =
       output = fronted (outputOf e) (b .output);
     }
 
--- the run of a text in lent buffers
-unfoldable pub runIn : Bytes → Buffers → ℕ → Ended
-runIn text b budget = run (freshStart text) (settingOf b budget)
+-- the run of a text with a set in lent buffers
+unfoldable pub runIn : Bytes → Bytes → Buffers → ℕ → Ended
+runIn text set b budget = run (freshStart text set) (settingOf b budget)
 
--- a call of the expander on a text: r is its report, `after` what the buffers then hold
-pub record Expanded (text : Bytes) (budget : ℕ) (before after : Buffers) (r : Report) : Type 0 where
-  pub report : r ≡ reportOf (runIn text before budget)
-  pub buffers : after ≡ leftBy (runIn text before budget) before
+-- a call of the expander on a text, with a set: r is its report, `after` what the buffers then hold
+pub record Expanded (text set : Bytes) (budget : ℕ) (before after : Buffers) (r : Report) : Type 0 where
+  pub report : r ≡ reportOf (runIn text set before budget)
+  pub buffers : after ≡ leftBy (runIn text set before budget) before
 
 -- 01 "The written bytes are the first bytes of the output and of the error buffer, as many of each as its count says"
 unfoldable pub written : Report → Buffers → List Bytes
 written r b = take (r .output) (b .output) ∷ take (r .errors) (b .errors) ∷ []
 
--- the letter's third demand, of two calls on one text: r and x are the report and the buffers after the first, under the setting a;
+-- the letter's third demand, of two calls on one text with one set: r and x are the report and the buffers after the first, under the setting a;
 -- t and y after the second, under b, nowhere smaller
 pub record Agree (a b : Setting) (r t : Report) (x y : Buffers) : Type 0 where
   pub same : isStopped (r .answer) ≡ false → (numbers t ≡ numbers r) × (written t y ≡ written r x)

@@ -7,6 +7,9 @@ pub mod Answers
 pub mod Marks
 pub mod Source
 pub mod Tokens
+-- Sets of named texts (02, request 1)
+pub mod Chunks
+pub mod Sets
 -- Calls, arguments and definitions
 pub mod Table
 pub mod Streams

@@ -15,7 +15,7 @@ use Rattle.rules.specs.Table.{Meaning, text, predefined, Table, pushed, 
 use Rattle.rules.specs.Streams.{moves, drops, diverts}
 use Rattle.rules.specs.State.{State, Outcome, next, stop, refused, withMarks, withTable, withWrap, withErrors, taking, resulting, changing}
 use Rattle.rules.specs.Arguments.{arg, numberOr, bounded, separated, substituted}
-use Rattle.rules.specs.Results.{Result, yields, fails, decrResult, incrResult, defnResult, divnumResult, evalResult, ifdefResult, ifelseResult, indexResult, lenResult, shiftResult, substrResult, translitResult}
+use Rattle.rules.specs.Results.{Result, yields, fails, decrResult, incrResult, defnResult, divnumResult, evalResult, ifdefResult, ifelseResult, includeResult, sincludeResult, indexResult, lenResult, shiftResult, substrResult, translitResult}
 
 -- 01 "Results are pushed back and scanned again"
 unfoldable pub giving : Result → State → Outcome
@@ -137,6 +137,13 @@ unfoldable pub callUndivert : List Bytes → State → Outcome
 callUndivert args s =
     elim (undivertNumbers args) [ none ↦ refused noNumber | some ns ↦ next (changing (map moves ns) s) ]
 
+-- 02, request 1 "The contents become pending text and count there"
+unfoldable pub callInclude : List Bytes → State → Outcome
+callInclude args s = giving (includeResult (s .set) args) s
+
+unfoldable pub callSinclude : List Bytes → State → Outcome
+callSinclude args s = giving (sincludeResult (s .set) args) s
+
 -- no macro has another number than those of `predefinedNames`
 unfoldable pub callNothing : List Bytes → State → Outcome
 callNothing args s = refused gone
@@ -168,6 +175,8 @@ macros =
     ∷ callTranslit
     ∷ callUndefine
     ∷ callUndivert
+    ∷ callInclude
+    ∷ callSinclude
     ∷ []
 
 unfoldable pub perform : ℕ → List Bytes → State → Outcome

@@ -10,12 +10,13 @@ use lib.Signed.{leZ}
 use Rattle.rules.specs.declared.Evaluated.{Evaluated}
 use Rattle.rules.specs.declared.Evaluated.the-variants as evaluated
 use Rattle.rules.specs.Bytes.{Bytes, sameBytes}
-use Rattle.rules.specs.Answers.{Fault, noNumber, noExpression, divisor, noText}
+use Rattle.rules.specs.Answers.{Fault, noNumber, noExpression, divisor, noText, noItem}
 use Rattle.rules.specs.Marks.{MarkTexts, quoted}
 use Rattle.rules.specs.Tokens.{firstPlace}
 use Rattle.rules.specs.Words.{largest, signedValue}
 use Rattle.rules.specs.Numerals.{number, decimal, writtenIn}
 use Rattle.rules.specs.Expression.{evaluation}
+use Rattle.rules.specs.Sets.{Item, itemText}
 use Rattle.rules.specs.Table.{text, predefined, Table, meaningOf, isDefined}
 use Rattle.rules.specs.Arguments.{arg, numberOr, bounded, commas, quotedEach}
 
@@ -104,6 +105,18 @@ ifelseResult args = yields (chosen args)
 unfoldable pub placeOr : Option ℕ → ℤ
 placeOr none = negsuc 0
 placeOr (some n) = pos n
+
+-- 02, request 1: the contents of the item that the first argument names, or what an unknown name gives
+unfoldable pub contentsOr : Result → List Item → List Bytes → Result
+contentsOr unknown is args = elim (itemText (arg 1 args) is) [ none ↦ unknown | some w ↦ yields w ]
+
+-- "15 unknown include"
+unfoldable pub includeResult : List Item → List Bytes → Result
+includeResult is args = contentsOr (fails noItem) is args
+
+-- "an unknown name gives `sinclude` nothing"
+unfoldable pub sincludeResult : List Item → List Bytes → Result
+sincludeResult is args = contentsOr (yields []) is args
 
 -- 01 "index finds an empty string at 0"
 unfoldable pub indexResult : List Bytes → Result

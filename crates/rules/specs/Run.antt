@@ -9,6 +9,7 @@ use Rattle.rules.specs.declared.Answer.{Answer}
 use Rattle.rules.specs.declared.Answer.the-variants as answer
 use Rattle.rules.specs.Answers.{endingAnswer, faultAnswer}
 use Rattle.rules.specs.Places.{plusOne}
+use Rattle.rules.specs.Sets.{Item, setItems}
 use Rattle.rules.specs.Table.{tableCost}
 use Rattle.rules.specs.Streams.{totalLength}
 use Rattle.rules.specs.State.{Call, State, Outcome, next, stop, refused, Start, startState}
@@ -69,7 +70,7 @@ judged go count s t (some b) = endedWith (answer.Room (suc b)) count s
 
 -- what follows from the outcome of a step from s, to which `count` completed steps led. Here `go` is the rest of the run, from the state after the
 -- step; a step that ends the run has no rest, and its `go` is that end itself. 01 "a refused step is not counted, the one that
--- ends in 0 or 1 is", "within a step 5 to 13 come before 4"
+-- ends in 0 or 1 is", "within a step 5 to 13 come before 4"; 02 "15 unknown include, within its step before 4"
 unfoldable pub continued : List ℕ → (State → Ended) → ℕ → State → Outcome → Ended
 continued ls go count s (refused f) = endedWith (faultAnswer f) count s
 continued ls go count s (stop e t) = judged (endedWith (endingAnswer e) (suc count)) count s t (overfull (held t) ls)
@@ -89,9 +90,14 @@ unfoldable pub allLendable : List ℕ → Bool
 allLendable [] = true
 allLendable (l ∷ ls) = elim (leb l mostLent) [ true ↦ allLendable ls | false ↦ false ]
 
+-- 02, request 1 "is judged whole before the first step"; "14 bad or overlong set, right after 2"
+unfoldable pub started : Option (List Item) → Start → Setting → Ended
+started none b a = endedWith answer.BadSet 0 (startState [] b)
+started (some is) b a = runFrom (lengths a) (a .budget) 0 (startState is b)
+
 unfoldable pub admitted : Bool → Start → Setting → Ended
-admitted false b a = endedWith answer.Lend 0 (startState b)
-admitted true b a = runFrom (lengths a) (a .budget) 0 (startState b)
+admitted false b a = endedWith answer.Lend 0 (startState [] b)
+admitted true b a = started (setItems (b .set)) b a
 
 -- 01 "Order: 2 first": the text or a buffer exceeds 65,536 bytes
 unfoldable pub run : Start → Setting → Ended

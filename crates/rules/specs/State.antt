@@ -6,6 +6,7 @@ use Rattle.rules.specs.Bytes.{Bytes}
 use Rattle.rules.specs.Answers.{Ending, Fault}
 use Rattle.rules.specs.Marks.{MarkTexts, defaultMarks}
 use Rattle.rules.specs.Source.{Source, advance, pushBack, sourceOf}
+use Rattle.rules.specs.Sets.{Item}
 use Rattle.rules.specs.Table.{Table, freshTable}
 use Rattle.rules.specs.Streams.{Streams, emptyStreams, Change, places, changedInTurn}
 
@@ -18,8 +19,10 @@ pub record Call : Type 0 where
   pub depth : ℕ
   pub collected : Bool
 
--- the open calls are innermost first; `wrap` is the wrap text waiting, joined in call order; `errors` the error text
+-- `set` is what may be included, and no step changes it; the open calls are innermost first; `wrap` is the wrap text waiting, joined in
+-- call order; `errors` the error text
 pub record State : Type 0 where
+  pub set : List Item
   pub source : Source
   pub marks : MarkTexts
   pub calls : List Call
@@ -35,17 +38,20 @@ pub data Outcome : Type 0 where
   stop : Ending → State → Outcome
   refused : Fault → Outcome
 
--- a run starts from a text and a table. (The table is fresh; a stored one is for document 02)
+-- a run starts from a text, a set as it was lent, and a table. (The table is fresh; a stored one is for document 02)
 pub record Start : Type 0 where
   pub text : Bytes
+  pub set : Bytes
   pub table : Table
 
-unfoldable pub freshStart : Bytes → Start
-freshStart text = record { text = text; table = freshTable }
+unfoldable pub freshStart : Bytes → Bytes → Start
+freshStart text set = record { text = text; set = set; table = freshTable }
 
-unfoldable pub startState : Start → State
-startState b =
+-- with the items of its set
+unfoldable pub startState : List Item → Start → State
+startState is b =
     record {
+      set = is;
       source = sourceOf (b .text);
       marks = defaultMarks;
       calls = [];
@@ -58,31 +64,31 @@ startState b =
 -- the state with one part replaced
 unfoldable pub withSource : Source → State → State
 withSource x s =
-    record { source = x; marks = s .marks; calls = s .calls; table = s .table; streams = s .streams; wrap = s .wrap; errors = s .errors }
+    record { set = s .set; source = x; marks = s .marks; calls = s .calls; table = s .table; streams = s .streams; wrap = s .wrap; errors = s .errors }
 
 unfoldable pub withMarks : MarkTexts → State → State
 withMarks x s =
-    record { source = s .source; marks = x; calls = s .calls; table = s .table; streams = s .streams; wrap = s .wrap; errors = s .errors }
+    record { set = s .set; source = s .source; marks = x; calls = s .calls; table = s .table; streams = s .streams; wrap = s .wrap; errors = s .errors }
 
 unfoldable pub withCalls : List Call → State → State
 withCalls x s =
-    record { source = s .source; marks = s .marks; calls = x; table = s .table; streams = s .streams; wrap = s .wrap; errors = s .errors }
+    record { set = s .set; source = s .source; marks = s .marks; calls = x; table = s .table; streams = s .streams; wrap = s .wrap; errors = s .errors }
 
 unfoldable pub withTable : Table → State → State
 withTable x s =
-    record { source = s .source; marks = s .marks; calls = s .calls; table = x; streams = s .streams; wrap = s .wrap; errors = s .errors }
+    record { set = s .set; source = s .source; marks = s .marks; calls = s .calls; table = x; streams = s .streams; wrap = s .wrap; errors = s .errors }
 
 unfoldable pub withStreams : Streams → State → State
 withStreams x s =
-    record { source = s .source; marks = s .marks; calls = s .calls; table = s .table; streams = x; wrap = s .wrap; errors = s .errors }
+    record { set = s .set; source = s .source; marks = s .marks; calls = s .calls; table = s .table; streams = x; wrap = s .wrap; errors = s .errors }
 
 unfoldable pub withWrap : Bytes → State → State
 withWrap x s =
-    record { source = s .source; marks = s .marks; calls = s .calls; table = s .table; streams = s .streams; wrap = x; errors = s .errors }
+    record { set = s .set; source = s .source; marks = s .marks; calls = s .calls; table = s .table; streams = s .streams; wrap = x; errors = s .errors }
 
 unfoldable pub withErrors : Bytes → State → State
 withErrors x s =
-    record { source = s .source; marks = s .marks; calls = s .calls; table = s .table; streams = s .streams; wrap = s .wrap; errors = x }
+    record { set = s .set; source = s .source; marks = s .marks; calls = s .calls; table = s .table; streams = s .streams; wrap = s .wrap; errors = x }
 
 -- n bytes of the text ahead are taken
 unfoldable pub taking : ℕ → State → State

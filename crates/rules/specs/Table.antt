@@ -7,7 +7,7 @@ use lib.Dec.{eqb}
 use lib.ListN.{length, take, drop, getD, set}
 use Rattle.rules.specs.Bytes.{Bytes, bytesOf, sameBytes}
 
--- 01 "These 24 macros are predefined": in its order they have the numbers 1 to 24
+-- 01 "These 24 macros are predefined": in its order they have the numbers 1 to 24; then those that 02 adds, in order of arrival
 unfoldable pub predefinedNames : List Bytes
 predefinedNames =
     bytesOf "changecom"
@@ -34,10 +34,11 @@ predefinedNames =
     ∷ bytesOf "translit"
     ∷ bytesOf "undefine"
     ∷ bytesOf "undivert"
+    ∷ bytesOf "include"
+    ∷ bytesOf "sinclude"
     ∷ []
 
--- 02, request 2: those that "shall stand as plain text unless `(` directly follows". (include and sinclude join this list with
--- request 1, copydef with request 7)
+-- 02, request 2: those that "shall stand as plain text unless `(` directly follows". (copydef joins this list with request 7)
 unfoldable pub plainUnlessOpened : List Bytes
 plainUnlessOpened =
     bytesOf "decr"
@@ -57,6 +58,8 @@ plainUnlessOpened =
     ∷ bytesOf "substr"
     ∷ bytesOf "translit"
     ∷ bytesOf "undefine"
+    ∷ bytesOf "include"
+    ∷ bytesOf "sinclude"
     ∷ []
 
 unfoldable pub among : Bytes → List Bytes → Bool

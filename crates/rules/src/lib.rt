@@ -136,6 +136,8 @@ pub enum Answer {
     NoText,
     Gone,
     Deep,
+    BadSet,
+    NoItem,
 }
 
 // What a call of the expander returns: with the answer's number and detail these are the six numbers of 01.

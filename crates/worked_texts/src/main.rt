@@ -23,7 +23,7 @@ fn write_report(r: Report) {
     write(b"\n");
 }
 
-// A text in given buffers.
+// A text in given buffers, with nothing to include.
 fn run(
     text: &[u8],
     pending: &mut [u8],
@@ -37,6 +37,7 @@ fn run(
 ) {
     let r = expander::expand(
         text,
+        &[0],
         pending,
         calls,
         definitions,

@@ -1,6 +1,6 @@
 //! A run in buffers that were full of junk, with all that it left behind.
 
-use quenhovach::{expand, Buffers, Report};
+use quenhovach::{expand, Buffers, Report, EMPTY_SET};
 
 /// What the buffers hold before a run.
 pub const JUNK: u8 = 0xa5;
@@ -11,8 +11,14 @@ pub struct Run {
     pub left: [Vec<u8>; 7],
 }
 
-/// Expands a text in buffers of these lengths.
+/// Expands a text that includes nothing in buffers of these lengths.
+#[allow(dead_code)]
 pub fn run(text: &[u8], lengths: [usize; 7], budget: u32) -> Run {
+    run_with(text, EMPTY_SET, lengths, budget)
+}
+
+/// Expands a text with a set in buffers of these lengths.
+pub fn run_with(text: &[u8], set: &[u8], lengths: [usize; 7], budget: u32) -> Run {
     let mut left = lengths.map(|length| vec![JUNK; length]);
     let [pending, calls, definitions, streams, wrap, errors, output] = &mut left;
     let buffers = Buffers {
@@ -24,7 +30,7 @@ pub fn run(text: &[u8], lengths: [usize; 7], budget: u32) -> Run {
         errors,
         output,
     };
-    let report = expand(text, buffers, budget);
+    let report = expand(text, set, buffers, budget);
     Run { report, left }
 }
 

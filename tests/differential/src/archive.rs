@@ -1,12 +1,14 @@
 //! The call of the archive's expander.
 
+use crate::case::Case;
 use crate::windows::Lent;
-use model::Setting;
 
 extern "C" {
     fn quenhovach_expand(
         text: *const u8,
         text_length: usize,
+        set: *const u8,
+        set_length: usize,
         pending: *mut u8,
         pending_length: usize,
         calls: *mut u8,
@@ -26,11 +28,13 @@ extern "C" {
     ) -> u32;
 }
 
-/// The text, the seven buffers and the report lie in nine areas.
-pub const AREAS: usize = 9;
-/// The numbers of the text's and of the report's area; those of the buffers are 1 to 7.
+/// The text, the seven buffers, the set and the report lie in ten areas.
+pub const AREAS: usize = 10;
+/// The numbers of the areas of the text, of the set and of the report; those of the buffers are 1 to
+/// 7.
 pub const TEXT: usize = 0;
-pub const REPORT: usize = 8;
+pub const SET: usize = 8;
+pub const REPORT: usize = 9;
 /// A report is six numbers of four bytes.
 pub const REPORT_LENGTH: usize = 24;
 
@@ -41,8 +45,10 @@ pub const REPORT_LENGTH: usize = 24;
 /// Each area must be as long as is said, the report aligned to four bytes.
 pub unsafe fn call(lent: &[Lent; AREAS], budget: u32) -> u32 {
     quenhovach_expand(
-        lent[0].0,
-        lent[0].1,
+        lent[TEXT].0,
+        lent[TEXT].1,
+        lent[SET].0,
+        lent[SET].1,
         lent[1].0,
         lent[1].1,
         lent[2].0,
@@ -62,11 +68,17 @@ pub unsafe fn call(lent: &[Lent; AREAS], budget: u32) -> u32 {
     )
 }
 
-/// How long each area is for a text under a setting.
-pub fn lengths(text: &[u8], setting: &Setting) -> [usize; AREAS] {
+/// How long each area is for a case.
+pub fn lengths(case: &Case) -> [usize; AREAS] {
     std::array::from_fn(|area| match area {
-        0 => text.len(),
+        TEXT => case.text.len(),
+        SET => case.set.len(),
         REPORT => REPORT_LENGTH,
-        buffer => setting.lengths[buffer - 1],
+        buffer => case.setting.lengths[buffer - 1],
     })
+}
+
+/// What the areas that are only read hold before a call.
+pub fn given(case: &Case) -> [(usize, &[u8]); 2] {
+    [(TEXT, &case.text), (SET, &case.set)]
 }

@@ -1,9 +1,9 @@
 //! Lent memory on the heap with 16 guard bytes on each side, at any alignment.
 
-use crate::archive::{call, lengths, AREAS, REPORT};
+use crate::archive::{call, given, lengths, AREAS, REPORT, SET};
 use crate::case::Case;
 use crate::judge::judge;
-use crate::noise::{Noise, LONGEST};
+use crate::noise::{Noise, LONGEST, LONGEST_SET};
 use crate::windows::{lent_parts, Before, Window};
 use model::random::Random;
 use model::Report;
@@ -21,7 +21,7 @@ pub fn guarded(memory: &mut [u8], shift: usize, length: usize) -> Window {
     }
 }
 
-/// Memory for the nine areas, used by one case after the other.
+/// Memory for the ten areas, used by one case after the other.
 pub struct Arenas {
     memory: [Vec<u8>; AREAS],
     pub noise: Noise,
@@ -30,7 +30,10 @@ pub struct Arenas {
 impl Arenas {
     pub fn new() -> Arenas {
         Arenas {
-            memory: std::array::from_fn(|_| vec![0; LONGEST]),
+            memory: std::array::from_fn(|area| match area {
+                SET => vec![0; LONGEST_SET],
+                _ => vec![0; LONGEST],
+            }),
             noise: Noise::new(),
         }
     }
@@ -38,7 +41,7 @@ impl Arenas {
     /// The windows for a case. Only the report has an alignment.
     pub fn windows(&mut self, case: &Case) -> [Window; AREAS] {
         let mut random = Random::numbered(case.salt, AREAS as u64);
-        let lengths = lengths(&case.text, &case.setting);
+        let lengths = lengths(case);
         std::array::from_fn(|area| {
             let memory = &mut self.memory[area];
             let shift = match area {
@@ -52,7 +55,7 @@ impl Arenas {
     /// Runs a case and compares all of it with what is expected.
     pub fn try_case(&mut self, case: &Case, expected: &Report) -> Result<(), String> {
         let windows = self.windows(case);
-        let before = Before::fill(&windows, &[&case.text], &self.noise, case.salt);
+        let before = Before::fill(&windows, &given(case), &self.noise, case.salt);
         // SAFETY: the windows lie in the arenas, and the report is aligned.
         let returned = unsafe { call(&lent_parts(&windows), case.setting.budget) };
         judge(returned, &before.seen(&windows), expected)

@@ -8,7 +8,7 @@ use model::generate::comments::{
 };
 use model::generate::setting::exact_and_shorter;
 use model::ways::remarks::Remarks;
-use model::{expand, expand_traced, Report, Setting, Trace, LIMIT};
+use model::{expand, expand_traced, Report, Setting, Trace, LIMIT, NO_ITEMS};
 use std::collections::BTreeSet;
 
 /// More steps than any of the texts needs: a run that goes on without end is soon over.
@@ -84,20 +84,21 @@ impl Table {
             budget: STEPS,
             ..Setting::ample()
         };
-        let (report, trace) = expand_traced(text, &ample);
+        let (report, trace) = expand_traced(text, NO_ITEMS, &ample);
         self.try_case(text, ample, report.clone());
         let tight = tightly.then(|| tight(&report, &trace));
         for setting in tight.into_iter().flatten() {
-            let report = expand(text, &setting);
+            let report = expand(text, NO_ITEMS, &setting);
             self.try_case(text, setting, report);
         }
         report
     }
 
     fn try_case(&mut self, text: &[u8], setting: Setting, expected: Report) {
-        let walked = self.all.walk(text, &expected);
+        let walked = self.all.walk(text, NO_ITEMS, &expected);
         let case = Case {
             text: text.to_vec(),
+            set: NO_ITEMS.to_vec(),
             setting,
             salt: (self.passed + self.failed) as u64,
         };
@@ -141,7 +142,7 @@ fn tight(report: &Report, trace: &Trace) -> Vec<Setting> {
 /// What a place is there for and does not show under such marks, if one comment is all there is.
 fn unseen(place: &Place, marks: &Marks) -> Vec<&'static str> {
     let text = filled(place.text, marks, PLAIN, "");
-    let report = expand(&text, &Setting::ample());
+    let report = expand(&text, NO_ITEMS, &Setting::ample());
     let ways: &[&str] = match marks.outcome {
         Outcome::Closed => place.closed,
         Outcome::Refused => place.refused,
@@ -153,7 +154,7 @@ fn unseen(place: &Place, marks: &Marks) -> Vec<&'static str> {
     };
     let mut seen = Remarks::default();
     // what the walk finds wrong is found in the table too
-    let _ = seen.walk(&text, &report);
+    let _ = seen.walk(&text, NO_ITEMS, &report);
     let taken = |way: &str| {
         seen.counts()
             .iter()

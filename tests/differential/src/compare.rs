@@ -7,7 +7,6 @@ use crate::supervise::libc::SIGALRM;
 use crate::supervise::{all_pass, supervise, End, Progress};
 use crate::tally::{all_reached, Tally};
 use model::table::{hex, judge, read};
-use model::{expand, expand_traced};
 
 /// The budget of a case that is made smaller.
 const FEW_STEPS: u32 = 30_000;
@@ -30,9 +29,9 @@ fn compare_all(progress: &Progress, seed: u64, count: u64, first: u64) -> bool {
     let mut tally = Tally::default();
     let agrees = |index| {
         let case = case(seed, index);
-        let (expected, trace) = expand_traced(&case.text, &case.setting);
+        let (expected, trace) = case.traced();
         tally.add(&expected, &trace);
-        let ways = tally.add_ways(&case.text, &expected);
+        let ways = tally.add_ways(&case, &expected);
         arenas.try_case(&case, &expected).and(ways)
     };
     let tell = |index, what: &str| tell(seed, index, what);
@@ -49,8 +48,9 @@ fn tell(seed: u64, index: u64, what: &str) {
     print_line(&format!("s{seed}-{index}"), &found);
     if let Some(small) = smaller(&found) {
         println!(
-            "  smaller: {:?}, {:?}",
+            "  smaller: {:?}, set {}, {:?}",
             String::from_utf8_lossy(&small.text),
+            hex(&small.set),
             small.setting
         );
         print_line(&format!("s{seed}-{index}-small"), &small);
@@ -62,7 +62,7 @@ fn tell(seed: u64, index: u64, what: &str) {
 }
 
 fn print_line(item: &str, case: &Case) {
-    println!("{}", line(item, case, expand(&case.text, &case.setting)));
+    println!("{}", line(item, case, case.expected()));
 }
 
 /// A smaller case that fails, if the case does so within few steps; another one could be without
@@ -81,7 +81,7 @@ fn smaller(found: &Case) -> Option<Case> {
 /// Tries one case with memory of its own.
 fn alone(progress: &Progress, case: &Case) -> Result<(), String> {
     progress.at(0);
-    Arenas::new().try_case(case, &expand(&case.text, &case.setting))
+    Arenas::new().try_case(case, &case.expected())
 }
 
 /// Runs every line of a table like tests/vectors.tsv through the archive and compares it with the
@@ -97,6 +97,7 @@ fn try_line(arenas: &mut Arenas, line: &str) -> Result<(), String> {
     for salt in 0..8 {
         let case = Case {
             text: row.text.clone(),
+            set: row.set.clone(),
             setting: row.setting.clone(),
             salt,
         };

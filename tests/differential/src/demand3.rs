@@ -1,7 +1,7 @@
 //! The letter's third demand on random pairs of settings: its three sentences, checked as
-//! statements about two calls.
+//! statements about two calls with one set.
 
-use crate::archive::call;
+use crate::archive::{call, given};
 use crate::arenas::Arenas;
 use crate::case::Case;
 use crate::judge::reported;
@@ -11,7 +11,7 @@ use crate::windows::{lent_parts, Before};
 use model::generate::{pair, Pair, Scale};
 use model::random::Random;
 use model::table::hex;
-use model::Setting;
+use model::{Setting, ANSWERS};
 
 /// The answers of runs that were stopped by their setting.
 const SPENT: u32 = 3;
@@ -67,15 +67,16 @@ fn salted_pair(seed: u64, index: u64) -> (Pair, [u64; 2]) {
     (pair, [random.bits(), random.bits()])
 }
 
-/// Runs a text in noise.
-fn run(arenas: &mut Arenas, text: &[u8], setting: &Setting, salt: u64) -> Ran {
+/// Runs the text of a pair, with its set, in noise.
+fn run(arenas: &mut Arenas, pair: &Pair, setting: &Setting, salt: u64) -> Ran {
     let case = Case {
-        text: text.to_vec(),
+        text: pair.text.clone(),
+        set: pair.set.clone(),
         setting: setting.clone(),
         salt,
     };
     let windows = arenas.windows(&case);
-    let before = Before::fill(&windows, &[text], &arenas.noise, salt);
+    let before = Before::fill(&windows, &given(&case), &arenas.noise, salt);
     // SAFETY: the windows lie in the arenas, and the report is aligned.
     unsafe { call(&lent_parts(&windows), setting.budget) };
     let seen = before.seen(&windows);
@@ -103,13 +104,13 @@ pub fn random_pairs(seed: u64, count: u64, first: u64) -> bool {
 fn check_all(progress: &Progress, seed: u64, count: u64, first: u64) -> bool {
     let mut arenas = Arenas::new();
     let mut spoke = [0u64; 3];
-    let mut answers = [0u64; 14];
+    let mut answers = [0u64; ANSWERS];
     let mut failed = 0;
     for index in first..first + count {
         progress.at(index);
         let (pair, salts) = salted_pair(seed, index);
-        let [one, two] = [0, 1].map(|i| run(&mut arenas, &pair.text, &pair.settings[i], salts[i]));
-        answers[(one.numbers[0] as usize).min(13)] += 1;
+        let [one, two] = [0, 1].map(|i| run(&mut arenas, &pair, &pair.settings[i], salts[i]));
+        answers[(one.numbers[0] as usize).min(ANSWERS - 1)] += 1;
         match check(&pair.settings, &one, &two) {
             Ok(sentence) => spoke[sentence as usize] += 1,
             Err(sentence) => {
@@ -121,7 +122,7 @@ fn check_all(progress: &Progress, seed: u64, count: u64, first: u64) -> bool {
             }
         }
     }
-    println!("first answers 0 to 13: {answers:?}");
+    println!("first answers 0 to {}: {answers:?}", ANSWERS - 1);
     println!(
         "same answer {}, as far {}, same refusal {}",
         spoke[0], spoke[1], spoke[2]
@@ -137,7 +138,7 @@ fn check_all(progress: &Progress, seed: u64, count: u64, first: u64) -> bool {
 fn tell(seed: u64, index: u64, sentence: Sentence, pair: &Pair, one: &Ran, two: &Ran) {
     println!("pair {index} of seed {seed}: the sentence {sentence:?} is violated");
     println!("  repeat it: differential demand3 {seed} 1 {index}");
-    println!("  text {}", hex(&pair.text));
+    println!("  text {}, set {}", hex(&pair.text), hex(&pair.set));
     for (setting, ran) in pair.settings.iter().zip([one, two]) {
         println!(
             "  {setting:?} gives {:?}, output {}, error text {}",

@@ -1,20 +1,21 @@
 //! Lent memory between inaccessible pages: one byte read or written outside traps.
 //!
-//! Each case is run twice, once with the end of the text, of each buffer and of the report against
-//! an inaccessible page, once with their beginning behind one. The text lies in read-only memory
-//! meanwhile.
+//! Each case is run twice, once with the end of the text, of the set, of each buffer and of the report
+//! against an inaccessible page, once with their beginning behind one. Text and set lie in read-only
+//! memory meanwhile.
 
-use crate::archive::{call, lengths, AREAS, REPORT, TEXT};
+use crate::archive::{call, given, lengths, AREAS, SET, TEXT};
 use crate::case::{case, line, Case};
-use crate::judge::{judge, reported};
-use crate::noise::{Noise, LONGEST};
-use crate::supervise::libc::{self, MAP_NORESERVE, MAP_PRIVATE, PROT_NONE, PROT_READ, PROT_WRITE};
-use crate::supervise::{supervise, try_each, End};
-use crate::windows::{lent_parts, Before, Lent, Window};
-use model::expand;
+use crate::judge::judge;
+use crate::noise::{Noise, LONGEST, LONGEST_SET};
+use crate::supervise::libc::{self, MAP_PRIVATE, PROT_NONE, PROT_READ, PROT_WRITE};
+use crate::supervise::try_each;
+use crate::windows::{lent_parts, Before, Window};
 
 /// A multiple of every usual page size.
 const FENCE: usize = 65_536;
+/// How much lies between two fences. Most of it is never touched.
+const BETWEEN: usize = LONGEST_SET;
 
 /// The side on which the lent memory touches an inaccessible page.
 #[derive(Clone, Copy, Debug, PartialEq, Eq)]
@@ -37,15 +38,24 @@ impl<const N: usize> Fences<N> {
         }
     }
 
-    /// The windows for areas of these lengths.
+    /// The windows for areas of these lengths: the memory beside a fence, with as much behind what
+    /// is lent as a mistake might reach.
     pub fn windows(&self, lengths: &[usize; N], side: Side) -> [Window; N] {
-        std::array::from_fn(|area| Window {
-            start: self.starts[area],
-            length: LONGEST,
-            lent: match side {
-                Side::End => LONGEST - lengths[area]..LONGEST,
-                Side::Beginning => 0..lengths[area],
-            },
+        std::array::from_fn(|area| {
+            let length = LONGEST.max(lengths[area] + FENCE);
+            match side {
+                Side::End => Window {
+                    // SAFETY: the window lies between the fences.
+                    start: unsafe { self.starts[area].add(BETWEEN - length) },
+                    length,
+                    lent: length - lengths[area]..length,
+                },
+                Side::Beginning => Window {
+                    start: self.starts[area],
+                    length,
+                    lent: 0..lengths[area],
+                },
+            }
         })
     }
 
@@ -60,27 +70,28 @@ impl<const N: usize> Fences<N> {
     fn protect(&self, areas: &[usize], protection: i32) {
         for &area in areas {
             // SAFETY: the whole of an area, which nobody reads or writes meanwhile.
-            let done = unsafe { libc::mprotect(self.starts[area].cast(), LONGEST, protection) };
+            let done = unsafe { libc::mprotect(self.starts[area].cast(), BETWEEN, protection) };
             assert_eq!(done, 0, "mprotect failed");
         }
     }
 }
 
 impl Fences<AREAS> {
-    /// Runs a case; all that lies between the fences is compared.
-    fn try_case(&self, case: &Case, side: Side) -> Result<(), String> {
-        let windows = self.windows(&lengths(&case.text, &case.setting), side);
-        let before = Before::fill(&windows, &[&case.text], &self.noise, case.salt);
+    /// Runs a case on both sides.
+    pub fn try_case(&self, case: &Case) -> Result<(), String> {
+        on_both_sides(|side| self.try_side(case, side))
+    }
+
+    /// Runs a case; all that lies in the windows is compared.
+    fn try_side(&self, case: &Case, side: Side) -> Result<(), String> {
+        let windows = self.windows(&lengths(case), side);
+        let before = Before::fill(&windows, &given(case), &self.noise, case.salt);
         // SAFETY: what is lent lies between the fences; the report is aligned, as its length and
         // the areas are.
-        let returned = self.read_only(&[TEXT], || unsafe {
+        let returned = self.read_only(&[TEXT, SET], || unsafe {
             call(&lent_parts(&windows), case.setting.budget)
         });
-        judge(
-            returned,
-            &before.seen(&windows),
-            &expand(&case.text, &case.setting),
-        )
+        judge(returned, &before.seen(&windows), &case.expected())
     }
 }
 
@@ -91,14 +102,14 @@ pub fn on_both_sides(try_side: impl Fn(Side) -> Result<(), String>) -> Result<()
     end.and(beginning)
 }
 
-/// Memory of `LONGEST` bytes with a fence before and behind.
+/// Memory of `BETWEEN` bytes with a fence before and behind.
 fn fenced_area() -> *mut u8 {
-    let whole = libc::map(FENCE + LONGEST + FENCE, PROT_NONE, MAP_PRIVATE);
+    let whole = libc::map(FENCE + BETWEEN + FENCE, PROT_NONE, MAP_PRIVATE);
     // SAFETY: the inner part of the mapping just made.
     unsafe {
         let start = whole.add(FENCE);
         assert_eq!(
-            libc::mprotect(start.cast(), LONGEST, PROT_READ | PROT_WRITE),
+            libc::mprotect(start.cast(), BETWEEN, PROT_READ | PROT_WRITE),
             0,
             "mprotect failed"
         );
@@ -112,10 +123,7 @@ pub fn random_cases(seed: u64, count: u64, first: u64) -> bool {
     let fences = Fences::new();
     try_each(
         first..first + count,
-        |index| {
-            let case = case(seed, index);
-            on_both_sides(|side| fences.try_case(&case, side))
-        },
+        |index| fences.try_case(&case(seed, index)),
         |index, what| tell(seed, index, what),
     )
 }
@@ -124,63 +132,6 @@ fn tell(seed: u64, index: u64, what: &str) {
     let case = case(seed, index);
     println!("case {index} of seed {seed} between fences: {what}");
     println!("  repeat it: differential fences {seed} 1 {index}");
-    println!(
-        "{}",
-        line(
-            &format!("f{seed}-{index}"),
-            &case,
-            expand(&case.text, &case.setting)
-        )
-    );
-}
-
-/// Lengths whose low 32 bits are a good length: the answer is 2, and nothing is read or written.
-pub const HUGE: [usize; 3] = [1 << 32, (1 << 32) + 5, (1 << 33) + 65_536];
-
-/// Lends one area after the other with a huge length, as memory that is not accessible at all.
-pub fn huge_lengths() -> bool {
-    let end = supervise(|progress| {
-        let inaccessible = libc::map(HUGE[2], PROT_NONE, MAP_PRIVATE | MAP_NORESERVE);
-        let fences = Fences::new();
-        (0..REPORT).all(|area| {
-            HUGE.iter().all(|&length| {
-                progress.at(area as u64);
-                answers_lend(&fences, area, (inaccessible, length))
-            })
-        })
-    });
-    if let End::Killed { index, .. } = end {
-        println!(
-            "a huge length of area {index} (0 is the text): {}",
-            end.shown()
-        );
-    }
-    end == End::Verdict(true)
-}
-
-fn answers_lend(fences: &Fences<AREAS>, area: usize, huge: Lent) -> bool {
-    let case = Case {
-        text: b"len(a)".to_vec(),
-        setting: model::Setting {
-            lengths: [100; 7],
-            budget: 100,
-        },
-        salt: area as u64,
-    };
-    let windows = fences.windows(&lengths(&case.text, &case.setting), Side::End);
-    let before = Before::fill(&windows, &[&case.text], &fences.noise, case.salt);
-    let mut lent = lent_parts(&windows);
-    lent[area] = huge;
-    // SAFETY: the huge area exists, if nobody touches it.
-    let returned = unsafe { call(&lent, case.setting.budget) };
-    let seen = before.seen(&windows);
-    let untouched = seen[..REPORT].iter().all(|seen| seen.before == seen.after);
-    let good = returned == 2 && reported(&seen) == [2, 0, 0, 0, 0, 0] && untouched;
-    if !good {
-        let bytes = huge.1;
-        let report = reported(&seen);
-        println!("area {area} (0 is the text) of {bytes} bytes: returned {returned}");
-        println!("  report {report:?}, untouched: {untouched}");
-    }
-    good
+    let expected = case.expected();
+    println!("{}", line(&format!("f{seed}-{index}"), &case, expected));
 }

@@ -1,6 +1,6 @@
 //! Whether a call left all that it was lent as the model's answer asks.
 
-use crate::archive::{AREAS, REPORT};
+use crate::archive::{AREAS, REPORT, SET, TEXT};
 use crate::windows::Seen;
 use model::Report;
 
@@ -64,7 +64,8 @@ pub fn judge(returned: u32, seen: &[Seen; AREAS], expected: &Report) -> Result<(
 
 fn name(area: usize) -> String {
     match area {
-        0 => "the text".to_string(),
+        TEXT => "the text".to_string(),
+        SET => "the set".to_string(),
         REPORT => "the report".to_string(),
         buffer => format!("buffer {buffer}"),
     }
@@ -80,7 +81,7 @@ pub fn judge_surroundings(name: &str, seen: &Seen) -> Result<(), String> {
 
 /// 01: "Buffers 1 to 5 are all zero afterwards, except with 2, which writes nothing"; buffers 6 and
 /// 7 "hold that text from the front and their old bytes behind it", and on a refusal "both stay as
-/// lent". The text is only read.
+/// lent". The text and the set are only read.
 fn judge_lent(area: usize, seen: &Seen, expected: &Report) -> Result<(), String> {
     let after = &seen.after[seen.lent.clone()];
     let before = &seen.before[seen.lent.clone()];

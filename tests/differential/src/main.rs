@@ -1,20 +1,23 @@
 //! The archive libquenhovach.a against the independent model of document 01 (tests/model), on random
-//! texts and settings, and of the index of lines of document 02.
+//! texts, sets and settings, and of the index of lines of document 02.
 //!
 //! Each command ends with a line 'N passed, M failed' and has exit status 0 only if M is 0.
 //!
 //! - `differential compare SEED COUNT [FIRST]`: random cases; every number of the report and every
-//!   byte of the text, of the seven buffers and of 16 guard bytes around each of them is compared
-//!   with what the model's answer asks. From 20,000 cases on every answer, every detail of 4 and 5,
-//!   every macro and every way of requests 2 and 3 of 02 must be reached.
+//!   byte of the text, of the set, of the seven buffers and of 16 guard bytes around each of them is
+//!   compared with what the model's answer asks. From 20,000 cases on every answer, every detail of 4
+//!   and 5, every macro and every way of requests 1, 2 and 3 of 02 must be reached.
 //! - `differential demand3 SEED COUNT [FIRST]`: the letter's third demand on random pairs of
 //!   settings, without the model.
 //! - `differential fences SEED COUNT [FIRST]`: random cases with what is lent against inaccessible
 //!   pages.
 //! - `differential bytes`: each of the 256 bytes in each place where a reader asks for its class.
-//! - `differential words`: each of the 24 names in every place, before all that may follow it.
+//! - `differential words`: each of the 26 names in every place, before all that may follow it.
 //! - `differential comments`: comments that nothing closes, in every place, under marks of every
 //!   kind.
+//! - `differential sets`: good sets with each of their bytes changed, removed or doubled, cut at each
+//!   place, of all lengths at which chunks turn, and about as long as may be; many of them between
+//!   inaccessible pages too.
 //! - `differential lines SEED COUNT [FIRST]`: random cases of the index of lines; the answer, the
 //!   line or start, every word and total and 16 guard bytes around each of them. From 20,000 cases
 //!   on every way of request 6 must be taken.
@@ -41,6 +44,7 @@ mod comments;
 mod compare;
 mod demand3;
 mod fences;
+mod huge;
 mod judge;
 mod lines;
 mod memcheck;
@@ -49,6 +53,7 @@ mod noise;
 mod noted;
 mod noticed;
 mod readers;
+mod sets;
 mod shrink;
 mod supervise;
 mod tally;
@@ -60,7 +65,7 @@ use std::process::ExitCode;
 const USE: &str =
     "use: differential compare|demand3|fences|lines|lines-fences|lines-memcheck SEED COUNT [FIRST], \
     memcheck SEED COUNT, vectors|lines-vectors FILE, \
-    bytes, words, comments, lines-counted, huge, noticed or lines-noticed";
+    bytes, words, comments, sets, lines-counted, huge, noticed or lines-noticed";
 
 fn main() -> ExitCode {
     let arguments: Vec<String> = std::env::args().skip(1).collect();
@@ -82,7 +87,8 @@ fn run(words: &[&str]) -> Option<(usize, usize)> {
         ["bytes"] => Some(readers::every_byte()),
         ["words"] => Some(names::every_name()),
         ["comments"] => Some(comments::every_comment()),
-        ["huge"] => one(fences::huge_lengths() && lines::huge_lengths()),
+        ["sets"] => one(sets::every_set()),
+        ["huge"] => one(huge::huge_lengths() && lines::huge_lengths()),
         ["lines-vectors", path] => Some(lines::table(&std::fs::read_to_string(path).ok()?)),
         ["lines-counted"] => one(lines::every_place()),
         ["lines-noticed"] => one(lines::all_noticed()),

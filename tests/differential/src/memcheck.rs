@@ -2,12 +2,12 @@
 //! is defined before the call. So valgrind sees a byte read or written outside, and an answer that
 //! hangs on what the lent memory held before.
 
-use crate::archive::{call, lengths, AREAS, REPORT};
+use crate::archive::{call, given, lengths, AREAS, REPORT, TEXT};
 use crate::case::{case, line};
 use crate::judge::numbers;
 use crate::supervise::libc;
 use crate::windows::Lent;
-use model::{expand, Report};
+use model::Report;
 
 /// After so many disagreements a run stops.
 const PATIENCE: usize = 3;
@@ -77,7 +77,7 @@ pub enum Mistake {
 fn mistaken(blocks: &Blocks<AREAS>, mistake: Mistake) {
     match mistake {
         Mistake::None => {}
-        Mistake::Outside => blocks.look_at(0, blocks.0[0].1),
+        Mistake::Outside => blocks.look_at(TEXT, blocks.0[TEXT].1),
         Mistake::Undefined => blocks.look_at(7, 0),
     }
 }
@@ -87,12 +87,14 @@ pub fn random_cases(seed: u64, count: u64, mistake: Mistake) -> bool {
     let mut failed = 0;
     for index in 0..count {
         let case = case(seed, index);
-        let blocks = Blocks::new(lengths(&case.text, &case.setting));
-        blocks.fill(0, 0, &case.text);
+        let blocks = Blocks::new(lengths(&case));
+        for (area, bytes) in given(&case) {
+            blocks.fill(area, 0, bytes);
+        }
         mistaken(&blocks, mistake);
         // SAFETY: the blocks are as long as is said and aligned as malloc does.
         let returned = unsafe { call(&blocks.0, case.setting.budget) };
-        let expected = expand(&case.text, &case.setting);
+        let expected = case.expected();
         if !agrees(&blocks, returned, &expected) {
             println!("case {index} of seed {seed}: not as expected under valgrind");
             println!("{}", line(&format!("v{seed}-{index}"), &case, expected));

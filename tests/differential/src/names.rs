@@ -1,13 +1,15 @@
-//! Each of the 24 names in every place where a name may stand, before all that may follow it: the
-//! archive against the model, with ample and with tight rooms.
+//! Each of the 26 names in every place where a name may stand, before all that may follow it: the
+//! archive against the model, with ample and with tight rooms. Where include and sinclude stand, a set
+//! has what they ask for, or has no items.
 
 use crate::arenas::Arenas;
 use crate::case::{line, Case};
 use model::generate::names::{filled, Place, FOLLOWERS, PLACES};
 use model::generate::setting::exact_and_shorter;
-use model::macros::Predefined;
+use model::house::{write, Item};
+use model::predefined::Predefined;
 use model::ways::{keeps_bare_call, Use, Ways};
-use model::{expand, expand_traced, Report, Setting, Trace};
+use model::{Report, Setting, Trace, NO_ITEMS};
 
 /// Gives the cases that passed and failed. A place that does not show what it is there for fails
 /// too, and so does a way that is never taken.
@@ -39,8 +41,10 @@ impl Table {
     fn try_place(&mut self, (text, uses): &Place) {
         let mut here = Ways::default();
         for which in Predefined::ALL {
-            for follower in FOLLOWERS {
-                self.try_text(&mut here, &filled(text, which.name(), follower));
+            for set in sets(which) {
+                for follower in FOLLOWERS {
+                    self.try_text(&mut here, &filled(text, which.name(), follower), &set);
+                }
             }
         }
         for (how, which) in expected(text, uses) {
@@ -52,32 +56,43 @@ impl Table {
         self.all.add(&here);
     }
 
-    fn try_text(&mut self, ways: &mut Ways, text: &str) {
-        let ample = Setting::ample();
-        let (report, trace) = expand_traced(text.as_bytes(), &ample);
+    fn try_text(&mut self, ways: &mut Ways, text: &str, set: &[u8]) {
+        let mut case = Case {
+            text: text.into(),
+            set: set.to_vec(),
+            setting: Setting::ample(),
+            salt: self.passed as u64,
+        };
+        let (report, trace) = case.traced();
         let tight = tight(&report, &trace, self.texts);
         self.texts += 1;
-        self.try_case(ways, text, ample, report);
+        self.try_case(ways, &case, report);
         for setting in tight {
-            let report = expand(text.as_bytes(), &setting);
-            self.try_case(ways, text, setting, report);
+            case.setting = setting;
+            case.salt = self.passed as u64;
+            self.try_case(ways, &case, case.expected());
         }
     }
 
-    fn try_case(&mut self, ways: &mut Ways, text: &str, setting: Setting, expected: Report) {
-        let walked = ways.walk(text.as_bytes(), &expected);
-        let case = Case {
-            text: text.into(),
-            setting,
-            salt: self.passed as u64,
-        };
-        match self.arenas.try_case(&case, &expected).and(walked) {
+    fn try_case(&mut self, ways: &mut Ways, case: &Case, expected: Report) {
+        let walked = ways.walk(&case.text, &case.set, &expected);
+        match self.arenas.try_case(case, &expected).and(walked) {
             Ok(()) => self.passed += 1,
             Err(what) => {
-                println!("{text:?}: {what}\n{}", line("words", &case, expected));
+                let text = String::from_utf8_lossy(&case.text);
+                println!("{text:?}: {what}\n{}", line("words", case, expected));
                 self.failed += 1;
             }
         }
+    }
+}
+
+/// The sets that are lent with a name: those who include get one with what follows them, too.
+fn sets(which: Predefined) -> Vec<Vec<u8>> {
+    let items = [Item::new(b"2", b"<2>"), Item::new(b"", b"`n,one'")];
+    match which {
+        Predefined::Include | Predefined::Sinclude => vec![NO_ITEMS.to_vec(), write(&items)],
+        _ => vec![NO_ITEMS.to_vec()],
     }
 }
 

@@ -1,11 +1,14 @@
 //! What the lent memory holds before a call: bytes that no run may look at or change by mistake.
 
 use model::random::Random;
+use std::borrow::Cow;
 
-/// No window of lent memory with its surroundings is longer.
+/// No window of lent memory with its surroundings is longer, but for that of a set.
 pub const LONGEST: usize = 2 * 65_536;
+/// Nor is one of these.
+pub const LONGEST_SET: usize = 1_048_576 + LONGEST;
 
-/// Blocks of bytes, each longer than any window, from which windows are cut.
+/// Blocks of bytes from which windows are cut; what is longer is a block over and over.
 pub struct Noise {
     blocks: Vec<Vec<u8>>,
 }
@@ -27,10 +30,15 @@ impl Noise {
     }
 
     /// The bytes that memory number `area` holds before the case with this salt. Most are random.
-    pub fn before(&self, salt: u64, area: usize, length: usize) -> &[u8] {
+    pub fn before(&self, salt: u64, area: usize, length: usize) -> Cow<'_, [u8]> {
         let mut random = Random::numbered(salt, area as u64);
         let block = &self.blocks[random.pick(&[0, 0, 0, 0, 0, 0, 0, 0, 0, 0, 0, 0, 1, 1, 2, 3])];
+        if length > LONGEST {
+            let mut bytes = block.repeat(length.div_ceil(block.len()));
+            bytes.truncate(length);
+            return Cow::Owned(bytes);
+        }
         let from = random.below(block.len() - length);
-        &block[from..from + length]
+        Cow::Borrowed(&block[from..from + length])
     }
 }

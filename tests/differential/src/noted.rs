@@ -1,12 +1,14 @@
 //! Whether the ways of request 2 of 02 are told apart: short texts, each with all the ways that it
-//! takes. Those of request 3 are told apart by tests of the model's own.
+//! takes. Those of requests 1 and 3 are told apart by tests of the model's own.
 
 use crate::tally::Tally;
+use model::ways::inclusions::Inclusions;
 use model::ways::remarks::Remarks;
+use model::ways::sets::Sets;
 use model::ways::Ways;
-use model::{expand, Setting};
+use model::{expand, Setting, NO_ITEMS};
 
-const WITH_AMPLE_ROOM: [&str; 25] = [
+const WITH_AMPLE_ROOM: [&str; 27] = [
     "len -> plain to output + plain at the end + plain len",
     "eval ( -> plain to output + space, then ( + plain eval",
     "incr\t( -> plain to output + tab, then ( + plain incr",
@@ -15,6 +17,8 @@ const WITH_AMPLE_ROOM: [&str; 25] = [
     "index#\n( -> plain to output + comment, then ( + plain index",
     "len\r( -> plain to output + plain len",
     "len(a) -> opened len",
+    "include ( -> plain to output + space, then ( + plain include",
+    "sinclude(a) -> opened sinclude",
     "divnum -> bare divnum",
     "divnum( -> opened divnum",
     "divert(1)define; -> opened divert + plain to a stream + plain define",
@@ -71,7 +75,8 @@ fn takes(said: &str, setting: &Setting) -> bool {
     let (text, said) = said.split_once(" -> ").expect("a text and its ways");
     let mut said: Vec<&str> = said.split(" + ").collect();
     let mut ways = Ways::default();
-    let wrong = ways.walk(text.as_bytes(), &expand(text.as_bytes(), setting));
+    let report = expand(text.as_bytes(), NO_ITEMS, setting);
+    let wrong = ways.walk(text.as_bytes(), NO_ITEMS, &report);
     let counts = ways.counts().into_iter().filter(|(_, count)| *count > 0);
     let mut taken: Vec<String> = counts.map(|(way, _)| way).chain(wrong.err()).collect();
     said.sort();
@@ -84,9 +89,14 @@ fn takes(said: &str, setting: &Setting) -> bool {
 
 fn all_missed() -> bool {
     let missing = Tally::default().missing();
-    let remarks = Remarks::default().counts().map(|(way, _)| way.to_string());
     let words = Ways::default().counts().into_iter().map(|(way, _)| way);
-    let mut unmissed: Vec<String> = words.chain(remarks).collect();
+    let others = [
+        Remarks::default().counts().to_vec(),
+        Sets::default().counts().to_vec(),
+        Inclusions::default().counts().to_vec(),
+    ];
+    let others = others.concat().into_iter().map(|(way, _)| way.to_string());
+    let mut unmissed: Vec<String> = words.chain(others).collect();
     unmissed.retain(|way| !missing.contains(way));
     for way in &unmissed {
         println!("no run takes {way:?}, and it is not reported as missing");

@@ -1,7 +1,7 @@
 //! Whether the comparisons notice what they are there for: calls that went well are tampered with,
 //! each time in one place.
 
-use crate::archive::{call, lengths, AREAS, TEXT};
+use crate::archive::{call, given, lengths, AREAS, SET, TEXT};
 use crate::arenas::Arenas;
 use crate::case::case;
 use crate::demand3::{check, Ran, Sentence};
@@ -11,7 +11,7 @@ use crate::noted::ways_noted;
 use crate::supervise::{libc, supervise, End};
 use crate::windows::{lent_parts, Before, Seen};
 use model::random::Random;
-use model::{expand, Setting};
+use model::Setting;
 
 /// How many calls are tampered with, and the seed of their cases.
 const CALLS: u64 = 500;
@@ -24,7 +24,7 @@ pub fn all_noticed() -> bool {
     let sentences = sentences_noticed();
     let ways = ways_noted();
     let case = case(SEED, 0);
-    let fences = fences_trap(&lengths(&case.text, &case.setting), &[TEXT]);
+    let fences = fences_trap(&lengths(&case), &[TEXT, SET]);
     bytes && sentences && ways && fences
 }
 
@@ -33,9 +33,9 @@ fn bytes_noticed() -> bool {
     let mut arenas = Arenas::new();
     calls_noticed(|index, tried| {
         let case = case(SEED, index);
-        let expected = expand(&case.text, &case.setting);
+        let expected = case.expected();
         let windows = arenas.windows(&case);
-        let before = Before::fill(&windows, &[&case.text], &arenas.noise, case.salt);
+        let before = Before::fill(&windows, &given(&case), &arenas.noise, case.salt);
         // SAFETY: the windows lie in the arenas, and the report is aligned.
         let returned = unsafe { call(&lent_parts(&windows), case.setting.budget) };
         let judge = |returned, seen: &[Seen; AREAS]| judge(returned, seen, &expected);

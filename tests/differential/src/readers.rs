@@ -2,7 +2,7 @@
 
 use crate::arenas::Arenas;
 use crate::case::{line, Case};
-use model::{expand, Setting};
+use model::{Setting, NO_ITEMS};
 
 /// Stands for the byte in a text.
 const PLACEHOLDER: u8 = b'@';
@@ -62,7 +62,7 @@ pub fn every_byte() -> (usize, usize) {
 
 fn try_byte(arenas: &mut Arenas, text: &str, byte: u8) -> Result<(), String> {
     let case = case(text, byte);
-    let expected = expand(&case.text, &case.setting);
+    let expected = case.expected();
     let verdict = arenas.try_case(&case, &expected);
     verdict.map_err(|what| format!("{what}\n{}", line(&format!("byte-{byte}"), &case, expected)))
 }
@@ -71,7 +71,7 @@ fn try_byte(arenas: &mut Arenas, text: &str, byte: u8) -> Result<(), String> {
 fn tells_classes(text: &str) -> bool {
     let answers = EACH.map(|byte| {
         let case = case(text, byte);
-        let report = expand(&case.text, &case.setting);
+        let report = case.expected();
         (
             report.number,
             report.steps,
@@ -90,6 +90,7 @@ fn replaced(text: &[u8], old: u8, new: u8) -> Vec<u8> {
 fn case(text: &str, byte: u8) -> Case {
     Case {
         text: replaced(text.as_bytes(), PLACEHOLDER, byte),
+        set: NO_ITEMS.to_vec(),
         setting: Setting::ample(),
         salt: u64::from(byte),
     }

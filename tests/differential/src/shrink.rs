@@ -1,6 +1,7 @@
 //! Makes a failing case smaller as long as it fails.
 
 use crate::case::Case;
+use model::house::{write, Item, Set};
 use model::LIMIT;
 
 /// How many smaller cases are tried at most.
@@ -15,9 +16,11 @@ pub fn shrink(case: &Case, fails: impl Fn(&Case) -> bool) -> Case {
         left: TRIES,
         fails,
     };
-    shrinking.shorten_text();
+    shrinking.drop_items();
+    shrinking.shorten(|case| &mut case.text);
     shrinking.simplify_setting();
-    shrinking.shorten_text();
+    shrinking.shorten(|case| &mut case.set);
+    shrinking.shorten(|case| &mut case.text);
     shrinking.best
 }
 
@@ -41,20 +44,46 @@ impl<F: Fn(&Case) -> bool> Shrinking<F> {
         fails
     }
 
-    /// Drops halves, quarters, .. and at last single bytes of the text.
-    fn shorten_text(&mut self) {
-        let mut part = self.best.text.len().div_ceil(2);
+    /// Drops halves, quarters, .. and at last single bytes of the text or of the set.
+    fn shorten(&mut self, bytes: fn(&mut Case) -> &mut Vec<u8>) {
+        let mut part = bytes(&mut self.best).len().div_ceil(2);
         while part > 0 {
             let mut at = 0;
-            while at < self.best.text.len() && self.left > 0 {
+            while at < bytes(&mut self.best).len() && self.left > 0 {
                 let mut case = self.best.clone();
-                case.text.drain(at..(at + part).min(case.text.len()));
+                let bytes = bytes(&mut case);
+                let to = (at + part).min(bytes.len());
+                bytes.drain(at..to);
                 if !self.keep(case) {
                     at += part;
                 }
             }
             part /= 2;
         }
+    }
+
+    /// Drops items of a good set, and halves of what they include: bytes that go one by one would
+    /// leave bad ones.
+    fn drop_items(&mut self) {
+        let mut at = 0;
+        while let Ok(Set { items }) = Set::read(&self.best.set) {
+            let Some(item) = items.get(at) else {
+                return;
+            };
+            let mut dropped = items.clone();
+            dropped.remove(at);
+            let mut halved = items.clone();
+            halved[at].text.truncate(item.text.len() / 2);
+            if !self.keep_items(&dropped) && (item.text.is_empty() || !self.keep_items(&halved)) {
+                at += 1;
+            }
+        }
+    }
+
+    fn keep_items(&mut self, items: &[Item]) -> bool {
+        let mut case = self.best.clone();
+        case.set = write(items);
+        self.keep(case)
     }
 
     /// Lends ample room and budget where that does not matter.

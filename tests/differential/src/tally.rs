@@ -1,28 +1,35 @@
 //! How many cases ended how, and what they reached. What no case reached is not tested.
 
-use model::macros::Predefined;
+use crate::case::Case;
+use model::predefined::{Calls, Predefined};
+use model::ways::inclusions::Inclusions;
 use model::ways::remarks::Remarks;
+use model::ways::sets::Sets;
 use model::ways::Ways;
-use model::{Report, Trace};
+use model::{Report, Trace, ANSWERS, NO_ITEMS};
 use std::fmt::Display;
 
 /// From so many cases on everything must be reached.
 pub const ENOUGH: u64 = 20_000;
 /// The ways of longer runs are not looked at: they take long and show no more.
 const MOST_STEPS: u32 = 100;
+/// Those of including are seen in fewer cases, and later.
+const MOST_STEPS_WITH_ITEMS: u32 = 300;
 /// The most characters of a line of counts.
 const WIDTH: usize = 128;
 
 #[derive(Default)]
 pub struct Tally {
-    answers: [u64; 14],
+    answers: [u64; ANSWERS],
     room: [u64; 7],
     unclosed: [u64; 3],
-    calls: [u64; 24],
+    calls: Calls,
     steps: u64,
     crossings: u64,
     ways: Ways,
     remarks: Remarks,
+    sets: Sets,
+    inclusions: Inclusions,
 }
 
 impl Tally {
@@ -40,14 +47,21 @@ impl Tally {
         self.crossings += trace.crossings;
     }
 
-    /// Adds the ways of a run, which takes its steps twice more. Fails if the model breaks a rule of
-    /// 02.
-    pub fn add_ways(&mut self, text: &[u8], report: &Report) -> Result<(), String> {
-        if report.steps > MOST_STEPS {
-            return Ok(());
+    /// Adds the ways of a run, which takes its steps up to three times more. Fails if the model
+    /// breaks a rule of 02.
+    pub fn add_ways(&mut self, case: &Case, report: &Report) -> Result<(), String> {
+        let Case {
+            text, set, setting, ..
+        } = case;
+        self.sets.note(text, set, setting, report)?;
+        if set != NO_ITEMS && report.steps <= MOST_STEPS_WITH_ITEMS {
+            self.inclusions.walk(text, set, setting, report)?;
         }
-        let words = self.ways.walk(text, report);
-        self.remarks.walk(text, report).and(words)
+        if report.steps <= MOST_STEPS {
+            self.ways.walk(text, set, report)?;
+            self.remarks.walk(text, set, report)?;
+        }
+        Ok(())
     }
 
     /// Every count with its name.
@@ -80,8 +94,9 @@ impl Tally {
         counts.push(("token across the border".to_string(), self.crossings));
         counts.push(("step".to_string(), self.steps));
         counts.extend(self.ways.counts());
-        let remarks = self.remarks.counts().into_iter();
-        counts.extend(remarks.map(|(way, count)| (way.to_string(), count)));
+        counts.extend(named(self.remarks.counts()));
+        counts.extend(named(self.sets.counts()));
+        counts.extend(named(self.inclusions.counts()));
         counts
     }
 
@@ -89,6 +104,10 @@ impl Tally {
     pub fn missing(&self) -> Vec<String> {
         missing(&self.counts())
     }
+}
+
+fn named<const N: usize>(counts: [(&str, u64); N]) -> [(String, u64); N] {
+    counts.map(|(way, count)| (way.to_string(), count))
 }
 
 /// Prints all counts, so many in a line. False if something was never reached, in enough cases.

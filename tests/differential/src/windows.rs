@@ -50,18 +50,17 @@ pub struct Seen<'a> {
 pub struct Before<'n, const N: usize>([Cow<'n, [u8]>; N]);
 
 impl<'n, const N: usize> Before<'n, N> {
-    /// Fills the windows with noise, and the lent parts of the first of them with what is given for
-    /// them.
+    /// Fills the windows with noise, and the lent parts of some areas with what is given for them.
     pub fn fill(
         windows: &[Window; N],
-        given: &[impl AsRef<[u8]>],
+        given: &[(usize, impl AsRef<[u8]>)],
         noise: &'n Noise,
         salt: u64,
     ) -> Before<'n, N> {
         Before(std::array::from_fn(|area| {
             let window = &windows[area];
-            let mut bytes = Cow::Borrowed(noise.before(salt, area, window.length));
-            if let Some(given) = given.get(area) {
+            let mut bytes = noise.before(salt, area, window.length);
+            if let Some((_, given)) = given.iter().find(|(number, _)| *number == area) {
                 bytes.to_mut()[window.lent.clone()].copy_from_slice(given.as_ref());
             }
             window.fill(&bytes);

@@ -48,6 +48,7 @@ REFUSALS = {
     "no text": (b"defn(`len')", [], "11 0 2 10 0 0", b"call the macro itself"),
     "gone": (b"len(undefine(`len'))", [], "12 0 4 19 0 0", b"undefine or popdef"),
     "deep": (b"len(" * 65, [], "13 0 64 256 0 0", b"nest fewer calls"),
+    "no item": (b"include(x)", [], "15 0 2 9 0 0", b"-I DIR"),
     "a refusal drops output and error text": (b"good errprint(`e')`bad", [], "5 1 5 18 0 0", b"end-quote mark"),
 }
 

@@ -26,10 +26,10 @@ RUNS_ON_COMMENT, RUNS_ON_DNL = RUNS_ON % "the comment takes", RUNS_ON % "`dnl` d
 CLOSER = "%s the rest of the line, so the `)` there closes no call"
 CLOSER_COMMENT, CLOSER_DNL = CLOSER % "`#` makes a comment of", CLOSER % "`dnl` drops"
 
-# The macros of GNU m4 that are not in document 01.
+# The macros of GNU m4 that are in neither document.
 OTHERS = """
-__file__ __line__ __program__ builtin changeword debugfile debugmode dumpdef esyscmd format include indir maketemp mkstemp patsubst regexp sinclude syscmd
-sysval traceoff traceon
+__file__ __line__ __program__ builtin changeword debugfile debugmode dumpdef esyscmd format indir maketemp mkstemp patsubst regexp syscmd sysval traceoff
+traceon
 """
 
 # Texts that are refused: the texts of 1.m4, 2.m4 and so on, the answer's number, the hints.
@@ -68,7 +68,9 @@ REFUSED = {
     "a curly end mark": (["x define(`n’, 5)"], 5, ["1.m4:1:12: " + ALIKE % ("’", "2019")]),
     "curly quotes round a parenthesis": (["len(‘(’)"], 5, ["1.m4:1:9: " + ALIKE % ("’", "2019"), "1.m4:1:5: " + ALIKE % ("‘", "2018")]),
     "a macro of GNU m4": (["eval(format(`%d', 3) + 1)"], 8, ["1.m4:1:6: " + FOREIGN % "format"]),
-    "an include before": (["include(`common.m4')dnl\neval(height + 1)\n"], 8, ["1.m4:1:1: " + FOREIGN % "include"]),
+    "an include that is none, for a blank": (["include (`common.m4')dnl\neval(height + 1)\n"], 8, ["1.m4:1:1: " + GAP % "include"]),
+    "an include of a name that is not quoted": (["a include (yard/common.m4)\nincr(height)\n"], 7, ["1.m4:1:3: " + GAP % "include"]),
+    "an sinclude that is none": (["sinclude\n(`common')incr(height)\n"], 7, ["1.m4:1:1: " + NEWLINE % "sinclude"]),
     "a byte-order mark in an argument": (["incr(", "\ufeff1)"], 7, ["2.m4:1:1: " + MARK]),
     "a byte-order mark outside calls": (["a\n", "\ufeffeval(08)"], 8, []),
     "a parenthesis in a comment": (["gain=len(#)"], 5, ["1.m4:1:10: " + CLOSER_COMMENT]),
@@ -181,6 +183,7 @@ WARNED = {
 SILENT = [
     ("the len of the boom, index and shift, ifelse`' eval\n", "the len of the boom, index and shift, ifelse eval\n"),
     ("the index (see below), the len (840 cm), a shift (night) to\ndefine (or so, as you like)\n", None),
+    ("we include (e.g. this) and include (that) include\n", None),
     ("an index of (`a')\nlen\n\n(the end)\n", "an index of (a)\nlen\n\n(the end)\n"),
     ("pushdef(`len', `x')len popdef(`len')len", "x len"),
     ("len(define) define(`f', `<$1>')f(index)", "6 <index>"),
@@ -308,8 +311,8 @@ def known(_):
     for name in lists["EVERYDAY"]:
         text = b"the %s (see below)" % name.encode()
         check("a word of everyday writing: " + name, run(["--warn"], text), (0, text, b""))
-    check("four of them", sorted(lists["EVERYDAY"]), ["define", "index", "len", "shift"])
+    check("five of them", sorted(lists["EVERYDAY"]), ["define", "include", "index", "len", "shift"])
     check("names of GNU m4", sorted(set(lists["FOREIGN"]) & set(names)), [])
-    check("21 of them", len(lists["FOREIGN"]), len(OTHERS.split()))
+    check("19 of them", len(lists["FOREIGN"]), len(OTHERS.split()))
     for name in OTHERS.split():
         check(name, run(["--warn"], name.encode() + b"(a)")[2], lines(["standard input:1:1: " + FOREIGN % name]))

@@ -15,6 +15,7 @@ import apart  # noqa: E402
 import crate  # noqa: E402
 import files  # noqa: E402
 import hints  # noqa: E402
+import included  # noqa: E402
 import interrupted  # noqa: E402
 import long_runs  # noqa: E402
 import several  # noqa: E402
@@ -25,7 +26,7 @@ from tally import finish  # noqa: E402
 PARTS = [
     answers.endings, answers.places, widths.lines, widths.table, files.inputs, files.sheets, files.reports, files.limits, files.standard_output, apart.told_apart, apart.harmless,
     apart.written_through, several.joined, several.places, several.too_long, several.unreadable, several.read_first, several.clashes, hints.refused, hints.warned, hints.beside, hints.linear, hints.known,
-    interrupted.signals, long_runs.finished, long_runs.interrupted, usage.usage,
+    included.folders, included.written, included.failing, included.too_long, included.sets, included.clashes, included.refused, included.warned, interrupted.signals, long_runs.finished, long_runs.interrupted, usage.usage,
 ]
 
 

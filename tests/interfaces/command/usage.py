@@ -30,6 +30,13 @@ COMPLAINTS = [
     (["a", ""], "a template's name is empty"),
     (["--report="], "--report: its value is missing"),
     (["-o", "a", "-o", "b"], "-o: it is given twice"),
+    (["-I"], "-I: its value is missing"),
+    (["-I", "a", "--set", "b"], "-I and --set: a run has one set, of folders or of a file"),
+    (["--set", "a", "--set", "a"], "--set: it is given twice"),
+    (["--set", "-"], "--set: it takes a file's name, not -"),
+    (["-I", "a", "--write-set", "-"], "--write-set: it takes a file's name, not -"),
+    (["--write-set", "a"], "--write-set: it writes the set that -I makes, and no -I is given"),
+    (["-set", "a"], "unknown option -set; did you mean --set?"),
     (["--output", "a"], "--output: it takes the sheet's length, 0 to 65536; the sheet's file is given with -o"),
 ]
 
@@ -55,7 +62,7 @@ def usage(folder):
     version = re.search(r'^version = "(.*)"', get(os.path.join(CRATE, "Cargo.toml")).decode(), re.M)[1]
     check("version", run(["-V"]), (0, b"quenhovach " + version.encode() + b"\n", b""))
     manual = get(MANUAL).decode().replace("\\-", "-")
-    check("the manual page has every option of the help", [o for o in re.findall(r"--?[a-zA-Z]+", out.decode()) if o not in manual], [])
+    check("the manual page has every option of the help", [o for o in re.findall(r"(?<![\w/])--?[a-zA-Z][a-zA-Z-]*", out.decode()) if o not in manual], [])
     check("and the version", '"quenhovach %s"' % version in manual, True)
     if not shutil.which("groff"):
         return check("groff is installed and sets the manual page", False, True)

@@ -41,7 +41,7 @@ pub enum Open {
     Call,
 }
 
-/// The answers 2 to 13 of the table in 01.
+/// The answers 2 to 13 of the table in 01, and those that 02 adds for a run.
 #[derive(Clone, Copy, Debug, PartialEq, Eq)]
 pub enum Refusal {
     Lend,
@@ -57,10 +57,17 @@ pub enum Refusal {
     NoText,
     Gone,
     Deep,
+    /// "bad or overlong set"
+    BadSet,
+    /// "unknown include"
+    NoItem,
 }
 
+/// How many answers there are, from 0 on.
+pub const ANSWERS: usize = 16;
+
 impl Refusal {
-    /// The first column of the table in 01.
+    /// The first column of the table in 01; request 1 of 02 has 14 and 15.
     pub fn number(self) -> u32 {
         match self {
             Refusal::Lend => 2,
@@ -75,10 +82,13 @@ impl Refusal {
             Refusal::NoText => 11,
             Refusal::Gone => 12,
             Refusal::Deep => 13,
+            Refusal::BadSet => 14,
+            Refusal::NoItem => 15,
         }
     }
 
-    /// The last column of the table in 01.
+    /// The last column of the table in 01; 02: "The detail of a number added here or later is 0 unless
+    /// said otherwise."
     pub fn detail(self) -> u32 {
         match self {
             Refusal::Room(buffer) => buffer,

@@ -83,6 +83,11 @@ impl OpenCalls {
         Ok(())
     }
 
+    /// How many calls are open.
+    pub fn count(&self) -> usize {
+        self.calls.len()
+    }
+
     /// The call that collects, if one is open.
     pub fn innermost(&self) -> Option<&Call> {
         self.calls.last()

@@ -1,6 +1,6 @@
 //! Definitions: predefined meanings and those made by the text.
 
-use crate::macros::Predefined;
+use crate::predefined::Predefined;
 use std::collections::HashMap;
 
 /// What a name stands for.
@@ -38,7 +38,7 @@ fn cost(name: &[u8], meaning: &Meaning) -> usize {
 }
 
 impl Definitions {
-    /// "These 24 macros are predefined ... No other name is."
+    /// "These 24 macros are predefined ... No other name is." Request 1 of 02 adds two.
     pub fn at_start() -> Definitions {
         let predefined = Predefined::ALL.iter();
         let by_name = predefined.map(|&which| {
@@ -104,7 +104,7 @@ mod tests {
     #[test]
     fn room_comes_back() {
         let mut definitions = Definitions::at_start();
-        assert_eq!(definitions.by_name.len(), 24);
+        assert_eq!(definitions.by_name.len(), 26);
         definitions.define(b"len", b"abc");
         assert_eq!(definitions.held(), 6);
         definitions.pushdef(b"len", b"");

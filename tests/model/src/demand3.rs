@@ -1,4 +1,5 @@
-//! The letter's third demand, "Room never shapes text", tried on two runs of the model.
+//! The letter's third demand, "Room never shapes text", tried on two runs of the model; 02, request
+//! 1: "for two runs with one set".
 
 use crate::answer::Setting;
 use crate::generate::Pair;
@@ -17,8 +18,8 @@ pub struct Ran {
 /// Tries a pair. Gives the number of the first answer, or what is violated.
 pub fn try_pair(random: &mut Random, pair: &Pair) -> Result<u32, String> {
     let [smaller, larger] = &pair.settings;
-    let first = run(random, &pair.text, smaller)?;
-    let second = run(random, &pair.text, larger)?;
+    let first = run(random, pair, smaller)?;
+    let second = run(random, pair, larger)?;
     let [number, detail, steps, ..] = first.numbers;
     if number != 3 && number != 4 {
         return if first == second {
@@ -44,14 +45,15 @@ fn violated(what: &str, pair: &Pair, first: &Ran, second: &Ran) -> String {
     format!("{what}: {pair:?} gives {first:?} and {second:?}")
 }
 
-/// Runs a text in buffers that hold random bytes before, and looks at every byte afterwards.
-fn run(random: &mut Random, text: &[u8], setting: &Setting) -> Result<Ran, String> {
+/// Runs a text with its set in buffers that hold random bytes before, and looks at every byte
+/// afterwards.
+fn run(random: &mut Random, pair: &Pair, setting: &Setting) -> Result<Ran, String> {
     let salt = random.bits();
     let before = setting
         .lengths
         .map(|length| (0..length).map(|i| noise(salt, i)).collect::<Vec<u8>>());
     let mut buffers = before.clone();
-    let numbers = expand_buffers(text, &mut buffers, setting.budget);
+    let numbers = expand_buffers(&pair.text, &pair.set, &mut buffers, setting.budget);
     let [number, .., outputs, errors] = numbers;
     let (outputs, errors) = (outputs as usize, errors as usize);
     let untouched = buffers[5][errors..] == before[5][errors..]
@@ -65,7 +67,7 @@ fn run(random: &mut Random, text: &[u8], setting: &Setting) -> Result<Ran, Strin
         || (number > 1 && outputs + errors > 0)
     {
         return Err(format!(
-            "buffers are not left as they should be: {text:?} with {setting:?}"
+            "buffers are not left as they should be: {pair:?} with {setting:?}"
         ));
     }
     Ok(Ran {

@@ -1,15 +1,17 @@
-//! Random texts with settings, from a seed. They are made to reach every macro and every answer of
-//! 01, and every way of a plain word and of a last comment of 02. Cases of the index of lines are made
-//! in [`lines`].
+//! Random texts with sets and settings, from a seed. They are made to reach every macro and every
+//! answer of 01, and every way of a plain word, of a last comment and of a set of 02. Cases of the
+//! index of lines are made in [`lines`].
 //!
 //! A text comes from a grammar of plausible pieces ([`writer`]), from a scenario with a purpose
 //! ([`scenarios`], [`bare`], [`last`], [`heavy`]), from the table of vectors, or is a soup of words;
-//! then some of its bytes may be changed ([`mutate`]).
+//! then some of its bytes may be changed ([`mutate`]). Most texts get a set without items; others are
+//! made for theirs ([`included`], [`sets`]).
 
 mod bare;
 pub mod comments;
 mod expressions;
 mod heavy;
+mod included;
 mod last;
 pub mod lines;
 mod marks;
@@ -17,6 +19,7 @@ mod mutate;
 pub mod names;
 mod pairs;
 mod scenarios;
+pub mod sets;
 pub mod setting;
 mod words;
 mod writer;
@@ -24,15 +27,23 @@ mod writer;
 use crate::answer::Setting;
 use crate::random::Random;
 use crate::table;
-use crate::LIMIT;
+use crate::{LIMIT, NO_ITEMS};
 pub use pairs::{pair, Pair};
 use std::sync::OnceLock;
 use writer::Writer;
 
-/// A text and the setting to expand it with.
+/// A text and the set from which it may include.
+#[derive(Clone, Debug, PartialEq, Eq)]
+pub struct Input {
+    pub text: Vec<u8>,
+    pub set: Vec<u8>,
+}
+
+/// A text with its set and the setting to expand it with.
 #[derive(Clone, Debug, PartialEq, Eq)]
 pub struct Case {
     pub text: Vec<u8>,
+    pub set: Vec<u8>,
     pub setting: Setting,
 }
 
@@ -48,9 +59,22 @@ pub enum Scale {
 /// Makes a case. The text is tried once with ample room, so that a setting can lie close to what it
 /// needs.
 pub fn case(random: &mut Random, scale: Scale) -> Case {
-    let text = text(random, scale);
-    let setting = setting::choose(random, &text, scale);
-    Case { text, setting }
+    let input = input(random, scale);
+    let setting = setting::choose(random, &input, scale);
+    let Input { text, set } = input;
+    Case { text, set, setting }
+}
+
+/// Makes a text with its set.
+pub fn input(random: &mut Random, scale: Scale) -> Input {
+    match random.below(100) {
+        0..=1 => row_with_items(random),
+        2..=24 => included::input(random, scale),
+        _ => Input {
+            text: text(random, scale),
+            set: NO_ITEMS.to_vec(),
+        },
+    }
 }
 
 /// Makes a text, most of them short.
@@ -104,24 +128,36 @@ fn length(random: &mut Random, scale: Scale) -> usize {
     }
 }
 
-/// A text of tests/vectors.tsv, or two of them joined.
-fn from_vectors(random: &mut Random) -> Vec<u8> {
-    static TEXTS: OnceLock<Vec<Vec<u8>>> = OnceLock::new();
-    let texts = TEXTS.get_or_init(|| {
+/// The lines of tests/vectors.tsv, but for long texts and sets.
+fn vectors() -> &'static [Input] {
+    static ROWS: OnceLock<Vec<Input>> = OnceLock::new();
+    ROWS.get_or_init(|| {
         let table = include_str!("../../vectors.tsv");
         let rows = table
             .lines()
             .filter(|line| !line.starts_with('#'))
             .map(table::read);
-        rows.map(|row| row.expect("a line of vectors").text)
-            .filter(|text| text.len() < 1_000)
+        rows.map(|row| row.expect("a line of vectors"))
+            .filter(|row| row.text.len() < 1_000 && row.set.len() < 1_000)
+            .map(|table::Row { text, set, .. }| Input { text, set })
             .collect()
-    });
-    let mut text = texts[random.below(texts.len())].clone();
+    })
+}
+
+/// A text of tests/vectors.tsv, or two of them joined.
+fn from_vectors(random: &mut Random) -> Vec<u8> {
+    let rows = vectors();
+    let mut text = rows[random.below(rows.len())].text.clone();
     if random.chance(40) {
-        text.extend(&texts[random.below(texts.len())]);
+        text.extend(&rows[random.below(rows.len())].text);
     }
     text
+}
+
+/// A line of tests/vectors.tsv with a set of its own.
+fn row_with_items(random: &mut Random) -> Input {
+    let rows: Vec<&Input> = vectors().iter().filter(|row| row.set != NO_ITEMS).collect();
+    random.pick(&rows).clone()
 }
 
 /// Names, marks, numbers and odd bytes without any order.

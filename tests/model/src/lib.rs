@@ -1,13 +1,13 @@
-//! A plain executable model of the expander that document 01 defines, with the requests 2, 3 and 5
-//! of document 02, and of the index of lines that its request 6 asks for.
+//! A plain executable model of the expander that document 01 defines, with the requests 1, 2, 3 and
+//! 5 of document 02, and of the index of lines that its request 6 asks for.
 //!
 //! Its rules are written from the papers alone and care for clarity first. Memory comes from the
 //! heap; the seven lent lengths only judge what the state holds after each step, as 01 says: "Room
 //! is judged on the state after a step, not on the way."
 //!
-//! The modules follow the paper: [`bytes`], [`marks`] and [`tokens`] read; [`calls`],
-//! [`definitions`], [`streams`] and [`ahead`] hold; [`numbers`], [`eval`], [`expansion`] and
-//! [`macros`] work; [`step`] and [`run`] join them. [`lines`] stands by itself: it indexes a text
+//! The modules follow the paper: [`bytes`], [`marks`], [`tokens`] and [`house`] read; [`calls`],
+//! [`definitions`], [`predefined`], [`streams`] and [`ahead`] hold; [`numbers`], [`eval`],
+//! [`expansion`] and [`macros`] work; [`step`] and [`run`] join them. [`lines`] stands by itself: it indexes a text
 //! and answers questions of the index. [`table`], [`random`], [`generate`] and [`demand3`] serve the
 //! programs `vectors`, `lines` and `random`, and tests/differential. [`ways`] serves tests: it watches
 //! runs and looks at cases of the index. No rule asks any of these.
@@ -21,10 +21,12 @@ pub mod demand3;
 pub mod eval;
 pub mod expansion;
 pub mod generate;
+pub mod house;
 pub mod lines;
 pub mod macros;
 pub mod marks;
 pub mod numbers;
+pub mod predefined;
 pub mod random;
 pub mod run;
 pub mod state;
@@ -34,7 +36,8 @@ pub mod table;
 pub mod tokens;
 pub mod ways;
 
-pub use answer::{Report, Setting};
+pub use answer::{Report, Setting, ANSWERS};
+pub use house::{NO_ITEMS, SET_LIMIT};
 pub use run::{expand, expand_buffers, expand_traced, Trace};
 
 /// No text and no lent buffer may be longer. 01: "the text or a buffer exceeds 65,536 bytes".

@@ -7,110 +7,9 @@ use crate::eval;
 use crate::expansion::{join_quoted, Expansion};
 use crate::marks::Pair;
 use crate::numbers::{needed, or_default, read, within};
+use crate::predefined::Predefined;
 use crate::state::State;
-
-/// The 24 predefined macros in the order of 01.
-#[derive(Clone, Copy, Debug, PartialEq, Eq)]
-pub enum Predefined {
-    Changecom,
-    Changequote,
-    Decr,
-    Define,
-    Defn,
-    Divert,
-    Divnum,
-    Dnl,
-    Errprint,
-    Eval,
-    Ifdef,
-    Ifelse,
-    Incr,
-    Index,
-    Len,
-    M4exit,
-    M4wrap,
-    Popdef,
-    Pushdef,
-    Shift,
-    Substr,
-    Translit,
-    Undefine,
-    Undivert,
-}
-
 use Predefined::*;
-
-impl Predefined {
-    pub const ALL: [Predefined; 24] = [
-        Changecom,
-        Changequote,
-        Decr,
-        Define,
-        Defn,
-        Divert,
-        Divnum,
-        Dnl,
-        Errprint,
-        Eval,
-        Ifdef,
-        Ifelse,
-        Incr,
-        Index,
-        Len,
-        M4exit,
-        M4wrap,
-        Popdef,
-        Pushdef,
-        Shift,
-        Substr,
-        Translit,
-        Undefine,
-        Undivert,
-    ];
-
-    /// The name that has this meaning at the start.
-    pub fn name(self) -> &'static str {
-        const NAMES: [&str; 24] = [
-            "changecom",
-            "changequote",
-            "decr",
-            "define",
-            "defn",
-            "divert",
-            "divnum",
-            "dnl",
-            "errprint",
-            "eval",
-            "ifdef",
-            "ifelse",
-            "incr",
-            "index",
-            "len",
-            "m4exit",
-            "m4wrap",
-            "popdef",
-            "pushdef",
-            "shift",
-            "substr",
-            "translit",
-            "undefine",
-            "undivert",
-        ];
-        NAMES[self as usize]
-    }
-
-    /// Whether a name of this meaning is called only with `(` directly behind it. 02, request 2:
-    /// these "shall stand as plain text unless `(` directly follows. The other seven keep their
-    /// bare call." Request 7: the "rule follows the meaning, not the name".
-    pub fn needs_parenthesis(self) -> bool {
-        match self {
-            Decr | Define | Defn | Errprint | Eval | Ifdef | Ifelse | Incr | Index | Len
-            | M4wrap | Popdef | Pushdef | Shift | Substr | Translit | Undefine => true,
-            // include and sinclude (request 1) and copydef (request 7) join the arm above.
-            Changecom | Changequote | Divert | Divnum | Dnl | M4exit | Undivert => false,
-        }
-    }
-}
 
 /// What a predefined macro gives.
 #[derive(Clone, Debug, PartialEq, Eq)]
@@ -137,10 +36,14 @@ pub fn perform(
         Eval => evaluate(arguments)?,
         Ifdef => if_defined(state, arguments),
         Ifelse => if_else(arguments),
+        // 15: "unknown include"
+        Include => contents(state, arguments).ok_or(Refusal::NoItem)?,
         Incr => step_number(arguments, 1)?,
         Index => find(arguments),
         Len => Expansion::of_number(text(arguments, 0).len() as i64),
         Shift => join_quoted(arguments.get(1..).unwrap_or(&[]), &state.marks.quote),
+        // "an unknown name gives `sinclude` nothing"
+        Sinclude => contents(state, arguments).unwrap_or_else(Expansion::null),
         Substr => cut_out(arguments)?,
         Translit => transliterate(arguments),
         // 004: "Their values shall be null unless otherwise stated."
@@ -264,6 +167,12 @@ fn if_else(arguments: &[Vec<u8>]) -> Expansion {
     }
 }
 
+/// 02, request 1: "The contents become pending text and count there". The first argument is compared
+/// whole with the names of the items.
+fn contents(state: &State, arguments: &[Vec<u8>]) -> Option<Expansion> {
+    state.set.text_of(text(arguments, 0)).map(Expansion::of)
+}
+
 /// 004: "the first character position ... (zero origin), or -1"; "index finds an empty string at
 /// 0."
 fn find(arguments: &[Vec<u8>]) -> Expansion {
@@ -317,36 +226,6 @@ fn exit_code(arguments: &[Vec<u8>]) -> Result<u32, Refusal> {
 #[cfg(test)]
 mod tests {
     use super::*;
-
-    #[test]
-    fn names_stand_in_the_order_of_the_page() {
-        let names: Vec<&str> = Predefined::ALL.iter().map(|which| which.name()).collect();
-        assert!(names.windows(2).all(|pair| pair[0] < pair[1]));
-        let places: Vec<usize> = Predefined::ALL
-            .iter()
-            .map(|&which| which as usize)
-            .collect();
-        assert_eq!(places, (0..24).collect::<Vec<usize>>());
-    }
-
-    #[test]
-    fn seven_keep_their_bare_call() {
-        let bare: Vec<&str> = Predefined::ALL
-            .iter()
-            .filter(|which| !which.needs_parenthesis())
-            .map(|which| which.name())
-            .collect();
-        let seven = [
-            "changecom",
-            "changequote",
-            "divert",
-            "divnum",
-            "dnl",
-            "m4exit",
-            "undivert",
-        ];
-        assert_eq!(bare, seven);
-    }
 
     fn arguments(list: &[&str]) -> Vec<Vec<u8>> {
         list.iter()

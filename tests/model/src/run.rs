@@ -1,6 +1,8 @@
 //! A run: steps until an answer. 01: "A run is one call of the expander."
 
 use crate::answer::{Refusal, Report, Setting};
+use crate::house::Set;
+use crate::predefined::Calls;
 use crate::state::State;
 use crate::step::{step, Progress};
 use crate::LIMIT;
@@ -8,8 +10,8 @@ use crate::LIMIT;
 /// What a run did on its way, seen over its completed steps.
 #[derive(Clone, Debug, Default, PartialEq, Eq)]
 pub struct Trace {
-    /// How often each predefined macro was called, closed or bare, in the order of 01.
-    pub calls: [u64; 24],
+    /// How often each predefined macro was called, closed or bare.
+    pub calls: Calls,
     /// The most that each buffer held after a step.
     pub peaks: [usize; 7],
     /// How many steps took pending text and input: a token, or a line that was dropped, across the
@@ -28,20 +30,20 @@ impl Trace {
     }
 }
 
-/// Expands a text.
-pub fn expand(text: &[u8], setting: &Setting) -> Report {
-    expand_traced(text, setting).0
+/// Expands a text, which may include from a set in the house form.
+pub fn expand(text: &[u8], set: &[u8], setting: &Setting) -> Report {
+    expand_traced(text, set, setting).0
 }
 
 /// Expands a text and tells what the run did.
-pub fn expand_traced(text: &[u8], setting: &Setting) -> (Report, Trace) {
+pub fn expand_traced(text: &[u8], set: &[u8], setting: &Setting) -> (Report, Trace) {
     let mut trace = Trace::default();
-    let too_long = setting.lengths.iter().any(|&length| length > LIMIT);
-    // "Order: 2 first". No input byte is taken before the first step.
-    if text.len() > LIMIT || too_long {
-        return (Refusal::Lend.report(0, 0), trace);
-    }
-    let mut state = State::at_start(text);
+    let set = match judge_lent(text, set, setting) {
+        Ok(set) => set,
+        // no input byte is taken before the first step
+        Err(refusal) => return (refusal.report(0, 0), trace),
+    };
+    let mut state = State::at_start(text, set);
     let mut steps = 0;
     loop {
         let place = state.ahead.place();
@@ -55,7 +57,17 @@ pub fn expand_traced(text: &[u8], setting: &Setting) -> (Report, Trace) {
     }
 }
 
-/// "before each step 3; within a step 5 to 13 come before 4".
+/// What is judged before the first step. 01: "Order: 2 first"; 02: "14 bad or overlong set, right
+/// after 2".
+fn judge_lent(text: &[u8], set: &[u8], setting: &Setting) -> Result<Set, Refusal> {
+    let too_long = setting.lengths.iter().any(|&length| length > LIMIT);
+    if text.len() > LIMIT || too_long {
+        return Err(Refusal::Lend);
+    }
+    Set::read(set)
+}
+
+/// "before each step 3; within a step 5 to 13 come before 4"; so does 15, says 02.
 fn judged_step(
     state: &mut State,
     setting: &Setting,
@@ -98,9 +110,14 @@ fn finished(state: State, number: u32, detail: u32, steps: u32) -> Report {
 
 /// Expands a text in lent buffers and leaves them as 01 says. Gives number, detail, completed
 /// steps, place and the counts of output and error bytes.
-pub fn expand_buffers(text: &[u8], buffers: &mut [Vec<u8>; 7], budget: u32) -> [u32; 6] {
+pub fn expand_buffers(
+    text: &[u8],
+    set: &[u8],
+    buffers: &mut [Vec<u8>; 7],
+    budget: u32,
+) -> [u32; 6] {
     let lengths = std::array::from_fn(|i| buffers[i].len());
-    let report = expand(text, &Setting { lengths, budget });
+    let report = expand(text, set, &Setting { lengths, budget });
     // "Buffers 1 to 5 are all zero afterwards, except with 2, which writes nothing."
     if report.number != Refusal::Lend.number() {
         buffers[..5].iter_mut().for_each(|buffer| buffer.fill(0));

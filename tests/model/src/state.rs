@@ -3,8 +3,9 @@
 use crate::ahead::Ahead;
 use crate::calls::OpenCalls;
 use crate::definitions::Definitions;
-use crate::macros::Predefined;
+use crate::house::Set;
 use crate::marks::Marks;
+use crate::predefined::Predefined;
 use crate::streams::Streams;
 
 /// "Each step takes the standing state and yields the next one."
@@ -17,13 +18,15 @@ pub struct State<'a> {
     pub streams: Streams,
     pub wrap: Vec<u8>,
     pub errors: Vec<u8>,
+    /// What may be included. No step changes it.
+    pub set: Set,
     /// The predefined macro that the last step called. It shapes nothing and serves the trace only.
     pub called: Option<Predefined>,
 }
 
 impl<'a> State<'a> {
     /// The state before the first step.
-    pub fn at_start(input: &'a [u8]) -> State<'a> {
+    pub fn at_start(input: &'a [u8], set: Set) -> State<'a> {
         State {
             ahead: Ahead::new(input),
             marks: Marks::at_start(),
@@ -32,6 +35,7 @@ impl<'a> State<'a> {
             streams: Streams::default(),
             wrap: Vec::new(),
             errors: Vec::new(),
+            set,
             called: None,
         }
     }

@@ -1,6 +1,6 @@
-//! Lines of a table of cases: item, text, seven lengths, budget, number, detail, steps, place,
-//! output, error text, parted by tabs. Texts are hexadecimal; `-` stands for an empty one. The
-//! cases of the index of lines have other columns, see [`lines`].
+//! Lines of a table of cases: item, text, set, seven lengths, budget, number, detail, steps, place,
+//! output, error text, parted by tabs. Texts and sets are hexadecimal; `-` stands for an empty one.
+//! The cases of the index of lines have other columns, see [`lines`].
 
 pub mod judge;
 pub mod lines;
@@ -8,7 +8,7 @@ pub mod lines;
 use crate::answer::{Report, Setting};
 
 /// The line above the cases.
-pub const HEADER: &str = "# item\ttext (hex)\tlengths 1 to 7\tbudget\t\
+pub const HEADER: &str = "# item\ttext (hex)\tset (hex)\tlengths 1 to 7\tbudget\t\
     number\tdetail\tsteps\tplace\toutput (hex)\terror (hex)";
 
 /// One case with the answer that is expected.
@@ -16,6 +16,7 @@ pub const HEADER: &str = "# item\ttext (hex)\tlengths 1 to 7\tbudget\t\
 pub struct Row {
     pub item: String,
     pub text: Vec<u8>,
+    pub set: Vec<u8>,
     pub setting: Setting,
     pub expected: Report,
 }
@@ -50,6 +51,7 @@ pub fn write(row: &Row) -> String {
     [
         row.item.clone(),
         hex(&row.text),
+        hex(&row.set),
         lengths.join(","),
         row.setting.budget.to_string(),
         expected.number.to_string(),
@@ -65,13 +67,15 @@ pub fn write(row: &Row) -> String {
 /// Reads a line.
 pub fn read(line: &str) -> Result<Row, String> {
     let fields: Vec<&str> = line.split('\t').collect();
-    let [item, text, lengths, budget, number, detail, steps, place, output, errors] = fields[..]
+    let [item, text, set, lengths, budget, number, detail, steps, place, output, errors] =
+        fields[..]
     else {
-        return Err(format!("{} fields instead of 10", fields.len()));
+        return Err(format!("{} fields instead of 11", fields.len()));
     };
     Ok(Row {
         item: item.to_string(),
         text: unhex(text)?,
+        set: unhex(set)?,
         setting: Setting {
             lengths: read_lengths(lengths)?,
             budget: read_number(budget)?,
@@ -103,13 +107,15 @@ mod tests {
 
     #[test]
     fn a_line_there_and_back() {
-        let line = "x\t00ff61\t1,2,3,4,5,6,7\t8\t0\t0\t4\t3\t00ff61\t-";
+        let line = "x\t00ff61\t0081\t1,2,3,4,5,6,7\t8\t0\t0\t4\t3\t00ff61\t-";
         let row = read(line).unwrap();
         assert_eq!(row.text, b"\x00\xffa");
+        assert_eq!(row.set, b"\x00\x81");
         assert_eq!(row.setting.lengths, [1, 2, 3, 4, 5, 6, 7]);
         assert_eq!(write(&row), line);
         assert!(read("x\ty").is_err());
         assert!(read(&line.replace("1,2,3", "1,2")).is_err());
         assert!(read(&line.replace("00ff", "0ff")).is_err());
+        assert!(read(&line.replace("0081\t", "")).is_err());
     }
 }

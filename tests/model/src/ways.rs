@@ -1,22 +1,27 @@
 //! The ways of request 2 of 02: names of predefined meanings that stand as plain text, open a call
 //! or are called bare, and how often each of them was taken. Tests look here at runs from outside.
-//! Those of request 3 are in [`remarks`], those of request 6 in [`lines`].
+//! Those of request 1 are in [`sets`] and [`inclusions`], those of request 3 in [`remarks`], those
+//! of request 6 in [`lines`].
 
+pub mod inclusions;
 pub mod lines;
 mod name;
 pub mod remarks;
+pub mod sets;
 mod walk;
 
-use crate::macros::Predefined::{self, *};
+use crate::house::Set;
+use crate::predefined::Calls;
+use crate::predefined::Predefined::{self, *};
 use crate::state::State;
 use crate::Report;
 use walk::Walk;
 
 /// 02: these "shall stand as plain text unless `(` directly follows". The list is the paper's, and
 /// the model's own rule is held to it.
-pub const NEED_PARENTHESIS: [Predefined; 17] = [
+pub const NEED_PARENTHESIS: [Predefined; 19] = [
     Decr, Define, Defn, Errprint, Eval, Ifdef, Ifelse, Incr, Index, Len, M4wrap, Popdef, Pushdef,
-    Shift, Substr, Translit, Undefine,
+    Shift, Substr, Translit, Undefine, Include, Sinclude,
 ];
 
 /// 02: "The other seven keep their bare call."
@@ -99,21 +104,18 @@ const WAYS: [(Way, &str); 26] = [
     (Way::EndInCall, "plain, then unclosed"),
 ];
 
-/// A count for each predefined name.
-type Counts = [u64; Predefined::ALL.len()];
-
 /// How often each name took each way.
 #[derive(Default)]
 pub struct Ways {
-    ways: [Counts; WAYS.len()],
-    uses: [Counts; 5],
+    ways: [Calls; WAYS.len()],
+    uses: [Calls; 5],
 }
 
 impl Ways {
-    /// Notes what the run of a text did that ended in this report. Fails if a name did not do what
-    /// 02 asks.
-    pub fn walk(&mut self, text: &[u8], report: &Report) -> Result<(), String> {
-        let mut walk = Walk::at_start(self, text);
+    /// Notes what the run of a text with a set did that ended in this report. Fails if a name did
+    /// not do what 02 asks.
+    pub fn walk(&mut self, text: &[u8], set: &[u8], report: &Report) -> Result<(), String> {
+        let mut walk = Walk::at_start(self, start(text, set));
         for _ in 0..report.steps {
             walk.completed();
         }
@@ -172,6 +174,11 @@ impl Ways {
         let counts = NEED_PARENTHESIS.iter().map(|&which| self.used(how, which));
         counts.sum()
     }
+}
+
+/// The state in which a run begins. One that a bad set keeps from its first step has no items.
+fn start<'a>(text: &'a [u8], set: &[u8]) -> State<'a> {
+    State::at_start(text, Set::read(set).unwrap_or_default())
 }
 
 /// What the buffers hold once a token of `length` bytes left the text ahead and came to one place,

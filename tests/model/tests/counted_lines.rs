@@ -143,7 +143,7 @@ fn places_of_runs() {
         if run.text.len() > LIMIT {
             continue;
         }
-        let report = expand(&run.text, &run.setting);
+        let report = expand(&run.text, &run.set, &run.setting);
         let place = report.place as usize;
         let (words, totals) = index(&run.text);
         let line = line_of(run.text.len(), &words, &totals, place);

@@ -1,30 +1,33 @@
 //! The generators reach every answer, every detail of 4 and 5, every macro and every way of requests
-//! 2, 3 and 6, and the third demand holds on random pairs.
+//! 1, 2, 3 and 6, and the third demand holds on random pairs.
 
 use model::demand3::try_pair;
-use model::generate::{case, lines, pair, Scale};
-use model::macros::Predefined;
+use model::generate::{case, input, lines, pair, Case, Input, Scale};
+use model::predefined::{Calls, Predefined};
 use model::random::Random;
+use model::ways::inclusions::Inclusions;
 use model::ways::lines::Lines;
 use model::ways::remarks::Remarks;
+use model::ways::sets::Sets;
 use model::ways::{Use, Way, Ways, NEED_PARENTHESIS};
-use model::{expand, expand_traced, Setting};
+use model::{expand, expand_traced, Setting, ANSWERS, LIMIT, NO_ITEMS};
 
 #[test]
 fn everything_is_reached() {
     let mut random = Random::new(1);
-    let (mut answers, mut room, mut unclosed) = ([0; 14], [0; 8], [0; 4]);
-    let mut calls = [0; 24];
+    let (mut answers, mut room, mut unclosed) = ([0; ANSWERS], [0; 8], [0; 4]);
+    let mut calls = Calls::default();
     for _ in 0..2_000 {
         let case = case(&mut random, Scale::Small);
-        let (report, trace) = expand_traced(&case.text, &case.setting);
+        let (report, trace) = expand_traced(&case.text, &case.set, &case.setting);
         answers[report.number as usize] += 1;
         match report.number {
             4 => room[report.detail as usize] += 1,
             5 => unclosed[report.detail as usize] += 1,
             _ => {}
         }
-        (0..24).for_each(|i| calls[i] += trace.calls[i]);
+        let more = calls.iter_mut().zip(trace.calls);
+        more.for_each(|(count, more)| *count += more);
     }
     assert!(answers.iter().all(|&count| count > 0), "{answers:?}");
     assert!(room[1..].iter().all(|&count| count > 0), "{room:?}");
@@ -50,7 +53,8 @@ fn every_way_of_a_plain_word_is_reached() {
     let mut ways = Ways::default();
     for _ in 0..4_000 {
         let case = case(&mut random, Scale::Small);
-        let verdict = ways.walk(&case.text, &expand(&case.text, &case.setting));
+        let report = expand(&case.text, &case.set, &case.setting);
+        let verdict = ways.walk(&case.text, &case.set, &report);
         assert_eq!(verdict, Ok(()), "{}", String::from_utf8_lossy(&case.text));
     }
     for word in NEED_PARENTHESIS {
@@ -72,12 +76,38 @@ fn every_way_of_a_last_comment_is_reached() {
     let mut remarks = Remarks::default();
     for _ in 0..4_000 {
         let case = case(&mut random, Scale::Small);
-        let verdict = remarks.walk(&case.text, &expand(&case.text, &case.setting));
+        let report = expand(&case.text, &case.set, &case.setting);
+        let verdict = remarks.walk(&case.text, &case.set, &report);
         assert_eq!(verdict, Ok(()), "{}", String::from_utf8_lossy(&case.text));
     }
     for (way, count) in remarks.counts() {
         assert!(count > 0, "{way} is never reached");
     }
+}
+
+/// 02, request 1: sets of every form, and whatever becomes of what is asked for. The longest ones are
+/// not among small cases.
+#[test]
+fn every_way_of_a_set_is_reached() {
+    let mut random = Random::new(1);
+    let (mut sets, mut inclusions) = (Sets::default(), Inclusions::default());
+    for _ in 0..12_000 {
+        let Case { text, set, setting } = case(&mut random, Scale::Full);
+        let report = expand(&text, &set, &setting);
+        let noted = sets.note(&text, &set, &setting, &report);
+        assert_eq!(noted, Ok(()), "{}", String::from_utf8_lossy(&text));
+        if report.steps <= 300 && set != NO_ITEMS {
+            let walked = inclusions.walk(&text, &set, &setting, &report);
+            assert_eq!(walked, Ok(()), "{}", String::from_utf8_lossy(&text));
+        }
+    }
+    let counts: Vec<_> = sets
+        .counts()
+        .into_iter()
+        .chain(inclusions.counts())
+        .collect();
+    let never: Vec<_> = counts.iter().filter(|(_, count)| *count == 0).collect();
+    assert!(never.is_empty(), "never reached: {never:?} of {counts:?}");
 }
 
 /// 02, request 6: indexes, places and lines of every kind, and each pair of refusals at once.
@@ -110,36 +140,20 @@ fn room_never_shapes_text() {
 fn peaks_are_exact() {
     let mut random = Random::new(5);
     for _ in 0..500 {
-        let text = model::generate::text(&mut random, Scale::Small);
-        let ample = Setting {
-            budget: 4_000,
-            ..Setting::ample()
-        };
-        let (report, trace) = expand_traced(&text, &ample);
+        let Input { text, set } = input(&mut random, Scale::Small);
+        let run = |lengths, budget| expand_traced(&text, &set, &Setting { lengths, budget });
+        let (report, trace) = run([LIMIT; 7], 4_000);
         if report.number > 1 {
             continue;
         }
-        let lengths = trace.peaks;
-        let budget = report.steps;
-        assert_eq!(expand(&text, &Setting { lengths, budget }), report);
-        let spent = expand(
-            &text,
-            &Setting {
-                lengths,
-                budget: budget - 1,
-            },
-        );
+        let (lengths, budget) = (trace.peaks, report.steps);
+        assert_eq!(run(lengths, budget).0, report);
+        let (spent, _) = run(lengths, budget - 1);
         assert_eq!((spent.number, spent.steps), (3, budget - 1));
         for buffer in (0..7).filter(|&buffer| lengths[buffer] > 0) {
             let mut short = lengths;
             short[buffer] -= 1;
-            let refused = expand(
-                &text,
-                &Setting {
-                    lengths: short,
-                    budget,
-                },
-            );
+            let (refused, _) = run(short, budget);
             assert_eq!((refused.number, refused.detail), (4, buffer as u32 + 1));
         }
     }

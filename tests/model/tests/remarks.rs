@@ -5,8 +5,8 @@
 
 mod common;
 
-use common::{answers, report, with_room};
-use model::{expand, Report, Setting, LIMIT};
+use common::{answers, expand, report, with_room};
+use model::{Report, Setting, LIMIT};
 
 /// Expands with ample room and so many steps.
 fn with_budget(text: &str, budget: u32) -> Report {

@@ -1,12 +1,12 @@
-//! Request 2 of document 02, "The word that vanished": seventeen predefined names "shall stand as
+//! Request 2 of document 02, "The word that vanished": nineteen predefined names "shall stand as
 //! plain text unless `(` directly follows. The other seven keep their bare call." Every answer below
 //! is worked out by hand from the papers, a step for each token; room is ample unless said.
 
 mod common;
 
-use common::{answers, report, with_room};
+use common::{answers, expand, report, with_room};
 use model::ways::NEED_PARENTHESIS;
-use model::{expand, Report, Setting};
+use model::{Report, Setting};
 
 #[test]
 fn each_word_alone_is_itself() {
@@ -259,12 +259,30 @@ fn room_of_the_streams() {
     );
 }
 
-/// 01: "No other name is." The requests that predefine these three have not landed.
+/// Request 1 predefines the two that the list names beside those of 01.
 #[test]
-fn names_of_later_requests() {
+fn include_and_sinclude() {
     answers(&[
-        ("include(a)", [0, 0, 5, 10], "include(a)"),
-        ("sinclude a", [0, 0, 4, 10], "sinclude a"),
-        ("copydef(a,b)", [0, 0, 7, 12], "copydef(a,b)"),
+        ("include sinclude", [0, 0, 4, 16], "include sinclude"),
+        // include blank ( a ) end
+        ("include (a)", [0, 0, 6, 11], "include (a)"),
+        // sinclude( a ) end
+        ("sinclude(a)", [0, 0, 4, 11], ""),
+        // len( sinclude blank ) 9 end
+        ("len(sinclude )", [0, 0, 6, 14], "9"),
+        // define( `p' , `incl' ) p( ) include blank end
+        ("define(`p',`incl')p()ude ", [0, 0, 10, 25], "include "),
+        // pushdef( `include' , `x' ) include x blank popdef( `include' ) include end
+        (
+            "pushdef(`include',`x')include popdef(`include')include",
+            [0, 0, 13, 54],
+            "x include",
+        ),
     ]);
+}
+
+/// 01: "No other name is." The request that predefines this one has not landed.
+#[test]
+fn a_name_of_a_later_request() {
+    answers(&[("copydef(a,b)", [0, 0, 7, 12], "copydef(a,b)")]);
 }

@@ -1,6 +1,10 @@
 //! The worked texts of document 01. "Budget and room are ample unless said."
 
-use model::{expand, Report, Setting};
+use model::{Report, Setting, NO_ITEMS};
+
+fn expand(text: &[u8], setting: &Setting) -> Report {
+    model::expand(text, NO_ITEMS, setting)
+}
 
 fn ample(text: &str) -> Report {
     expand(text.as_bytes(), &Setting::ample())

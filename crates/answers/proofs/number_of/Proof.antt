@@ -60,10 +60,20 @@ returns-14 : tie.Need-returns-14
 unfolding answerNumber
 returns-14 c = ap answerNumber (sym (c .enum-told14 .given .1))
 
+returns-15 : tie.Need-returns-15
+unfolding answerNumber
+returns-15 c = ap answerNumber (sym (c .enum-told15 .given .1))
+
+returns-16 : tie.Need-returns-16
+unfolding answerNumber
+returns-16 c = ap answerNumber (sym (c .enum-told16 .given .1))
+
 pub number-of-spec : {M : Type 1} → statement M
 number-of-spec =
     tie.close
     (tie.spec
+    (λ c. search needs)
+    (λ c. search needs)
     (λ c. search needs)
     (λ c. search needs)
     (λ c. search needs)
@@ -91,4 +101,6 @@ number-of-spec =
     returns-11
     returns-12
     returns-13
-    returns-14)
+    returns-14
+    returns-15
+    returns-16)

@@ -49,10 +49,10 @@ returns-11 : tie.Need-returns-11
 unfolding builtinAt builtins kindOf
 returns-11 c = sym (ap (λ k. kindOf (builtinAt k)) (c .match .keys11))
 
--- any other number: through 0 to 24, `tt` for one that an arm names, `refl` for the rest
+-- any other number: through 0 to 26, `tt` for one that an arm names, `refl` for the rest
 returns-12 : tie.Need-returns-12
 unfolding builtinAt builtins kindOf
-returns-12 c = others kindOf _ (22 ∷ 21 ∷ 20 ∷ 15 ∷ 14 ∷ 13 ∷ 12 ∷ 11 ∷ 10 ∷ 5 ∷ 3 ∷ []) (((((((((((((((((((((((((tt, refl), refl), refl), tt), refl), tt), refl), refl), refl), refl), tt), tt), tt), tt), tt), tt), refl), refl), refl), refl), tt), tt), tt), refl), refl) refl (c .before .args .k) (c .match .rest)
+returns-12 c = others kindOf _ (22 ∷ 21 ∷ 20 ∷ 15 ∷ 14 ∷ 13 ∷ 12 ∷ 11 ∷ 10 ∷ 5 ∷ 3 ∷ []) (((((((((((((((((((((((((((tt, refl), refl), refl), tt), refl), tt), refl), refl), refl), refl), tt), tt), tt), tt), tt), tt), refl), refl), refl), refl), tt), tt), tt), refl), refl), refl), refl) refl (c .before .args .k) (c .match .rest)
 
 pub kind-of-spec : {M : Type 1} → statement M
 kind-of-spec =

@@ -1,18 +1,29 @@
--- `builtins::number_i` meets its contract: the four names, two at a time. Assumes nothing.
-use Rattle.rules.proofs.Base.{drop, take, needs}
+-- `builtins::number_i` meets its contract: two names, two more and one. Assumes nothing.
+use Rattle.rules.proofs.Base.{drop, needs}
 use Rattle.rules.specs.Bytes.{bytesOf}
 use Rattle.rules.specs.Table.{predefinedNames}
+use Rattle.builtins.specs.Numbers.{beginning, predefinedWith}
 use Rattle.builtins.proofs.Naming.{number-left, number-right}
 use Rattle.builtins.proofs.number_i.Statement.{statement}
 use Rattle.builtins.proofs.number_i.Tie as tie
 
 returns : tie.Need-returns
-unfolding predefinedNames bytesOf
-returns c = number-left (take 2 (drop 12 predefinedNames)) (c .before .number-of-two .ensures) (c .if1 .taken)
+unfolding predefinedWith beginning predefinedNames bytesOf
+returns c = number-left (drop 2 (predefinedWith 105)) (c .before .number-of-two .ensures) (c .if1 .taken)
 
 returns-2 : tie.Need-returns-2
-unfolding predefinedNames bytesOf
-returns-2 c = number-right (take 2 (drop 12 predefinedNames)) (c .before .before .before .before .number-of-two .ensures) (c .before .before .before .if1 .left) (c .number-of-two2 .ensures)
+unfolding predefinedWith beginning predefinedNames bytesOf
+returns-2 c =
+    let first = c .before .before .before .before in
+    number-right (drop 2 (predefinedWith 105)) (first .before .number-of-two .ensures) (first .if1 .left) (number-left (drop 4 (predefinedWith 105)) (c .before .number-of-two2 .ensures) (c .if2 .taken))
+
+returns-3 : tie.Need-returns-3
+unfolding predefinedWith beginning predefinedNames bytesOf
+returns-3 c =
+    let second = c .before .before in
+    let first = second .before .before .before .before in
+    number-right (drop 2 (predefinedWith 105)) (first .before .number-of-two .ensures) (first .if1 .left)
+    (number-right (drop 4 (predefinedWith 105)) (second .before .number-of-two2 .ensures) (second .if2 .left) (c .number-of-one .ensures))
 
 pub number-i-spec : {M : Type 1} → statement M
 number-i-spec =
@@ -25,4 +36,7 @@ number-i-spec =
     (λ c. search needs)
     (λ c. search needs)
     (λ c κs. search needs)
-    returns-2)
+    returns-2
+    (λ c. search needs)
+    (λ c κs. search needs)
+    returns-3)

@@ -8,10 +8,10 @@ use Rattle.expander.proofs.expand.Tie as tie
 
 -- ways back
 abbrev start-refused : tie.Else1 → tie.Start
-start-refused c = c .before .before .before .before .before .before .before .before .before .before
+start-refused c = c .before .before .before .before .before .before .before .before .before .before .before
 
 abbrev start : tie.After-slice-known19 → tie.Start
-start c = c .before .before .before .before .before .before .before .before .before .before .before .before .before .before .before .before .before .before .before .before .before .before .before .before .before .before .before .before .before .before .before .before .before .before .before .before .before .before .before .before .before .before .before .before .before .before .before .before
+start c = c .before .before .before .before .before .before .before .before .before .before .before .before .before .before .before .before .before .before .before .before .before .before .before .before .before .before .before .before .before .before .before .before .before .before .before .before .before .before .before .before .before .before .before .before .before .before .before .before .before
 
 abbrev cleared : tie.After-slice-known19 → tie.After-clear-five
 cleared c = c .before .before .before .before .before .before .before .before .before .before
@@ -43,13 +43,16 @@ returns c =
     let b = lent (start c) in
     let z = cleared c .clear-five .ensures in
     let k = worked c .work .kept in
-    expanded (start c .args .text .now) (start c .args .budget) b (sym (admitted .if1 .taken) ∙ admitted .before .lendable .ensures) (worked c .work .ensures)
+    expanded (start c .args .text .now) (start c .args .set .now) (start c .args .budget) b (sym (admitted .if1 .taken) ∙ admitted .before .lendable .ensures) (worked c .work .ensures)
     (zeros (length (b .pending)) (z .0) (omega (arith, k))) (zeros (length (b .calls)) (z .1) (omega (arith, k))) (zeros (length (b .definitions)) (z .2) (omega (arith, k)))
     (zeros (length (b .streams)) (z .3) (omega (arith, k))) (zeros (length (b .wrap)) (z .4) (omega (arith, k)))
 
 returns-2 : tie.Need-returns-2
 unfolding settingOf lengths
-returns-2 c = not-lent (start-refused c .args .text .now) (start-refused c .args .budget) (lent (start-refused c)) (sym (c .if1 .left) ∙ c .before .lendable .ensures)
+returns-2 c =
+    let e = c .before in
+    let s = start-refused e in
+    not-lent (s .args .text .now) (s .args .set .now) (s .args .budget) (lent s) (c .not-started .ensures) (sym (e .if1 .left) ∙ e .before .lendable .ensures)
 
 pub expand-spec : {M : Type 1} → statement M
 expand-spec =
@@ -66,4 +69,5 @@ expand-spec =
     (λ c. search needs)
     (λ c. search needs)
     returns
+    (λ c κs. search needs)
     returns-2)

@@ -5,16 +5,16 @@ use Rattle.worked_texts.proofs.run.Statement.{statement}
 use Rattle.worked_texts.proofs.run.Tie as tie
 
 slice-reshare-prefix-write : tie.Need-slice-reshare-prefix-write
-slice-reshare-prefix-write c = output-inside (c .before .before .before .before .before .before .before .before .before .before .before .before .before .before .before .before .before .before .before .expand .ensures) (c .before .before .before .before .before .before .before .before .before .before .before .before .before .before .before .before .before .before .before .expand .kept .1 .1 .1 .1 .1 .1 .1 .0)
+slice-reshare-prefix-write c = output-inside (c .before .before .before .before .before .before .before .before .before .before .before .before .before .before .before .before .before .before .before .expand .ensures) (c .before .before .before .before .before .before .before .before .before .before .before .before .before .before .before .before .before .before .before .expand .kept .1 .1 .1 .1 .1 .1 .1 .1 .0)
 
 slice-aggregate-write-2 : tie.Need-slice-aggregate-write-2
-slice-aggregate-write-2 c = part-long _ _ (output-inside (c .before .before .before .before .before .before .before .before .before .before .before .before .before .before .before .before .before .before .before .before .expand .ensures) (c .before .before .before .before .before .before .before .before .before .before .before .before .before .before .before .before .before .before .before .before .expand .kept .1 .1 .1 .1 .1 .1 .1 .0))
+slice-aggregate-write-2 c = part-long _ _ (output-inside (c .before .before .before .before .before .before .before .before .before .before .before .before .before .before .before .before .before .before .before .before .expand .ensures) (c .before .before .before .before .before .before .before .before .before .before .before .before .before .before .before .before .before .before .before .before .expand .kept .1 .1 .1 .1 .1 .1 .1 .1 .0))
 
 slice-reshare-prefix-write-2 : tie.Need-slice-reshare-prefix-write-2
-slice-reshare-prefix-write-2 c = errors-inside (c .before .before .before .before .before .before .before .before .before .before .before .before .before .before .before .before .before .before .before .before .before .before .before .before .expand .ensures) (c .before .before .before .before .before .before .before .before .before .before .before .before .before .before .before .before .before .before .before .before .before .before .before .before .expand .kept .1 .1 .1 .1 .1 .1 .0)
+slice-reshare-prefix-write-2 c = errors-inside (c .before .before .before .before .before .before .before .before .before .before .before .before .before .before .before .before .before .before .before .before .before .before .before .before .expand .ensures) (c .before .before .before .before .before .before .before .before .before .before .before .before .before .before .before .before .before .before .before .before .before .before .before .before .expand .kept .1 .1 .1 .1 .1 .1 .1 .0)
 
 slice-aggregate-write-4 : tie.Need-slice-aggregate-write-4
-slice-aggregate-write-4 c = part-long _ _ (errors-inside (c .before .before .before .before .before .before .before .before .before .before .before .before .before .before .before .before .before .before .before .before .before .before .before .before .before .expand .ensures) (c .before .before .before .before .before .before .before .before .before .before .before .before .before .before .before .before .before .before .before .before .before .before .before .before .before .expand .kept .1 .1 .1 .1 .1 .1 .0))
+slice-aggregate-write-4 c = part-long _ _ (errors-inside (c .before .before .before .before .before .before .before .before .before .before .before .before .before .before .before .before .before .before .before .before .before .before .before .before .before .expand .ensures) (c .before .before .before .before .before .before .before .before .before .before .before .before .before .before .before .before .before .before .before .before .before .before .before .before .before .expand .kept .1 .1 .1 .1 .1 .1 .1 .0))
 
 -- the call of the expander
 abbrev expanded : tie.After-write-report → tie.After-expand
@@ -24,6 +24,7 @@ pub run-spec : {M : Type 1} → statement M
 run-spec =
     tie.close
     (tie.spec
+    (λ c. search needs)
     (λ c κs. search needs)
     (λ c. search needs)
     (λ c. search needs)
@@ -41,11 +42,11 @@ run-spec =
     (λ c. search needs)
     (λ c κs. search needs)
     (λ c κs. search needs)
-    (λ c. expanded c .expand .kept .1 .0)
     (λ c. expanded c .expand .kept .1 .1 .0)
     (λ c. expanded c .expand .kept .1 .1 .1 .0)
     (λ c. expanded c .expand .kept .1 .1 .1 .1 .0)
     (λ c. expanded c .expand .kept .1 .1 .1 .1 .1 .0)
     (λ c. expanded c .expand .kept .1 .1 .1 .1 .1 .1 .0)
     (λ c. expanded c .expand .kept .1 .1 .1 .1 .1 .1 .1 .0)
+    (λ c. expanded c .expand .kept .1 .1 .1 .1 .1 .1 .1 .1 .0)
     (λ c. search needs))

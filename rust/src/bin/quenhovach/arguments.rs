@@ -4,7 +4,7 @@ use crate::bytes::is_digit;
 use quenhovach::{Buffer, BUDGET, LONGEST};
 use std::ffi::{OsStr, OsString};
 use std::os::unix::ffi::OsStrExt;
-use std::path::{Path, PathBuf};
+use std::path::PathBuf;
 
 /// What the command is asked to do.
 #[derive(Debug, PartialEq)]
@@ -23,12 +23,26 @@ pub struct Options {
     pub sheet: Option<PathBuf>,
     /// Where the six numbers go.
     pub report: Option<PathBuf>,
+    /// What the templates may include.
+    pub included: Included,
+    /// Where the set goes that was made of folders.
+    pub new_set: Option<PathBuf>,
     /// Whether likely mistakes are told of where the run is not refused, too.
     pub warn: bool,
     /// Lengths of the seven buffers, by their numbers.
     pub lengths: [usize; 7],
     /// Steps at most.
     pub budget: u32,
+}
+
+/// What the templates may include.
+#[derive(Clone, Debug, PartialEq)]
+pub enum Included {
+    Nothing,
+    /// The files below these folders, one folder at least; the first with a name counts.
+    Folders(Vec<PathBuf>),
+    /// The set in this file.
+    Set(PathBuf),
 }
 
 /// The option that sets a buffer's length.
@@ -44,12 +58,15 @@ pub fn option_of(buffer: Buffer) -> &'static str {
     }
 }
 
-/// What was given so far; an option may be given once.
+/// What was given so far; an option but `-I` may be given once.
 #[derive(Default)]
 struct Given {
     inputs: Vec<OsString>,
     sheet: Option<OsString>,
     report: Option<OsString>,
+    folders: Vec<OsString>,
+    set: Option<OsString>,
+    new_set: Option<OsString>,
     warn: Option<()>,
     lengths: [Option<u32>; 7],
     budget: Option<u32>,
@@ -104,7 +121,15 @@ fn parted(argument: &OsStr) -> Result<(&OsStr, Option<&OsStr>), String> {
 
 /// Whether a word is an option that begins with two dashes.
 fn is_long(word: &[u8]) -> bool {
-    let others = ["--help", "--version", "--report", "--budget", "--warn"];
+    let others = [
+        "--help",
+        "--version",
+        "--report",
+        "--set",
+        "--write-set",
+        "--budget",
+        "--warn",
+    ];
     let all = Buffer::ALL.map(option_of).into_iter().chain(others);
     all.into_iter().any(|option| option.as_bytes() == word)
 }
@@ -136,6 +161,12 @@ impl Given {
         match (&*name, length) {
             ("-o", _) => set_once(&name, &mut self.sheet, value()?),
             ("--report", _) => set_once(&name, &mut self.report, value()?),
+            ("-I", _) => {
+                self.folders.push(value()?);
+                Ok(())
+            }
+            ("--set", _) => set_once(&name, &mut self.set, value()?),
+            ("--write-set", _) => set_once(&name, &mut self.new_set, value()?),
             ("--budget", _) => {
                 let steps = number(&name, &value()?, u32::MAX)?;
                 set_once(&name, &mut self.budget, steps)
@@ -153,22 +184,52 @@ impl Given {
 
     /// What was given, and defaults for the rest.
     fn options(self) -> Result<Options, String> {
+        self.check_names()?;
         let mut inputs: Vec<_> = self.inputs.into_iter().map(file).collect();
         if inputs.is_empty() {
             inputs.push(None);
         }
-        let options = Options {
+        Ok(Options {
             inputs,
             sheet: self.sheet.and_then(file),
             report: self.report.map(PathBuf::from),
+            included: included(self.folders, self.set),
+            new_set: self.new_set.map(PathBuf::from),
             warn: self.warn.is_some(),
             lengths: self.lengths.map(|n| n.map_or(LONGEST, |n| n as usize)),
             budget: self.budget.unwrap_or(BUDGET),
-        };
-        if options.report.as_deref() == Some(Path::new("-")) {
-            return Err("--report: it takes a file's name, not -".to_string());
+        })
+    }
+
+    /// Whether what was given goes together.
+    fn check_names(&self) -> Result<(), String> {
+        for (option, name) in [
+            ("--report", &self.report),
+            ("--set", &self.set),
+            ("--write-set", &self.new_set),
+        ] {
+            if name.as_deref() == Some(OsStr::new("-")) {
+                return Err(format!("{option}: it takes a file's name, not -"));
+            }
         }
-        Ok(options)
+        if !self.folders.is_empty() && self.set.is_some() {
+            return Err("-I and --set: a run has one set, of folders or of a file".to_string());
+        }
+        if self.folders.is_empty() && self.new_set.is_some() {
+            return Err(
+                "--write-set: it writes the set that -I makes, and no -I is given".to_string(),
+            );
+        }
+        Ok(())
+    }
+}
+
+/// What is to be included; a file's set and folders are not given together.
+fn included(folders: Vec<OsString>, set: Option<OsString>) -> Included {
+    match set {
+        Some(file) => Included::Set(PathBuf::from(file)),
+        None if folders.is_empty() => Included::Nothing,
+        None => Included::Folders(folders.into_iter().map(PathBuf::from).collect()),
     }
 }
 
@@ -197,127 +258,4 @@ fn number(name: &str, value: &OsStr, most: u32) -> Result<u32, String> {
 }
 
 #[cfg(test)]
-mod tests {
-    use super::*;
-
-    fn parsed(arguments: &[&str]) -> Result<Request, String> {
-        parse(arguments.iter().map(OsString::from))
-    }
-
-    fn options(arguments: &[&str]) -> Options {
-        match parsed(arguments) {
-            Ok(Request::Run(options)) => options,
-            other => panic!("{arguments:?}: {other:?}"),
-        }
-    }
-
-    #[test]
-    fn defaults() {
-        let expected = Options {
-            inputs: vec![None],
-            sheet: None,
-            report: None,
-            warn: false,
-            lengths: [65_536; 7],
-            budget: 16_777_216,
-        };
-        assert_eq!(options(&[]), expected);
-        assert_eq!(options(&["-"]), expected);
-        assert_eq!(options(&["-o", "-", "--"]), expected);
-    }
-
-    #[test]
-    fn values_attached_or_behind() {
-        for arguments in [
-            ["-o", "no sheet", "--wrap", "7", "no template"].as_slice(),
-            &["-ono sheet", "--wrap=7", "--", "no template"],
-            &["no template", "--wrap=007", "-o", "no sheet"],
-        ] {
-            let options = options(arguments);
-            assert_eq!(options.inputs, [Some("no template".into())]);
-            assert_eq!(options.sheet.as_deref(), Some(Path::new("no sheet")));
-            assert_eq!(options.lengths[4], 7);
-        }
-        assert_eq!(options(&["--", "-x"]).inputs, [Some("-x".into())]);
-    }
-
-    #[test]
-    fn templates_in_order() {
-        let given = options(&["b", "-o", "sheet", "-", "a", "--", "b"]);
-        let name = |name: &str| Some(PathBuf::from(name));
-        assert_eq!(given.inputs, [name("b"), None, name("a"), name("b")]);
-    }
-
-    #[test]
-    fn each_length_has_its_option() {
-        for buffer in Buffer::ALL {
-            let lengths = options(&[option_of(buffer), "0"]).lengths;
-            for (i, length) in lengths.into_iter().enumerate() {
-                let named = i + 1 == buffer.number() as usize;
-                assert_eq!(length, if named { 0 } else { 65_536 }, "{buffer}");
-            }
-        }
-        assert_eq!(options(&["--budget", "4294967295"]).budget, u32::MAX);
-    }
-
-    #[test]
-    fn bad_usage() {
-        for arguments in [
-            ["-", "-"].as_slice(),
-            &["a", ""],
-            &["-x"],
-            &["--sheet", "a"],
-            &["-o"],
-            &["--budget"],
-            &["--budget", "4294967296"],
-            &["--budget", "-1"],
-            &["--pending", "65537"],
-            &["--pending", ""],
-            &["--pending", "+1"],
-            &["--output", "sheet"],
-            &["--wrap", "1", "--wrap", "1"],
-            &["--report", "-"],
-            &["-o", ""],
-            &["--report="],
-            &["--warn", "--warn"],
-            &["--warn=1"],
-        ] {
-            assert!(parsed(arguments).is_err(), "{arguments:?}");
-        }
-    }
-
-    #[test]
-    fn bad_usage_is_named() {
-        for (arguments, complaint) in [
-            (
-                ["-help"].as_slice(),
-                "unknown option -help; did you mean --help?",
-            ),
-            (
-                &["-budget=3"],
-                "unknown option -budget; did you mean --budget?",
-            ),
-            (
-                &["-output", "s"],
-                "unknown option -output; did you mean --output?",
-            ),
-            (&["-Vx"], "-V takes nothing behind it"),
-            (&["--help=x"], "--help takes nothing behind it"),
-            (&["-xy"], "unknown option -x"),
-            (&["--helper"], "unknown option --helper"),
-            (
-                &["-", "a", "--", "-"],
-                "-: it is given twice; standard input can be read once",
-            ),
-            (&["-o"], "-o: its value is missing"),
-        ] {
-            assert_eq!(parsed(arguments), Err(complaint.to_string()));
-        }
-    }
-
-    #[test]
-    fn help_and_version_come_first() {
-        assert_eq!(parsed(&["--help", "-x"]), Ok(Request::Help));
-        assert_eq!(parsed(&["a", "-V", "b"]), Ok(Request::Version));
-    }
-}
+mod tests;

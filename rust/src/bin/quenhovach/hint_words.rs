@@ -2,7 +2,8 @@
 
 use crate::hints::{self, Gap, Kind, Seen};
 use crate::place::Places;
-use crate::suspects::changes_marks;
+use crate::sets::Lent;
+use crate::suspects::{changes_marks, includes};
 use crate::templates::Templates;
 use quenhovach::{Answer, Opened, Report};
 
@@ -12,9 +13,10 @@ const MOST: usize = 3;
 const LONGEST_WORD: usize = 40;
 
 /// What may have caused a refusal, the likeliest first.
-pub fn of_refusal(report: &Report, places: &Places) -> Vec<String> {
+pub fn of_refusal(report: &Report, places: &Places, lent: &Lent) -> Vec<String> {
     let ends = ends(places.templates);
-    let seen = hints::scan(&places.templates.text, &ends);
+    let items = lent.items();
+    let seen = hints::scan(&places.templates.text, &ends, &items);
     let mut fitting: Vec<_> = seen
         .iter()
         .filter(|seen| is_near(seen, report))
@@ -38,12 +40,13 @@ pub fn of_refusal(report: &Report, places: &Places) -> Vec<String> {
 }
 
 /// A line for all that is seen, in the order of the text; none where the text is too long to be expanded.
-pub fn warnings(templates: &Templates) -> String {
+pub fn warnings(templates: &Templates, lent: &Lent) -> String {
     let Some(places) = Places::new(templates) else {
         return String::new();
     };
     let ends = ends(templates);
-    let seen = hints::scan(&templates.text, &ends);
+    let items = lent.items();
+    let seen = hints::scan(&templates.text, &ends, &items);
     let line = |seen: &Seen, words: &str| {
         let place = places.told(seen.place);
         format!("quenhovach: warning: {place}: {words}\n")
@@ -90,7 +93,6 @@ fn is_near(seen: &Seen, report: &Report) -> bool {
 fn lasts(kind: &Kind) -> bool {
     match kind {
         Kind::Gap(Gap { name, .. }) | Kind::Bare(name) => is_missed_later(name),
-        Kind::Foreign(name) => ["include", "sinclude"].contains(name),
         Kind::RunsOn { .. } => true,
         _ => false,
     }
@@ -98,7 +100,7 @@ fn lasts(kind: &Kind) -> bool {
 
 /// Whether what is read behind a call of it is read otherwise without the call: by other marks, or without a definition.
 fn is_missed_later(name: &str) -> bool {
-    changes_marks(name) || ["define", "pushdef"].contains(&name)
+    changes_marks(name) || includes(name) || ["define", "pushdef"].contains(&name)
 }
 
 /// How well something fits an answer, 0 the best; none if it can't have caused it.
@@ -125,7 +127,7 @@ fn rank(seen: &Seen, answer: Answer) -> Option<u8> {
             let call = answer == Answer::Unclosed(Opened::Call);
             (seen.within && (argument || call)).then_some(u8::from(answer != Answer::Name))
         }
-        Kind::Foreign(_) => (argument && (seen.within || lasts(&seen.kind))).then_some(1),
+        Kind::Foreign(_) => (argument && seen.within).then_some(1),
         Kind::OrderMark => (argument && seen.within).then_some(2),
         Kind::RunsOn { .. } => fits_lost_line(answer).then_some(1),
         Kind::Closer { .. } => (answer == Answer::Unclosed(Opened::Call)).then_some(0),

@@ -4,6 +4,7 @@
 //! seen, and behind a change of the marks little is. A byte has the class that it has in the expander (bytes.rs).
 
 use crate::scanner;
+use crate::sets::Item;
 use crate::suspects::{needs_call, takes_call};
 use std::collections::HashMap;
 
@@ -90,9 +91,14 @@ pub struct Own<'t> {
 /// The names of which the text makes something.
 pub type Owned<'t> = HashMap<&'t str, Own<'t>>;
 
-/// All that is seen in a text of templates that end at these places, in order.
-pub fn scan<'t>(text: &'t [u8], ends: &'t [usize]) -> Vec<Seen<'t>> {
-    let (mut seen, own) = scanner::walk(text, ends);
+/// All that is seen in a text of templates that end at these places, in order. It may include the items, and so know what they define.
+pub fn scan<'t>(text: &'t [u8], ends: &'t [usize], items: &'t [Item]) -> Vec<Seen<'t>> {
+    let (mut seen, mut own) = scanner::walk(text, ends);
+    for item in items {
+        for (name, theirs) in scanner::walk(&item.text, &[]).1 {
+            own.entry(name).or_insert(theirs);
+        }
+    }
     seen.retain_mut(|seen| stands(seen, &own));
     seen
 }
@@ -129,7 +135,7 @@ mod tests {
     /// What is seen in a text: places and kinds.
     fn seen(text: &str) -> Vec<(usize, Kind<'_>)> {
         let ends = [text.len()];
-        let seen = scan(text.as_bytes(), Vec::leak(ends.to_vec()));
+        let seen = scan(text.as_bytes(), Vec::leak(ends.to_vec()), &[]);
         seen.into_iter()
             .map(|seen| (seen.place, seen.kind))
             .collect()
@@ -160,6 +166,8 @@ mod tests {
         let mark = '\u{201c}';
         for (text, place, kind) in [
             ("a define (`n')", 2, Kind::Gap(gap("define"))),
+            ("a include (`b')", 2, Kind::Gap(gap("include"))),
+            ("a include (b/c.m4)", 2, Kind::Gap(gap("include"))),
             (
                 "len\n(`a')",
                 0,
@@ -233,7 +241,7 @@ mod tests {
     #[test]
     fn remarks_at_borders() {
         let seen = |text: &'static str, ends: &'static [usize]| {
-            let seen = scan(text.as_bytes(), ends);
+            let seen = scan(text.as_bytes(), ends, &[]);
             seen.iter()
                 .map(|seen| (seen.place, seen.kind))
                 .collect::<Vec<_>>()
@@ -253,7 +261,7 @@ mod tests {
 
     #[test]
     fn word_or_call() {
-        for name in ["define", "index", "len", "shift"] {
+        for name in ["define", "include", "index", "len", "shift"] {
             let found = vec![(4, Kind::Gap(gap(name)))];
             assert_eq!(seen(&format!("the {name} (see below)")), []);
             assert_eq!(seen(&format!("the {name} (gain, 5)")), found);
@@ -276,7 +284,8 @@ mod tests {
             "define(`f', `# len (1)\n')",
             "`define (a), the len of “b”'",
             "errprint(`usage: define (a)')",
-            "the len of the boom, define, eval, undefine",
+            "the len of the boom, define, eval, undefine, include it",
+            "we include (e.g. this) and include (that)",
             "len(index) define(`f', `the len of it')",
             "define(`len', `x')the len (`a')",
             "define(`len', `2')eval(len)",
@@ -310,9 +319,28 @@ mod tests {
     }
 
     #[test]
+    fn what_included_texts_define() {
+        let items = [Item {
+            name: b"a".to_vec(),
+            text: b"define(`format', `$1')define(`h', `1.5')".to_vec(),
+            told: String::new(),
+        }];
+        let text = "format(`a')format (`a')eval(h)";
+        let seen = scan(text.as_bytes(), &[30], &items);
+        let kinds: Vec<_> = seen.iter().map(|seen| seen.kind).collect();
+        let (name, number, taker) = ("h", "1.5", "eval");
+        let point = Kind::NamedPoint {
+            name,
+            number,
+            taker,
+        };
+        assert_eq!(kinds, [called("format"), point]);
+    }
+
+    #[test]
     fn when_it_is_over() {
         let ends = |text: &'static str| {
-            let seen = scan(text.as_bytes(), Vec::leak(vec![text.len()]));
+            let seen = scan(text.as_bytes(), Vec::leak(vec![text.len()]), &[]);
             seen.iter().map(|seen| seen.ends).collect::<Vec<_>>()
         };
         assert_eq!(ends("we divert it"), [Some(9)]);
@@ -325,7 +353,7 @@ mod tests {
     #[test]
     fn any_bytes() {
         let all: Vec<u8> = (0..=255).cycle().take(70_000).collect();
-        scan(&all, &[70_000]);
+        scan(&all, &[70_000], &[]);
         for text in [
             "define(",
             "define(`a",
@@ -335,9 +363,9 @@ mod tests {
             "changequote(",
             "\u{e2}",
         ] {
-            scan(text.as_bytes(), &[text.len()]);
-            scan(&text.as_bytes()[1..], &[text.len() - 1]);
+            scan(text.as_bytes(), &[text.len()], &[]);
+            scan(&text.as_bytes()[1..], &[text.len() - 1], &[]);
         }
-        scan(b"\xe2\x80", &[2]);
+        scan(b"\xe2\x80", &[2], &[]);
     }
 }

@@ -4,10 +4,10 @@
 //! an open descriptor (/dev/stdout, /dev/fd/3) stands for that descriptor: opened anew, its file would be written from the
 //! first byte, or replaced.
 
-use crate::arguments::Options;
+use crate::arguments::{Included, Options};
 use crate::standard::{self, ERRORS, INPUT, OUTPUT};
 use std::ffi::{c_int, OsStr, OsString};
-use std::fs::{self, File};
+use std::fs::{self, File, Metadata};
 use std::io::{self, ErrorKind};
 use std::iter;
 use std::os::unix::ffi::OsStrExt;
@@ -48,18 +48,40 @@ impl Way {
 /// The files of a run.
 pub struct Files {
     pub templates: Vec<Endpoint>,
+    /// The set that is read, if one is.
+    pub set: Option<Endpoint>,
     pub sheet: Endpoint,
     pub report: Option<Endpoint>,
+    /// Where the set goes that is made.
+    pub new_set: Option<Endpoint>,
+    pub outputs: Outputs,
+}
+
+/// The files that a run writes, its standard output and standard error among them.
+pub struct Outputs(Vec<Identity>);
+
+impl Outputs {
+    /// Whether the file with these data is one of them.
+    pub fn have(&self, found: &Metadata) -> bool {
+        self.0.contains(&Identity::There(found.dev(), found.ino()))
+    }
 }
 
 /// The files of a run, if none that is written is also another one; else a complaint. There is none where it would go to one of
 /// the two and spoil what stands there.
 pub fn tell_apart(options: &Options) -> Result<Files, Option<String>> {
     let report = options.report.as_deref();
+    let new_set = options.new_set.as_deref();
+    let set = match &options.included {
+        Included::Set(path) => Some(&**path),
+        Included::Nothing | Included::Folders(_) => None,
+    };
     let parties = Parties {
         templates: options.inputs.iter().map(Party::template).collect(),
+        set: set.map(|path| Party::named("set", "--set ", Some(path), INPUT)),
         sheet: Party::named("sheet", "-o ", options.sheet.as_deref(), OUTPUT),
         report: report.map(|path| Party::named("report", "--report ", Some(path), ERRORS)),
+        new_set: new_set.map(|path| Party::named("new set", "--write-set ", Some(path), ERRORS)),
         streams: [INPUT, OUTPUT, ERRORS].map(Party::stream),
     };
     if let Some([one, errors]) = parties.clash_with_errors() {
@@ -74,10 +96,14 @@ pub fn tell_apart(options: &Options) -> Result<Files, Option<String>> {
             "{roles} are one stream, which can be read once"
         )));
     }
+    let outputs = parties.outputs();
     Ok(Files {
         templates: endpoints(parties.templates).collect(),
+        set: endpoints(parties.set).next(),
         sheet: parties.sheet.endpoint,
         report: endpoints(parties.report).next(),
+        new_set: endpoints(parties.new_set).next(),
+        outputs,
     })
 }
 
@@ -110,8 +136,10 @@ impl Endpoint {
 
 struct Parties {
     templates: Vec<Party>,
+    set: Option<Party>,
     sheet: Party,
     report: Option<Party>,
+    new_set: Option<Party>,
     streams: [Party; 3],
 }
 
@@ -119,8 +147,7 @@ impl Parties {
     /// What must not be the file behind standard error, where every complaint goes, and is.
     fn clash_with_errors(&self) -> Option<[&Party; 2]> {
         let [_, _, errors] = &self.streams;
-        self.templates
-            .iter()
+        self.read()
             .chain(self.replaced())
             .find(|one| one.is(errors))
             .map(|one| [one, errors])
@@ -130,10 +157,12 @@ impl Parties {
     fn clash(&self) -> Option<[&Party; 2]> {
         let [input, output, _] = &self.streams;
         let mut pairs = Vec::new();
-        for template in &self.templates {
-            pairs.extend(self.written().map(|one| [template, one]));
+        for one in self.read() {
+            pairs.extend(self.written().map(|other| [one, other]));
         }
-        pairs.extend(self.report.iter().map(|report| [&self.sheet, report]));
+        for (i, other) in self.written().enumerate() {
+            pairs.extend(self.written().take(i).map(|one| [one, other]));
+        }
         // Others too may hold the streams' files, and would lose what they write there.
         pairs.extend(
             self.replaced()
@@ -142,15 +171,27 @@ impl Parties {
         pairs.into_iter().find(|[one, other]| one.is(other))
     }
 
-    /// Two templates that are read through one stream. The second would be empty, and nothing would show it.
+    /// Two that are read through one stream. The second would be empty, and nothing would show it.
     fn read_twice(&self) -> Option<[&Party; 2]> {
-        let others = |(i, one)| self.templates[..i].iter().map(move |other| [other, one]);
-        let mut pairs = self.templates.iter().enumerate().flat_map(others);
+        let others = |(i, one)| self.read().take(i).map(move |other| [other, one]);
+        let mut pairs = self.read().enumerate().flat_map(others);
         pairs.find(|[one, other]| one.endpoint.way.shares_stream(&other.endpoint.way))
     }
 
+    fn read(&self) -> impl Iterator<Item = &Party> {
+        self.templates.iter().chain(&self.set)
+    }
+
     fn written(&self) -> impl Iterator<Item = &Party> {
-        iter::once(&self.sheet).chain(&self.report)
+        iter::once(&self.sheet)
+            .chain(&self.report)
+            .chain(&self.new_set)
+    }
+
+    fn outputs(&self) -> Outputs {
+        let [_, output, errors] = &self.streams;
+        let all = self.written().chain([output, errors]);
+        Outputs(all.map(|one| one.identity.clone()).collect())
     }
 
     /// Those of the written that are not written through a descriptor.
@@ -211,7 +252,7 @@ impl Party {
 }
 
 /// What tells files apart.
-#[derive(Debug, PartialEq)]
+#[derive(Clone, Debug, PartialEq)]
 enum Identity {
     /// A file or a pipe that is there: its device and inode.
     There(u64, u64),

@@ -1,16 +1,21 @@
 //! The command `quenhovach`: templates in, a settings sheet out, whole or not at all. See docs/quenhovach.1.
 
+mod answer_words;
 mod arguments;
 mod bytes;
+mod folders;
 mod hint_words;
 mod hints;
 mod identity;
+mod included;
 mod place;
 mod progress;
 mod prose;
 mod refusal;
 mod remarks;
 mod scanner;
+mod set_words;
+mod sets;
 mod signals;
 mod standard;
 mod suspects;
@@ -90,13 +95,18 @@ fn show(text: &str) -> Result<u8, String> {
 fn run(options: &Options, files: Files) -> Result<u8, String> {
     writing::empty_report(files.report.as_ref())?;
     let templates = templates::read(files.templates)?;
-    let mut expander = expander(options);
+    let lent = sets::lent(&options.included, files.set, &files.outputs)?;
+    if let Some(place) = files.new_set {
+        // It does not depend on what the templates come to.
+        writing::stage(place, &lent.bytes)?.commit()?;
+    }
+    let mut expander = expander(options).with_set(lent.bytes.clone());
     let report = progress::shown(|| expander.run(&templates.text));
     if options.warn {
-        tell(&hint_words::warnings(&templates));
+        tell(&hint_words::warnings(&templates, &lent));
     }
     if report.answer.is_refusal() {
-        complain(refusal::explain(options, &report, &templates));
+        complain(refusal::explain(options, &report, &templates, &lent));
         writing::stage_report(files.report, &report)?.commit()?;
     } else {
         let sheet = writing::stage(files.sheet, expander.output())?;

@@ -58,7 +58,7 @@ impl<'t> Places<'t> {
 
 /// The line's characters, as far as a terminal shows them alike everywhere: a tab is a blank, other characters that control or format
 /// are a question mark, and what chooses between two forms of a character is left out.
-fn shown(bytes: &[u8]) -> Vec<char> {
+pub fn shown(bytes: &[u8]) -> Vec<char> {
     let character = |c: char| match c {
         '\t' => ' ',
         c if c.is_control() || width::is_format(c) => '?',

@@ -19,6 +19,14 @@ pub fn begins_arguments(text: &[u8], from: usize) -> bool {
     }
 }
 
+/// Whether all that stands in the parentheses that begin here, behind `(`, is a file's name with a point or a slash in it.
+pub fn is_file_name(text: &[u8], from: usize) -> bool {
+    let name = run_of(text, from, |b| is_in_name(b) || b"./-".contains(&b));
+    let parted = name.iter().any(|b| b"./".contains(b));
+    let ends = name.last().is_some_and(|&b| is_in_name(b));
+    parted && ends && text.get(from + name.len()) == Some(&b')')
+}
+
 /// Whether a name stands between two words of a line. A remark of dnl is no word.
 pub fn is_between_words(text: &[u8], name: Range<usize>) -> bool {
     let is_space = |b| b == b' ';
@@ -69,6 +77,16 @@ mod tests {
             "",
         ] {
             assert!(!begins_arguments(text.as_bytes(), 0), "{text}");
+        }
+    }
+
+    #[test]
+    fn file_names() {
+        for text in ["guys.m4)", "yard/guys)", "../a-b.m4) c"] {
+            assert!(is_file_name(text.as_bytes(), 0), "{text}");
+        }
+        for text in ["guys)", "e.g. this)", "see.)", "guys.m4", ")", ""] {
+            assert!(!is_file_name(text.as_bytes(), 0), "{text}");
         }
     }
 

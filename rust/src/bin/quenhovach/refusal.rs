@@ -1,33 +1,49 @@
 //! What the command says about a refusal: what happened, where, and what to do about it.
 
-use crate::arguments::{option_of, Options};
+use crate::answer_words::{in_words, too_long_together};
+use crate::arguments::Options;
 use crate::hint_words;
+use crate::included::{self, Spot};
 use crate::place::Places;
+use crate::set_words;
+use crate::sets::{Lent, Origin};
 use crate::templates::{Part, Templates};
 use crate::width;
-use quenhovach::{Answer, Buffer, Opened, Report, LONGEST};
+use quenhovach::{Answer, Opened, Report};
 
 /// Columns of a line of the message at most.
 const WIDTH: usize = 79;
 
 /// The whole message, without the command's name in front and the last newline.
-pub fn explain(options: &Options, report: &Report, templates: &Templates) -> String {
+pub fn explain(options: &Options, report: &Report, templates: &Templates, lent: &Lent) -> String {
     let answer = report.answer;
-    let places = Places::new(templates);
-    let place = match &places {
-        Some(places) => where_it_is(report, places),
-        None => format!("{}: refused: {answer}", last_read(templates).name),
-    };
+    let places = Places::new(templates).filter(|_| answer != Answer::BadSet);
+    let asked = asked_for(report, templates);
     let (happened, advice) = match answer {
         Answer::Lend if options.inputs.len() > 1 => too_long_together(last_read(templates)),
+        Answer::BadSet => set_words::bad(lent),
+        Answer::NoItem => set_words::missing(lent, asked),
         _ => in_words(options, answer),
     };
-    let mut parts = vec![
-        place,
+    let mut parts = match &places {
+        Some(places) => {
+            let spots = spots(options, report, templates, lent);
+            where_it_is(report, places, giver(lent), &spots)
+        }
+        None => vec![format!(
+            "{}: refused: {answer}",
+            culprit(answer, templates, lent)
+        )],
+    };
+    parts.extend([
         wrapped("What happened:", &happened),
         wrapped("What to do:", &advice),
-    ];
-    let hints = places.map(|places| hint_words::of_refusal(report, &places));
+    ]);
+    if answer == Answer::NoItem {
+        let set = set_words::described(lent, asked);
+        parts.extend(set.map(|words| wrapped("The set:", &words)));
+    }
+    let hints = places.map(|places| hint_words::of_refusal(report, &places, lent));
     let hints = hints.into_iter().flatten();
     parts.extend(hints.map(|hint| wrapped("Hint:", &hint)));
     parts.extend([
@@ -42,22 +58,72 @@ fn last_read(templates: &Templates) -> &Part {
     templates.parts.last().expect("there is a template")
 }
 
-/// File, line and column, the answer, and the line with a caret under the place.
-fn where_it_is(report: &Report, places: &Places) -> String {
+/// The name that an include was refused for, where the template shows it.
+fn asked_for<'t>(report: &Report, templates: &'t Templates) -> Option<&'t [u8]> {
+    let refused = report.answer == Answer::NoItem;
+    set_words::asked(&templates.text, report.place).filter(|_| refused)
+}
+
+/// Where in included texts the run was reading.
+fn spots(options: &Options, report: &Report, templates: &Templates, lent: &Lent) -> Vec<Spot> {
+    let again = |set| crate::expander(options).with_set(set).run(&templates.text);
+    included::being_read(report, lent, again)
+}
+
+/// The file that is refused where nothing of the text was read: the set, or the template that is too long.
+fn culprit<'a>(answer: Answer, templates: &'a Templates, lent: &'a Lent) -> &'a str {
+    match &lent.origin {
+        Origin::File(name) if answer == Answer::BadSet => name,
+        _ => &last_read(templates).name,
+    }
+}
+
+/// File, line and column, the answer, the line with a caret under the place, and how that is to be read.
+fn where_it_is(report: &Report, places: &Places, giver: &str, spots: &[Spot]) -> Vec<String> {
     let (Part { name, .. }, position) = places.find(report.place);
     let (before, behind) = places.line(report.place);
     let number = position.line.to_string();
     let margin = " ".repeat(number.len());
-    format!(
-        "{name}:{position}: refused: {}\n {number} | {before}{behind}\n {margin} | {}^\n{}",
+    let shown = format!(
+        "{name}:{position}: refused: {}\n {number} | {before}{behind}\n {margin} | {}^",
         report.answer,
         " ".repeat(width::of_text(&before)),
-        wrapped("Where:", &begins(report, places.templates)),
+    );
+    let mut parts = vec![
+        shown,
+        wrapped("Where:", &begins(report, places.templates, giver)),
+    ];
+    parts.extend((!spots.is_empty()).then(|| wrapped("In included text:", &in_included(spots))));
+    parts
+}
+
+/// How far included texts were read, of which the innermost is the one with the fault.
+fn in_included(spots: &[Spot]) -> String {
+    let told: Vec<_> = spots
+        .iter()
+        .map(|Spot { told, position }| format!("{told}:{position}"))
+        .collect();
+    let inner = if spots.len() > 1 {
+        "; one includes the other"
+    } else {
+        ""
+    };
+    format!(
+        "the refused step ends at {}, or in text that a macro there gave{inner}",
+        told.join(" and ")
     )
 }
 
+/// What may have given text that was still to be read.
+fn giver(lent: &Lent) -> &'static str {
+    match lent.origin {
+        Origin::Nowhere => "a macro",
+        _ => "a macro or an include",
+    }
+}
+
 /// How the caret is to be read: the place is where the input stood before the refused step.
-fn begins(report: &Report, templates: &Templates) -> String {
+fn begins(report: &Report, templates: &Templates, giver: &str) -> String {
     if let Answer::Unclosed(Opened::Call) = report.answer {
         let before = match templates.number_at(report.place) {
             0 => "",
@@ -65,11 +131,11 @@ fn begins(report: &Report, templates: &Templates) -> String {
         };
         return format!("the text ends here; the open call begins somewhere before{before}");
     }
-    let giver = match templates.ended_at(report.place) {
+    let before = match templates.ended_at(report.place) {
         Some(ended) => format!("at the end of {}", ended.name),
         None => "before here".to_string(),
     };
-    format!("the refused step begins here, or in text that a macro {giver} gave")
+    format!("the refused step begins here, or in text that {giver} {before} gave")
 }
 
 /// The numbers of the answer. Of several templates the place counts over all; which one it is in tells a file named twice.
@@ -87,7 +153,7 @@ fn in_numbers(report: &Report, templates: &Templates) -> String {
         answer.detail(),
     );
     let Templates { parts, .. } = templates;
-    if parts.len() == 1 || answer == Answer::Lend {
+    if parts.len() == 1 || matches!(answer, Answer::Lend | Answer::BadSet) {
         return numbers;
     }
     let number = templates.number_at(place);
@@ -124,160 +190,19 @@ fn wrapped(heading: &str, words: &str) -> String {
     text
 }
 
-/// What happened, and what to do.
-fn in_words(options: &Options, answer: Answer) -> (String, String) {
-    match answer {
-        Answer::Spent => spent(options.budget),
-        Answer::Room(buffer) => room(buffer, options.lengths[buffer as usize - 1]),
-        _ => {
-            let (happened, advice) = fixed_words(answer);
-            (happened.to_string(), advice.to_string())
-        }
-    }
-}
-
-/// More than may be lent, in several templates.
-fn too_long_together(passing: &Part) -> (String, String) {
-    let Part { name, range } = passing;
-    let happened = format!(
-        "the templates have more than {LONGEST} bytes together; {name} passes the limit, with {} bytes before it; nothing was \
-         expanded",
-        range.start
-    );
-    (
-        happened,
-        "leave a template out, or make them shorter".to_string(),
-    )
-}
-
-fn spent(budget: u32) -> (String, String) {
-    let loops = "look for a definition that calls itself without end";
-    let advice = match budget {
-        u32::MAX => format!("{loops}; no larger budget can be given"),
-        _ => format!(
-            "allow more steps with --budget N (up to 4294967295); if these are spent too, {loops}"
-        ),
-    };
-    (
-        format!("all {budget} steps of the budget are used, and there is text left to expand"),
-        advice,
-    )
-}
-
-fn room(buffer: Buffer, length: usize) -> (String, String) {
-    let (what, cause) = match buffer {
-        Buffer::Pending => (
-            "the text that macros gave back and that is not yet read",
-            "look for a definition that calls itself without end, or nest less in one call",
-        ),
-        Buffer::Calls => (
-            "the names and arguments of the open calls",
-            "look for a missing right parenthesis or quote mark, or give a call less text",
-        ),
-        Buffer::Definitions => (
-            "the names and texts of the definitions",
-            "look for a pushdef without popdef, or undefine what is no longer needed",
-        ),
-        Buffer::Streams => (
-            "the diverted text",
-            "look for a loop that diverts without end, or undivert sooner",
-        ),
-        Buffer::Wrap => (
-            "the text that m4wrap keeps for the end",
-            "look for an m4wrap in a loop, or keep a macro's name instead of its text",
-        ),
-        Buffer::Errors => ("the error text", "look for an errprint in a loop"),
-        Buffer::Output => (
-            "the sheet",
-            "look for a loop that writes without end, or make two sheets of it",
-        ),
-    };
-    let advice = if length < LONGEST {
-        format!(
-            "lend more with {} N (up to {LONGEST}); if that is too little too, {cause}",
-            option_of(buffer)
-        )
-    } else {
-        format!("{cause}; no more than {LONGEST} bytes can be lent")
-    };
-    (
-        format!("{what} would not fit in the {length} bytes lent for it"),
-        advice,
-    )
-}
-
-/// Words that don't depend on the setting. Done and exit are no refusals and need none.
-fn fixed_words(answer: Answer) -> (&'static str, &'static str) {
-    match answer {
-        Answer::Lend => (
-            "the template has more than 65536 bytes; nothing was expanded",
-            "make the template shorter, or two of it",
-        ),
-        Answer::Unclosed(Opened::Quote) => (
-            "a quote is opened and the text ends before it is closed",
-            "add the end-quote mark (' unless changequote set another)",
-        ),
-        Answer::Unclosed(Opened::Comment) => (
-            "a comment is opened and the text ends before the end mark that changecom set",
-            "add that end mark, or quote the begin mark if no comment is meant; changecom with the begin mark alone ends each \
-             comment with its line",
-        ),
-        Answer::Unclosed(Opened::Call) => (
-            "the arguments of a call are still being collected where the text ends",
-            "look for a missing right parenthesis (one in a quote or a comment closes nothing), or for a left one that is too many; \
-             quote those that are plain text",
-        ),
-        Answer::Name => (
-            "define or pushdef was given a first argument that is not a name",
-            "give a letter or underscore and then letters, digits and underscores only, in quote marks, without blanks \
-             behind it",
-        ),
-        Answer::Number => (
-            "a macro was given a number that it can't take, or something else than a number",
-            "give a number from -2147483648 to 2147483647: an optional minus and digits, nothing else, no blanks behind it. \
-             incr and decr must stay in that range; substr takes no negative number, m4exit 0 to 255, undivert 1 to 9, \
-             eval a radix of 2 to 36 and no negative count of digits",
-        ),
-        Answer::Expression => (
-            "eval can't read its expression",
-            "look for a decimal point (there are whole numbers only), a name that is not defined or a predefined one without (, \
-             08 or 09 (a leading 0 means octal), -- or ++, a CR at a line's end, a missing operand or parenthesis, \
-             a number above 4294967295, or more than 32 parentheses and signs in each other",
-        ),
-        Answer::Divisor => (
-            "eval would divide by zero, or shift by a count outside 0 to 31",
-            "test the divisor or the count before, as in ifelse(eval(n), 0, `none', `eval(10 / n)')",
-        ),
-        Answer::Mark => (
-            "changequote or changecom was given a bad mark",
-            "a mark has 1 to 5 bytes and no letter, digit, underscore, parenthesis, comma or blank in it; an end mark \
-             may be a single newline. changequote without parentheses sets the usual marks",
-        ),
-        Answer::NoText => (
-            "defn was given the name of a predefined macro, which has no text",
-            "call the macro itself, or define a name that calls it",
-        ),
-        Answer::Gone => (
-            "a call is closed here, but its name lost its definition while its arguments were collected",
-            "look for undefine or popdef in the arguments of the call",
-        ),
-        Answer::Deep => (
-            "a 65th call would be open at once, or a 257th argument over all open calls",
-            "nest fewer calls, or give fewer arguments; look for a definition that calls itself in its own arguments",
-        ),
-        Answer::Done | Answer::Exit(_) | Answer::Spent | Answer::Room(_) => ("", ""),
-    }
-}
-
 #[cfg(test)]
 mod tests {
     use super::*;
+    use crate::arguments::Included;
+    use quenhovach::{Buffer, EMPTY_SET};
 
     fn options() -> Options {
         Options {
             inputs: vec![Some("t.m4".into())],
             sheet: Some("t.sheet".into()),
             report: None,
+            included: Included::Nothing,
+            new_set: None,
             warn: false,
             lengths: [4096; 7],
             budget: 100,
@@ -291,6 +216,13 @@ mod tests {
         Templates { text, parts }
     }
 
+    fn nothing() -> Lent {
+        Lent {
+            bytes: EMPTY_SET.to_vec(),
+            origin: Origin::Nowhere,
+        }
+    }
+
     fn refused(answer: Answer) -> Report {
         Report {
             answer,
@@ -302,7 +234,7 @@ mod tests {
     }
 
     fn refusals() -> impl Iterator<Item = Answer> {
-        (2..14).flat_map(|n| (0..8).filter_map(move |detail| Answer::from_numbers(n, detail)))
+        (2..16).flat_map(|n| (0..8).filter_map(move |detail| Answer::from_numbers(n, detail)))
     }
 
     #[test]
@@ -311,6 +243,7 @@ mod tests {
             &options(),
             &refused(Answer::Room(Buffer::Pending)),
             &template(b"a\nb n c\n"),
+            &nothing(),
         );
         let expected = "\
 t.m4:2:2: refused: no room for pending text
@@ -329,37 +262,16 @@ The sheet: none was written; t.sheet is as it was";
 
     #[test]
     fn every_refusal_has_words_and_fits() {
-        assert_eq!(refusals().count(), 20);
+        assert_eq!(refusals().count(), 22);
         for answer in refusals() {
-            let (happened, advice) = in_words(&options(), answer);
-            assert!(!happened.is_empty() && !advice.is_empty(), "{answer}");
-            let message = explain(&options(), &refused(answer), &template(b"text"));
+            let message = explain(&options(), &refused(answer), &template(b"text"), &nothing());
+            for heading in ["What happened: ", "What to do: "] {
+                let words = message.split(heading).nth(1);
+                assert!(words.is_some_and(|words| words.len() > 20), "{answer}");
+            }
             assert!(
                 message.lines().all(|line| line.chars().count() <= WIDTH),
                 "{message}"
-            );
-        }
-    }
-
-    #[test]
-    fn the_most_is_not_exceeded() {
-        let most = Options {
-            lengths: [LONGEST; 7],
-            budget: u32::MAX,
-            ..options()
-        };
-        for answer in Buffer::ALL
-            .map(Answer::Room)
-            .into_iter()
-            .chain([Answer::Spent])
-        {
-            assert!(
-                in_words(&options(), answer).1.contains(" N (up to "),
-                "{answer}"
-            );
-            assert!(
-                !in_words(&most, answer).1.contains(" N (up to "),
-                "{answer}"
             );
         }
     }

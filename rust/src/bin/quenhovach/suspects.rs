@@ -1,18 +1,18 @@
 //! The names and characters that the scan for likely mistakes knows. tests/interfaces/command/hints.py holds the names to the book of rules.
 
 /// Predefined names that are plain text unless `(` directly follows.
-const NEED_CALL: [&str; 17] = [
-    "decr", "define", "defn", "errprint", "eval", "ifdef", "ifelse", "incr", "index", "len",
-    "m4wrap", "popdef", "pushdef", "shift", "substr", "translit", "undefine",
+const NEED_CALL: [&str; 19] = [
+    "decr", "define", "defn", "errprint", "eval", "ifdef", "ifelse", "include", "incr", "index",
+    "len", "m4wrap", "popdef", "pushdef", "shift", "sinclude", "substr", "translit", "undefine",
 ];
 /// Predefined names that may have arguments or none.
 const TAKE_CALL: [&str; 5] = ["changecom", "changequote", "divert", "m4exit", "undivert"];
 /// Predefined names that have no arguments.
 const BARE: [&str; 2] = ["divnum", "dnl"];
 /// Those that are plain text without `(` and words of everyday writing, too, where a parenthesis may follow.
-const EVERYDAY: [&str; 4] = ["define", "index", "len", "shift"];
+const EVERYDAY: [&str; 5] = ["define", "include", "index", "len", "shift"];
 /// Macros of GNU m4 that are not predefined here.
-const FOREIGN: [&str; 21] = [
+const FOREIGN: [&str; 19] = [
     "__file__",
     "__line__",
     "__program__",
@@ -23,13 +23,11 @@ const FOREIGN: [&str; 21] = [
     "dumpdef",
     "esyscmd",
     "format",
-    "include",
     "indir",
     "maketemp",
     "mkstemp",
     "patsubst",
     "regexp",
-    "sinclude",
     "syscmd",
     "sysval",
     "traceoff",
@@ -54,6 +52,10 @@ pub fn is_everyday(name: &str) -> bool {
 
 pub fn changes_marks(name: &str) -> bool {
     ["changecom", "changequote"].contains(&name)
+}
+
+pub fn includes(name: &str) -> bool {
+    ["include", "sinclude"].contains(&name)
 }
 
 pub fn is_foreign(name: &str) -> bool {

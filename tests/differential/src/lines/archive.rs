@@ -130,16 +130,16 @@ pub fn start_of(length: usize, words: &[u64], totals: &[u32], line: u64) -> (u32
     (returned, start)
 }
 
-/// What the first three areas hold before a call.
-pub fn given(case: &Case) -> [Cow<'_, [u8]>; 3] {
+/// What the areas but that of the answer hold before a call.
+pub fn given(case: &Case) -> [(usize, Cow<'_, [u8]>); 3] {
     let text: &[u8] = match &case.asked {
         Asked::Build(text) => text,
         _ => b"",
     };
     [
-        Cow::Borrowed(text),
-        Cow::Owned(words_bytes(&case.words)),
-        Cow::Owned(totals_bytes(&case.totals)),
+        (TEXT, Cow::Borrowed(text)),
+        (WORDS, Cow::Owned(words_bytes(&case.words))),
+        (TOTALS, Cow::Owned(totals_bytes(&case.totals))),
     ]
 }
 

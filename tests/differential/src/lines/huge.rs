@@ -2,7 +2,7 @@
 
 use super::archive::{call, given, lengths, AREAS, TEXT, TOTAL, TOTALS, WORD, WORDS};
 use super::judge::judge;
-use crate::fences::HUGE;
+use crate::huge::HUGE;
 use crate::noise::Noise;
 use crate::supervise::libc::{self, MAP_NORESERVE, MAP_PRIVATE, PROT_NONE, PROT_READ, PROT_WRITE};
 use crate::supervise::try_each;

@@ -28,7 +28,7 @@ pub fn random_cases(seed: u64, count: u64, first: u64, mistaken: bool) -> bool {
 
 fn agrees(case: &Case, mistaken: bool) -> bool {
     let blocks = Blocks::new(lengths(case));
-    let [text, words, totals] = given(case);
+    let [(_, text), (_, words), (_, totals)] = given(case);
     let Range { start, end } = looked_at(case);
     blocks.fill(TEXT, 0, &text);
     blocks.fill(WORDS, start * WORD, &words[start * WORD..end * WORD]);

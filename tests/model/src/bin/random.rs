@@ -4,10 +4,10 @@
 
 use model::demand3::try_pair;
 use model::generate::{case, pair, Scale};
-use model::macros::Predefined;
+use model::predefined::{Calls, Predefined};
 use model::random::Random;
 use model::table::{write, Row, HEADER};
-use model::{expand_traced, Report, Trace};
+use model::{expand_traced, Report, Trace, ANSWERS};
 use std::io::{BufWriter, Write};
 use std::process::ExitCode;
 
@@ -42,10 +42,10 @@ fn usage() -> ExitCode {
 /// How many cases ended how, and which macros they called.
 #[derive(Default)]
 struct Counts {
-    answers: [usize; 14],
+    answers: [usize; ANSWERS],
     room: [usize; 7],
     unclosed: [usize; 3],
-    calls: [u64; 24],
+    calls: Calls,
 }
 
 impl Counts {
@@ -84,11 +84,12 @@ fn write_cases(seed: u64, count: usize) -> std::io::Result<()> {
     writeln!(out, "{HEADER}")?;
     for i in 1..=count {
         let case = case(&mut random, Scale::Small);
-        let (expected, trace) = expand_traced(&case.text, &case.setting);
+        let (expected, trace) = expand_traced(&case.text, &case.set, &case.setting);
         counts.add(&expected, &trace);
         let row = Row {
             item: format!("r{seed}-{i}"),
             text: case.text,
+            set: case.set,
             setting: case.setting,
             expected,
         };
@@ -101,7 +102,7 @@ fn write_cases(seed: u64, count: usize) -> std::io::Result<()> {
 
 fn try_demand3(seed: u64, count: usize) -> ExitCode {
     let mut random = Random::new(seed);
-    let mut answers = [0usize; 14];
+    let mut answers = [0usize; ANSWERS];
     let mut violations = 0;
     for _ in 0..count {
         let pair = pair(&mut random, Scale::Small);

@@ -11,14 +11,15 @@ fn main() -> ExitCode {
 
 fn agrees(line: &str) -> Result<(), String> {
     let row = read(line)?;
-    let got = expand(&row.text, &row.setting);
+    let got = expand(&row.text, &row.set, &row.setting);
     if got == row.expected {
         return Ok(());
     }
     Err(format!(
-        "{}: text {}\n  lengths {:?}, budget {}\n  expected {}\n  got      {}",
+        "{}: text {}\n  set {}\n  lengths {:?}, budget {}\n  expected {}\n  got      {}",
         row.item,
         hex(&row.text),
+        hex(&row.set),
         row.setting.lengths,
         row.setting.budget,
         shown(&row.expected),

@@ -1,4 +1,4 @@
-//! Where one of the 24 names may stand, and what may follow it.
+//! Where one of the predefined names may stand, and what may follow it.
 
 use crate::ways::Use;
 

@@ -1,23 +1,24 @@
 //! Pairs of settings for the letter's third demand.
 
 use super::setting::{close, probe};
-use super::{text, Scale};
+use super::{input, Scale};
 use crate::answer::Setting;
 use crate::random::Random;
 use crate::LIMIT;
 
-/// A text and two settings, "none above 65,536 bytes" and "the second nowhere smaller than the
-/// first".
+/// A text with its set and two settings, "none above 65,536 bytes" and "the second nowhere smaller
+/// than the first".
 #[derive(Clone, Debug)]
 pub struct Pair {
     pub text: Vec<u8>,
+    pub set: Vec<u8>,
     pub settings: [Setting; 2],
 }
 
 /// Makes a pair whose first setting lies close to what the text needs.
 pub fn pair(random: &mut Random, scale: Scale) -> Pair {
-    let text = text(random, scale);
-    let probe = probe(random, &text, scale);
+    let input = input(random, scale);
+    let probe = probe(random, &input, scale);
     let mut first = close(random, &probe);
     if first.lengths == [LIMIT; 7] && random.chance(80) {
         // as much as there may be can't grow
@@ -25,7 +26,8 @@ pub fn pair(random: &mut Random, scale: Scale) -> Pair {
     }
     let second = no_smaller(random, &first, probe.budget);
     Pair {
-        text,
+        text: input.text,
+        set: input.set,
         settings: [first, second],
     }
 }

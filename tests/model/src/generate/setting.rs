@@ -1,10 +1,10 @@
 //! Settings for a text: most lie close to what it needs.
 
-use super::Scale;
+use super::{Input, Scale};
 use crate::answer::{Report, Setting};
 use crate::random::Random;
 use crate::run::{expand_traced, Trace};
-use crate::LIMIT;
+use crate::{LIMIT, NO_ITEMS};
 
 /// Lengths where something might turn.
 const TURNS: [usize; 24] = [
@@ -34,7 +34,7 @@ const TURNS: [usize; 24] = [
     LIMIT,
 ];
 
-/// What a text does with ample room and many steps, by the model.
+/// What a text does, with its set, with ample room and many steps, by the model.
 pub(super) struct Probe {
     pub report: Report,
     pub trace: Trace,
@@ -43,12 +43,12 @@ pub(super) struct Probe {
 }
 
 impl Probe {
-    fn new(text: &[u8], budget: u32) -> Probe {
+    fn new(input: &Input, budget: u32) -> Probe {
         let setting = Setting {
             budget,
             ..Setting::ample()
         };
-        let (report, trace) = expand_traced(text, &setting);
+        let (report, trace) = expand_traced(&input.text, &input.set, &setting);
         Probe {
             report,
             trace,
@@ -58,16 +58,18 @@ impl Probe {
 }
 
 /// Runs a text with ample room. Few texts get many steps; those without end use them all.
-pub(super) fn probe(random: &mut Random, text: &[u8], scale: Scale) -> Probe {
+pub(super) fn probe(random: &mut Random, input: &Input, scale: Scale) -> Probe {
     match scale {
-        Scale::Small => small_probe(text),
-        Scale::Full => Probe::new(text, many_steps(random, text)),
+        Scale::Small => small_probe(input),
+        Scale::Full => Probe::new(input, many_steps(random, input)),
     }
 }
 
-fn many_steps(random: &mut Random, text: &[u8]) -> u32 {
+fn many_steps(random: &mut Random, input: &Input) -> u32 {
     match random.below(400) {
-        _ if text.len() > 10_000 => 300_000,
+        _ if input.text.len() > 10_000 => 300_000,
+        // what includes itself has no end
+        _ if input.set != NO_ITEMS && random.chance(70) => 200,
         0 => 300_000,
         1..=7 => 30_000,
         _ => 3_000,
@@ -75,11 +77,14 @@ fn many_steps(random: &mut Random, text: &[u8]) -> u32 {
 }
 
 /// Few steps, and fewest where they have much to carry along.
-fn small_probe(text: &[u8]) -> Probe {
-    let probe = Probe::new(text, 1_500);
-    let most = probe.trace.peaks.into_iter().fold(text.len(), usize::max);
+fn small_probe(input: &Input) -> Probe {
+    // what includes itself has no end, and each time the set is searched
+    let budget = if input.set == NO_ITEMS { 1_500 } else { 300 };
+    let probe = Probe::new(input, budget);
+    let peaks = probe.trace.peaks.into_iter();
+    let most = peaks.fold(input.text.len(), usize::max);
     if most > 1_000 {
-        Probe::new(text, 200)
+        Probe::new(input, 200)
     } else {
         probe
     }
@@ -97,8 +102,8 @@ pub fn exact_and_shorter(exact: &Setting) -> Vec<Setting> {
 }
 
 /// Chooses lengths and budget.
-pub(super) fn choose(random: &mut Random, text: &[u8], scale: Scale) -> Setting {
-    let probe = probe(random, text, scale);
+pub(super) fn choose(random: &mut Random, input: &Input, scale: Scale) -> Setting {
+    let probe = probe(random, input, scale);
     let mut setting = close(random, &probe);
     if random.chance(2) {
         overlong(random, &mut setting);
@@ -159,8 +164,10 @@ fn exact(random: &mut Random, setting: &mut Setting, probe: &Probe) {
 fn shorten_one(random: &mut Random, setting: &mut Setting, probe: &Probe) {
     let buffer = used_buffer(random, probe);
     let need = probe.trace.peaks[buffer].min(LIMIT);
-    setting.lengths[buffer] = match random.below(3) {
-        0 => random.below(need + 1),
+    setting.lengths[buffer] = match random.below(9) {
+        0..=1 => random.below(need + 1),
+        // a text without end soon has enough
+        2 => random.below(need.min(60) + 1),
         _ => need.saturating_sub(1),
     };
 }
@@ -193,6 +200,8 @@ fn fewer(random: &mut Random, steps: u32) -> u32 {
         1..=2 => steps.saturating_sub(1),
         3..=4 => steps.saturating_sub(2),
         5 => steps,
+        // a text without end soon shows all that it does
+        6 => random.below(steps.min(60) as usize + 2) as u32,
         _ => random.below(steps as usize + 2) as u32,
     }
 }

@@ -1,6 +1,6 @@
 //! The smallest pieces of texts: names, words, numbers, odd bytes.
 
-use crate::macros::Predefined;
+use crate::predefined::Predefined;
 use crate::random::Random;
 use crate::ways::NEED_PARENTHESIS;
 

@@ -20,6 +20,8 @@ pub struct Writer<'r> {
     quote: Pair,
     comment: Option<Pair>,
     known: Vec<Vec<u8>>,
+    /// The names of what may be included.
+    items: Vec<Vec<u8>>,
 }
 
 fn default_quote() -> Pair {
@@ -38,7 +40,14 @@ impl<'r> Writer<'r> {
             quote: default_quote(),
             comment: Some(default_comment()),
             known: Vec::new(),
+            items: Vec::new(),
         }
+    }
+
+    /// Items of these names may be included.
+    pub fn including(mut self, names: &[Vec<u8>]) -> Writer<'r> {
+        self.items = names.to_vec();
+        self
     }
 
     /// Pieces until the text is about `length` bytes long.

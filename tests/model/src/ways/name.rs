@@ -2,7 +2,7 @@
 
 use super::{held_if_placed, keeps_bare_call, Use};
 use crate::definitions::Meaning;
-use crate::macros::Predefined;
+use crate::predefined::Predefined;
 use crate::state::State;
 
 pub struct Name {

@@ -4,6 +4,7 @@
 mod open;
 mod walk;
 
+use super::start;
 use crate::Report;
 use walk::Walk;
 
@@ -99,10 +100,10 @@ impl Default for Remarks {
 }
 
 impl Remarks {
-    /// Notes what the run of a text did that ended in this report. Fails if an open comment did not
-    /// do what 02 asks.
-    pub fn walk(&mut self, text: &[u8], report: &Report) -> Result<(), String> {
-        let mut walk = Walk::at_start(self, text);
+    /// Notes what the run of a text with a set did that ended in this report. Fails if an open
+    /// comment did not do what 02 asks.
+    pub fn walk(&mut self, text: &[u8], set: &[u8], report: &Report) -> Result<(), String> {
+        let mut walk = Walk::at_start(self, start(text, set));
         for _ in 0..report.steps {
             walk.completed();
         }
@@ -123,14 +124,15 @@ impl Remarks {
 #[cfg(test)]
 mod tests {
     use super::*;
-    use crate::{expand, Setting};
+    use crate::{expand, Setting, NO_ITEMS};
     use Remark::*;
 
     /// The ways of a text, in the order of the list.
     fn ways(text: &str, setting: &Setting) -> Vec<Remark> {
         let mut remarks = Remarks::default();
-        let report = expand(text.as_bytes(), setting);
-        assert_eq!(remarks.walk(text.as_bytes(), &report), Ok(()), "{text}");
+        let report = expand(text.as_bytes(), NO_ITEMS, setting);
+        let verdict = remarks.walk(text.as_bytes(), NO_ITEMS, &report);
+        assert_eq!(verdict, Ok(()), "{text}");
         let all = REMARKS.into_iter().map(|(way, _)| way);
         all.filter(|&way| remarks.taken[way as usize] > 0).collect()
     }
@@ -223,8 +225,9 @@ mod tests {
     #[test]
     fn faults() {
         let faulty = |text: &str, other: &str| {
-            let report = expand(other.as_bytes(), &Setting::ample());
-            Remarks::default().walk(text.as_bytes(), &report).is_err()
+            let report = expand(other.as_bytes(), NO_ITEMS, &Setting::ample());
+            let verdict = Remarks::default().walk(text.as_bytes(), NO_ITEMS, &report);
+            verdict.is_err()
         };
         // refused as if another mark ended the comment: both reports have five steps before
         assert!(faulty("a,,,,#a", "changecom(`[',`]')[a"));

@@ -5,7 +5,7 @@ use super::name::{Kind, Name};
 use super::{keeps_bare_call, Use, Way, Ways};
 use crate::answer::Refusal;
 use crate::bytes::is_blank;
-use crate::macros::Predefined;
+use crate::predefined::Predefined;
 use crate::state::State;
 use crate::step::step;
 use crate::tokens::{next, Token};
@@ -44,10 +44,10 @@ pub struct Walk<'w, 't> {
 }
 
 impl<'w, 't> Walk<'w, 't> {
-    pub fn at_start(ways: &'w mut Ways, text: &'t [u8]) -> Walk<'w, 't> {
+    pub fn at_start(ways: &'w mut Ways, state: State<'t>) -> Walk<'w, 't> {
         Walk {
             ways,
-            state: State::at_start(text),
+            state,
             last: [Did::Other; 2],
             covered: [false; Predefined::ALL.len()],
             verdict: Ok(()),

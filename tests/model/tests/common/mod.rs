@@ -1,20 +1,14 @@
 //! What the tests of requests share: cases with a text and its whole answer, and one short buffer.
+//! Nothing can be included in them.
 
-use model::{expand, Report, Setting};
+mod report;
 
-pub fn report([number, detail, steps, place]: [u32; 4], output: &str) -> Report {
-    Report {
-        number,
-        detail,
-        steps,
-        place,
-        output: output.as_bytes().to_vec(),
-        errors: Vec::new(),
-    }
+use model::{Report, Setting, NO_ITEMS};
+pub use report::{report, Case};
+
+pub fn expand(text: &[u8], setting: &Setting) -> Report {
+    model::expand(text, NO_ITEMS, setting)
 }
-
-/// A text, its number, detail, steps and place, and its output.
-pub type Case = (&'static str, [u32; 4], &'static str);
 
 pub fn answers(cases: &[Case]) {
     for &(text, numbers, output) in cases {

@@ -7,7 +7,7 @@ use Rattle.rules.specs.Run.{Setting}
 use Rattle.rules.specs.Bytes.{Bytes}
 use Rattle.expander.specs.Events.{NameFound}
 use Rattle.expander.specs.Table.{Finds}
-use Rattle.expander.specs.Machine.{Memory, Represents, textAt, pendingAt, stringsAt, definitionsAt, sinksAt, wrapAt, errorsAt, sourceSet}
+use Rattle.expander.specs.Machine.{Memory, Represents, inputAt, pendingAt, stringsAt, definitionsAt, sinksAt, wrapAt, errorsAt, sourceSet}
 use Rattle.expander.specs.declared.arguments.Arguments.{Arguments}
 use Rattle.expander.proofs.MacroLaws.{valid-at, valid-of}
 use Rattle.builtins.proofs.BuiltinLaws.{performs-result, performs-index, performs-change}
@@ -17,7 +17,7 @@ use Rattle.expander.proofs.calling.bare.Tie as tie
 
 -- ways back
 abbrev start : tie.After-advanced → tie.Start
-start c = c .before .before .before .before .before .before .before .before .before .before .before .before .before .before .before .before
+start c = c .before .before .before .before .before .before .before .before .before .before .before .before .before .before .before .before .before
 
 abbrev to-advanced : tie.After-perform-arg9 → tie.After-advanced
 to-advanced c = c .before .before .before .before .before .before .before .before .before .before .before .before .before .before .before .before
@@ -32,14 +32,14 @@ to-meaning c = c .before .before .before .before .before .before .before .before
 abbrev lent : tie.Start → Memory → Memory
 lent c b =
     let a = c .args in
-    textAt (a .text .now)
+    inputAt (a .text .now) (a .set .now)
     (pendingAt (a .pending .now)
     (stringsAt (a .calls .now) (a .ends .now)
     (definitionsAt (a .definitions .now) (a .table-ends .now)
     (sinksAt (a .streams .now) (a .owners .now) (a .output .now) (wrapAt (a .wrap .now) (errorsAt (a .errors .now) b))))))
 
 abbrev begun : tie.After-advanced → tie.Start
-begun c = c .before .before .before .before .before .before .before .before .before .before .before .before .before .before .before .before
+begun c = c .before .before .before .before .before .before .before .before .before .before .before .before .before .before .before .before .before
 
 -- no arguments
 abbrev args : tie.Start → Arguments
@@ -218,8 +218,7 @@ bare-spec =
     returns-2
     (λ c. at-search c .search .kept .0)
     returns-3
-    (λ c. at-perform c .perform .kept .1 .0)
-    (λ c. at-perform c .perform .kept .1 .1 .1 .1 .0)
+    (λ c. at-perform c .perform .kept .1 .1 .0)
     (λ c. at-perform c .perform .kept .1 .1 .1 .1 .1 .0)
     (λ c. at-perform c .perform .kept .1 .1 .1 .1 .1 .1 .0)
     (λ c. at-perform c .perform .kept .1 .1 .1 .1 .1 .1 .1 .0)
@@ -227,6 +226,7 @@ bare-spec =
     (λ c. at-perform c .perform .kept .1 .1 .1 .1 .1 .1 .1 .1 .1 .0)
     (λ c. at-perform c .perform .kept .1 .1 .1 .1 .1 .1 .1 .1 .1 .1 .0)
     (λ c. at-perform c .perform .kept .1 .1 .1 .1 .1 .1 .1 .1 .1 .1 .1 .0)
+    (λ c. at-perform c .perform .kept .1 .1 .1 .1 .1 .1 .1 .1 .1 .1 .1 .1 .0)
     returns-4
     (λ c. refl)
     returns-5)

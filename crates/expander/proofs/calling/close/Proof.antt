@@ -4,7 +4,7 @@ use Rattle.rules.specs.Bytes.{Bytes}
 use Rattle.rules.specs.Table.{meaningOf}
 use Rattle.rules.specs.State.{Call, State, withCalls}
 use Rattle.rules.specs.Run.{Setting}
-use Rattle.expander.specs.Machine.{Memory, Represents, textAt, pendingAt, callsAt, definitionsAt, sinksAt, wrapAt, errorsAt, callsSet}
+use Rattle.expander.specs.Machine.{Memory, Represents, inputAt, pendingAt, callsAt, definitionsAt, sinksAt, wrapAt, errorsAt, callsSet}
 use Rattle.expander.specs.declared.arguments.Arguments.{Arguments}
 use Rattle.expander.specs.declared.machine.Machine.{Machine}
 use Rattle.expander.specs.Calls.{openStrings, CallsIn}
@@ -18,7 +18,7 @@ use Rattle.expander.proofs.calling.close.Tie as tie
 
 -- ways back
 abbrev start-look-up-arg2 : tie.After-look-up-arg2 → tie.Start
-start-look-up-arg2 c = c .before .before .before .before .before .before .before .before .before .before .before .before .before .before .before .before .before .before .before .before
+start-look-up-arg2 c = c .before .before .before .before .before .before .before .before .before .before .before .before .before .before .before .before .before .before .before .before .before
 
 abbrev to-look-up-give-arg3 : tie.After-give-arg3 → tie.After-look-up
 to-look-up-give-arg3 c = c .before .before .before .before .before .before .before .before .before .before .before
@@ -30,7 +30,7 @@ to-look-up-perform-arg9 c = c .before .before .before .before .before .before .b
 abbrev lent : tie.Start → Memory → Memory
 lent c b =
     let a = c .args in
-    textAt (a .text .now)
+    inputAt (a .text .now) (a .set .now)
     (pendingAt (a .pending .now)
     (callsAt (a .calls .now) (a .ends .now) (a .stack .now)
     (definitionsAt (a .definitions .now) (a .table-ends .now)
@@ -44,7 +44,7 @@ abbrev calls : (c : tie.Start) → CallsIn (c .args .calls .now) (c .args .ends 
 calls c = opened-calls (c .pre .0 .represents) (top c .is)
 
 abbrev begun : tie.After-first-string → tie.Start
-begun c = c .before .before .before .before .before .before .before .before .before .before .before .before .before .before .before
+begun c = c .before .before .before .before .before .before .before .before .before .before .before .before .before .before .before .before
 
 first : (c : tie.After-first-string) → c .first-string .result ≡ length (openStrings (top (begun c) .below))
 first c =
@@ -89,7 +89,7 @@ string-requires c κs =
 
 closed-requires : tie.Need-closed-requires
 closed-requires c κs =
-    let p = c .before .before .before .before .before .before .before .before .before .before .before .before .before .before .before .before in
+    let p = c .before .before .before .before .before .before .before .before .before .before .before .before .before .before .before .before .before in
     let n = first-few (calls p) (c .before .first-string .result) (first (c .before)) in
     (p .pre .1 .0, omega (arith, n, p .pre .0 .represents .limits .call-ends))
 
@@ -227,8 +227,7 @@ close-spec =
     (λ c. refl)
     (λ c. refl)
     returns-3
-    (λ c. at-perform c .perform .kept .1 .0)
-    (λ c. at-perform c .perform .kept .1 .1 .1 .1 .0)
+    (λ c. at-perform c .perform .kept .1 .1 .0)
     (λ c. at-perform c .perform .kept .1 .1 .1 .1 .1 .0)
     (λ c. at-perform c .perform .kept .1 .1 .1 .1 .1 .1 .0)
     (λ c. at-perform c .perform .kept .1 .1 .1 .1 .1 .1 .1 .0)
@@ -236,6 +235,7 @@ close-spec =
     (λ c. at-perform c .perform .kept .1 .1 .1 .1 .1 .1 .1 .1 .1 .0)
     (λ c. at-perform c .perform .kept .1 .1 .1 .1 .1 .1 .1 .1 .1 .1 .0)
     (λ c. at-perform c .perform .kept .1 .1 .1 .1 .1 .1 .1 .1 .1 .1 .1 .0)
+    (λ c. at-perform c .perform .kept .1 .1 .1 .1 .1 .1 .1 .1 .1 .1 .1 .1 .0)
     returns-4
     (λ c. refl)
     (λ c. refl)

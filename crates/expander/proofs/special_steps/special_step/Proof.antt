@@ -2,7 +2,7 @@ use Rattle.rules.proofs.Base.{refl, needs}
 use Rattle.rules.specs.Answers.{unclosedQuote, unclosedComment, faultAnswer}
 use Rattle.rules.specs.State.{withSource, taking}
 use Rattle.expander.specs.Events.{NameFound, SpecialWithin, SpecialIs}
-use Rattle.expander.specs.Machine.{Memory, textAt, pendingAt, stackAt, callsAt, definitionsAt, sinksAt, wrapAt, errorsAt}
+use Rattle.expander.specs.Machine.{Memory, inputAt, pendingAt, stackAt, callsAt, definitionsAt, sinksAt, wrapAt, errorsAt}
 use Rattle.expander.proofs.PlainLaws.{special-is, special-within, one-taken, taken-valid, taken-open}
 use Rattle.expander.proofs.StepLaws.{lends, some-calls}
 use Rattle.expander.proofs.SteppedLaws.{stepped-refused, refines-as}
@@ -11,10 +11,10 @@ use Rattle.expander.proofs.special_steps.special_step.Tie as tie
 
 -- ways back
 abbrev start-slice-known9 : tie.After-slice-known9 → tie.Start
-start-slice-known9 c = c .before .before .before .before .before .before .before .before .before .before .before .before .before
+start-slice-known9 c = c .before .before .before .before .before .before .before .before .before .before .before .before .before .before
 
 abbrev start-with-source : tie.After-with-source → tie.Start
-start-with-source c = c .before .before .before .before .before .before .before .before .before .before .before .before .before .before .before .before .before .before .before .before .before .before .before .before .before .before .before
+start-with-source c = c .before .before .before .before .before .before .before .before .before .before .before .before .before .before .before .before .before .before .before .before .before .before .before .before .before .before .before .before
 
 abbrev to-e : tie.After-bare-arg9 → tie.After-e
 to-e c = c .before .before .before .before .before .before .before .before .before .before
@@ -26,7 +26,7 @@ to-enum-told4 c = c .before .before .before .before .before .before .before .bef
 abbrev lent : tie.Start → Memory → Memory
 lent c b =
     let a = c .args in
-    textAt (a .text .now)
+    inputAt (a .text .now) (a .set .now)
     (pendingAt (a .pending .now)
     (callsAt (a .calls .now) (a .ends .now) (a .stack .now)
     (definitionsAt (a .definitions .now) (a .table-ends .now)
@@ -58,7 +58,7 @@ at-bare c = c .before .before .before .before .before .before .before .before .b
 
 returns : tie.Need-returns
 unfolding SpecialIs SpecialWithin faultAnswer taking withSource NameFound
-returns c = λ a s b r h. refines-as (special-is s (c .before .before .before .before .before .before .before .before .before .before .enum-told .given .1) h) (c .before .before .before .before .at-end .ensures a s (textAt _ (callsAt _ _ _ (definitionsAt _ _ (errorsAt _ b)))) r)
+returns c = λ a s b r h. refines-as (special-is s (c .before .before .before .before .before .before .before .before .before .before .enum-told .given .1) h) (c .before .before .before .before .at-end .ensures a s (inputAt _ _ (callsAt _ _ _ (definitionsAt _ _ (errorsAt _ b)))) r)
 
 returns-2 : tie.Need-returns-2
 unfolding SpecialIs SpecialWithin faultAnswer taking withSource NameFound
@@ -106,8 +106,7 @@ special-step-spec =
     returns
     returns-2
     returns-3
-    (λ c. at-close c .close .kept .1 .0)
-    (λ c. at-close c .close .kept .1 .1 .1 .1 .1 .0)
+    (λ c. at-close c .close .kept .1 .1 .0)
     (λ c. at-close c .close .kept .1 .1 .1 .1 .1 .1 .0)
     (λ c. at-close c .close .kept .1 .1 .1 .1 .1 .1 .1 .0)
     (λ c. at-close c .close .kept .1 .1 .1 .1 .1 .1 .1 .1 .0)
@@ -115,9 +114,9 @@ special-step-spec =
     (λ c. at-close c .close .kept .1 .1 .1 .1 .1 .1 .1 .1 .1 .1 .0)
     (λ c. at-close c .close .kept .1 .1 .1 .1 .1 .1 .1 .1 .1 .1 .1 .0)
     (λ c. at-close c .close .kept .1 .1 .1 .1 .1 .1 .1 .1 .1 .1 .1 .1 .0)
+    (λ c. at-close c .close .kept .1 .1 .1 .1 .1 .1 .1 .1 .1 .1 .1 .1 .1 .0)
     returns-4
-    (λ c. at-bare c .bare .kept .1 .0)
-    (λ c. at-bare c .bare .kept .1 .1 .1 .1 .0)
+    (λ c. at-bare c .bare .kept .1 .1 .0)
     (λ c. at-bare c .bare .kept .1 .1 .1 .1 .1 .0)
     (λ c. at-bare c .bare .kept .1 .1 .1 .1 .1 .1 .0)
     (λ c. at-bare c .bare .kept .1 .1 .1 .1 .1 .1 .1 .0)
@@ -125,4 +124,5 @@ special-step-spec =
     (λ c. at-bare c .bare .kept .1 .1 .1 .1 .1 .1 .1 .1 .1 .0)
     (λ c. at-bare c .bare .kept .1 .1 .1 .1 .1 .1 .1 .1 .1 .1 .0)
     (λ c. at-bare c .bare .kept .1 .1 .1 .1 .1 .1 .1 .1 .1 .1 .1 .0)
+    (λ c. at-bare c .bare .kept .1 .1 .1 .1 .1 .1 .1 .1 .1 .1 .1 .1 .0)
     returns-5)

@@ -5,7 +5,7 @@ use crate::bytes::{begins_name, is_blank, is_in_name};
 use crate::hints::{Gap, Kind};
 use crate::prose;
 use crate::suspects::{
-    changes_marks, is_everyday, is_foreign, is_predefined, needs_call, takes_call,
+    changes_marks, includes, is_everyday, is_foreign, is_predefined, needs_call, takes_call,
 };
 
 impl<'t> Scan<'t> {
@@ -65,6 +65,7 @@ impl<'t> Scan<'t> {
             || counted
             || prose::is_reading(self.text, place)
             || prose::begins_arguments(self.text, behind)
+            || includes(name) && prose::is_file_name(self.text, behind)
     }
 
     /// A name in an argument of a macro that takes whole numbers.

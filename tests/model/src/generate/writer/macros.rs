@@ -1,9 +1,10 @@
-//! Calls of the 24, with arguments that mostly suit them.
+//! Calls of the predefined macros, with arguments that mostly suit them.
 
 use super::Writer;
 use crate::generate::expressions::expression;
+use crate::generate::sets;
 use crate::generate::words::{self, number, BAD_NUMBERS};
-use crate::macros::Predefined;
+use crate::predefined::Predefined;
 
 impl Writer<'_> {
     pub(super) fn predefined_call(&mut self, depth: usize) -> Vec<u8> {
@@ -18,6 +19,10 @@ impl Writer<'_> {
             Predefined::Changequote => self.change_quote(),
             Predefined::Define | Predefined::Pushdef => self.definition(depth),
             Predefined::M4exit if self.random.chance(90) => words::plain(self.random),
+            // without items this is refused
+            Predefined::Include if self.items.is_empty() && self.random.chance(90) => {
+                words::plain(self.random)
+            }
             Predefined::Dnl => self.dropped_line(),
             _ => {
                 let mut arguments = self.suited(which, depth);
@@ -44,6 +49,7 @@ impl Writer<'_> {
             Predefined::Divnum => Vec::new(),
             Predefined::Eval => self.eval_arguments(),
             Predefined::Substr => self.substr_arguments(depth),
+            Predefined::Include | Predefined::Sinclude => vec![self.item_name()],
             Predefined::Index => self.index_arguments(depth),
             Predefined::Defn => self.some_names(true),
             Predefined::Popdef | Predefined::Undefine => self.some_names(false),
@@ -93,6 +99,17 @@ impl Writer<'_> {
             names.push(self.quoted(&name));
         }
         names
+    }
+
+    /// The name of an item, or of none.
+    fn item_name(&mut self) -> Vec<u8> {
+        let name = match self.items.len() {
+            count if count > 0 && !self.random.chance(self.wild) => {
+                self.items[self.random.below(count)].clone()
+            }
+            _ => sets::name(self.random),
+        };
+        self.quoted(&name)
     }
 
     fn eval_arguments(&mut self) -> Vec<Vec<u8>> {

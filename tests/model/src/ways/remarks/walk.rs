@@ -4,7 +4,7 @@
 use super::open::{contains, Open};
 use super::{Remark, Remarks};
 use crate::ahead::Ahead;
-use crate::macros::Predefined;
+use crate::predefined::Predefined;
 use crate::state::State;
 use crate::step::{step, Progress};
 use crate::Report;
@@ -24,10 +24,10 @@ pub struct Walk<'w, 't> {
 }
 
 impl<'w, 't> Walk<'w, 't> {
-    pub fn at_start(remarks: &'w mut Remarks, text: &'t [u8]) -> Walk<'w, 't> {
+    pub fn at_start(remarks: &'w mut Remarks, state: State<'t>) -> Walk<'w, 't> {
         Walk {
             remarks,
-            state: State::at_start(text),
+            state,
             marks_by: Remark::MarksOfStart,
             wrapped: false,
             behind: false,
@@ -146,7 +146,8 @@ impl<'w, 't> Walk<'w, 't> {
     /// Looks at the step that was refused, if one was.
     pub fn refused(&mut self, report: &Report) {
         match (report.number, report.detail, Open::at_front(&self.state)) {
-            (0..=2, ..) => {}
+            // no step was refused, or none was due yet
+            (0..=2 | 14, ..) => {}
             (number, detail, Some(open)) => self.note_refused([number, detail], &open),
             (5, 2, None) => {
                 self.verdict = Err("no comment is open, and one is refused".to_string())

@@ -1,0 +1,2 @@
+one
+include(`leaves.m4')two

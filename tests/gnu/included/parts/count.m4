@@ -1,0 +1,1 @@
+n ifelse(n, 0, `end', `define(`n', decr(n))include(`count.m4')')

@@ -1,0 +1,3 @@
+three
+errprint(`no wind
+')m4exit(7)four

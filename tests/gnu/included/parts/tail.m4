@@ -1,0 +1,3 @@
+tail=divnum
+errprint(`tail
+')dnl
