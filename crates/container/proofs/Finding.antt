@@ -2,7 +2,8 @@
 use Rattle.rules.proofs.Base.{_≤_, _+_, ℕ, _-_, _<_, suc, zero, _/_, _∙_, refl, sym, ap, _≡_, ap₂, true, Bool, false, some, none, [], _++_, _∷_, add-one, arith, length, drop, take, getD, length-drop, drop-of-length-le, take-suc, take-all, take-append-seam, getD-take}
 use Rattle.rules.specs.Bytes.{Bytes, sameBytes}
 use Rattle.rules.specs.Sets.{ItemRead, itemRead}
-use Rattle.rules.proofs.Sets.{same-self, not-same, item-short}
+use Rattle.rules.proofs.SameBytes.{same-self, not-same}
+use Rattle.rules.proofs.Sets.{item-short}
 use Rattle.container.specs.declared.Found.the-variants.{Nothing, At}
 use Rattle.container.specs.declared.ItemAt.the-variants.{Bad}
 use Rattle.container.specs.Items.{itemAt, joinedAt, namedFrom, firstNamed}

@@ -31,7 +31,8 @@ use Rattle.expander.specs.Source.{SourceIn}
 use Rattle.expander.specs.Table.{rows, meaningFor, textEnd, TableIn, Finds}
 use Rattle.expander.proofs.Parts.{part-all, empty-of}
 use Rattle.expander.proofs.CallsLaws.{first-in, closed-arguments, closed-name}
-use Rattle.expander.proofs.Changing.{same-is, newest-name}
+use Rattle.rules.proofs.SameBytes.{same-is}
+use Rattle.expander.proofs.Changing.{newest-name}
 use Rattle.expander.proofs.MacroLaws.{refines-gone}
 use Rattle.expander.proofs.Packing.{count-is, string-fits}
 use Rattle.expander.proofs.Parted.{with-source, with-calls}

@@ -2,6 +2,7 @@
 use Rattle.rules.proofs.Base.{_≤_, _+_, ℕ, _<_, suc, zero, _*_, _∙_, refl, sym, ap, _≡_, subst, true, Bool, false, some, none, Option, List, [], _++_, _∷_, append-assoc, arith, eqb, length, drop, take, getD, length-append, set, eqb-true}
 use Rattle.rules.specs.Bytes.{Bytes, sameBytes}
 use Rattle.rules.specs.Streams.{joined}
+use Rattle.rules.proofs.SameBytes.{same-is}
 use Rattle.rules.specs.Table.{Meaning, text, predefined, Definition, Table, ownLost, newestPlace, pushed, defined, popped, meaningCost, tableCost}
 use Rattle.expander.specs.Limits.{mostLent, tableEndsLength}
 use Rattle.expander.specs.Packed.{Packs}
@@ -107,17 +108,6 @@ cost-least : (ds : List Definition) → Plain ds → length ds ≤ tableCost ds
 unfolding tableCost Plain
 cost-least [] p = omega arith
 cost-least (d ∷ ds) p = omega (arith, cost-least ds (p .2), p .0)
-
-pub same-is : (a b : Bytes) → sameBytes a b ≡ true → a ≡ b
-unfolding sameBytes
-same-is [] [] e = refl
-same-is [] (y ∷ ys) e = absurd (let z : _≡_ {A = ℕ} 0 1 = cc in omega arith)
-same-is (x ∷ xs) [] e = absurd (let z : _≡_ {A = ℕ} 0 1 = cc in omega arith)
-same-is (x ∷ xs) (y ∷ ys) e = go (eqb x y) refl e (same-is xs ys)
-  where
-    go : (t : Bool) → eqb x y ≡ t → elim t [ true ↦ sameBytes xs ys | false ↦ false ] ≡ true → (sameBytes xs ys ≡ true → xs ≡ ys) → _≡_ {A = List ℕ} (x ∷ xs) (y ∷ ys)
-    go true f e g = rw (eqb-true x y f, g e)
-    go false f e g = absurd (let z : _≡_ {A = ℕ} 0 1 = cc in omega arith)
 
 pub newest-name : (w : Bytes) (ds : List Definition) (i : ℕ) → newestPlace w ds ≡ some i → w ≡ (getD ds i blank) .name
 unfolding newestPlace

@@ -14,4 +14,5 @@ pub mod Contract
 pub mod Empty
 pub mod Newlines
 pub mod Lines
+pub mod SameBytes
 pub mod Sets
