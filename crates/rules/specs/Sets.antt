@@ -56,7 +56,7 @@ unfoldable pub andItem : Item → Option (List Item) → Option (List Item)
 andItem i none = none
 andItem i (some is) = some (i ∷ is)
 
--- the items up to the end, at most `most` of them
+-- the items up to the end, fewer than `most` of them
 unfoldable pub itemsFrom : ℕ → Bytes → Option (List Item)
 itemsFrom zero w = none
 itemsFrom (suc most) w =
@@ -65,7 +65,7 @@ itemsFrom (suc most) w =
       | false ↦ elim (itemRead w) [ none ↦ none | some r ↦ andItem (r .item) (itemsFrom most (r .rest)) ]
     ]
 
--- the items of a set, which has a byte for each at least; none: 02 "14 bad or overlong set"
+-- the items of a set, which has a byte for each at least, and one for its end; none: 02 "14 bad or overlong set"
 unfoldable pub setItems : Bytes → Option (List Item)
 setItems w = elim (leb (length w) longestSet) [ true ↦ itemsFrom (length w) w | false ↦ none ]
 
