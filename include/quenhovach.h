@@ -4,8 +4,8 @@
  * built by `rt staticlib quenhovach` as target/staticlib/libquenhovach.a, for x86-64 Linux, once their proofs are checked; ./install puts that in place,
  * and a shared object made of it. Of C's library they need memcpy and memset.
  *
- * A run ends on every text, every set of texts to include, every lent length and every budget, in one of sixteen answers. Two of them
- * finish it: "done" and "exit". The fourteen others are refusals, and a refusal gives no text at all: there is no shortened output.
+ * A run ends on every text, every set of texts to include, every lent length and every budget, in one of seventeen answers. Two of them
+ * finish it: "done" and "exit". The fifteen others are refusals, and a refusal gives no text at all: there is no shortened output.
  */
 #ifndef QUENHOVACH_H
 #define QUENHOVACH_H
@@ -18,7 +18,7 @@ extern "C" {
 #endif
 
 /* The version of this header; rust/Cargo.toml has the same. */
-#define QUENHOVACH_VERSION "0.2.0"
+#define QUENHOVACH_VERSION "0.3.0"
 
 /* The greatest length, in bytes, of the text and of each buffer. */
 #define QUENHOVACH_MAX_LENGTH 65536
@@ -28,22 +28,23 @@ extern "C" {
 
 /* The answers, by their numbers. The detail is 0 where none is named. */
 enum {
-    QUENHOVACH_DONE = 0,       /* the text is used up */
-    QUENHOVACH_EXIT = 1,       /* m4exit; the detail is its number, 0 to 255 */
-    QUENHOVACH_LEND = 2,       /* the text or a buffer is longer than QUENHOVACH_MAX_LENGTH */
-    QUENHOVACH_SPENT = 3,      /* a step is due, and as many as the budget says are completed */
-    QUENHOVACH_ROOM = 4,       /* after the step a buffer would hold more than its length; the detail is the buffer, 1 to 7 */
-    QUENHOVACH_UNCLOSED = 5,   /* the text ends in a quote, a comment or a call; the detail says in which */
-    QUENHOVACH_NAME = 6,       /* define or pushdef of what is not a name */
-    QUENHOVACH_NUMBER = 7,     /* an argument or a result that is no number, or outside its range */
-    QUENHOVACH_EXPRESSION = 8, /* eval cannot read its expression */
-    QUENHOVACH_DIVISOR = 9,    /* in eval: a zero divisor, or a shift count outside 0 to 31 */
-    QUENHOVACH_MARK = 10,      /* a bad quote or comment mark */
-    QUENHOVACH_NO_TEXT = 11,   /* defn of a predefined macro whose own meaning is in force */
-    QUENHOVACH_GONE = 12,      /* a call closes, and its name has no definition any more */
-    QUENHOVACH_DEEP = 13,      /* a 65th open call, or a 257th argument over all open calls */
-    QUENHOVACH_BAD_SET = 14,   /* the set is bad, or longer than QUENHOVACH_MAX_SET_LENGTH; judged whole, right after "lend" */
-    QUENHOVACH_NO_ITEM = 15    /* include of a name that no item of the set has */
+    QUENHOVACH_DONE = 0,           /* the text is used up */
+    QUENHOVACH_EXIT = 1,           /* m4exit; the detail is its number, 0 to 255 */
+    QUENHOVACH_LEND = 2,           /* the text or a buffer is longer than QUENHOVACH_MAX_LENGTH */
+    QUENHOVACH_SPENT = 3,          /* a step is due, and as many as the budget says are completed */
+    QUENHOVACH_ROOM = 4,           /* after the step a buffer would hold more than its length; the detail is the buffer, 1 to 7 */
+    QUENHOVACH_UNCLOSED = 5,       /* the text ends in a quote, a comment or a call; the detail says in which */
+    QUENHOVACH_NAME = 6,           /* define, pushdef or copydef of what is not a name */
+    QUENHOVACH_NUMBER = 7,         /* an argument or a result that is no number, or outside its range */
+    QUENHOVACH_EXPRESSION = 8,     /* eval cannot read its expression */
+    QUENHOVACH_DIVISOR = 9,        /* in eval: a zero divisor, or a shift count outside 0 to 31 */
+    QUENHOVACH_MARK = 10,          /* a bad quote or comment mark */
+    QUENHOVACH_NO_TEXT = 11,       /* defn of a name whose meaning is a predefined macro's: its own name, or a copy */
+    QUENHOVACH_GONE = 12,          /* a call closes, and its name has no definition any more */
+    QUENHOVACH_DEEP = 13,          /* a 65th open call, or a 257th argument over all open calls */
+    QUENHOVACH_BAD_SET = 14,       /* the set is bad, or longer than QUENHOVACH_MAX_SET_LENGTH; judged whole, right after "lend" */
+    QUENHOVACH_NO_ITEM = 15,       /* include of a name that no item of the set has */
+    QUENHOVACH_NO_DEFINITION = 16  /* copydef of a name that has no definition */
 };
 
 /* The buffers, by their numbers: the detail of "room". */
@@ -93,7 +94,7 @@ enum {
  *
  *   pending      1  bytes pushed back and not yet read
  *   calls        2  names and arguments collected of all open calls
- *   definitions  3  name and text of every live definition that the text made
+ *   definitions  3  name and text of every live definition that the text made; of a copy of a predefined macro the name alone
  *   streams      4  the bytes in streams 1 to 9
  *   wrap         5  wrap text that waits
  *   errors       6  the error text (errprint)

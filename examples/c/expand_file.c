@@ -39,16 +39,17 @@ static const char *const REFUSALS[] = {
     [QUENHOVACH_SPENT] = "the step budget is used up",
     [QUENHOVACH_ROOM] = "no room for",
     [QUENHOVACH_UNCLOSED] = "the template ends inside",
-    [QUENHOVACH_NAME] = "define or pushdef of what is not a name",
+    [QUENHOVACH_NAME] = "define, pushdef or copydef of what is not a name",
     [QUENHOVACH_NUMBER] = "not a number, or a number outside its range",
     [QUENHOVACH_EXPRESSION] = "eval cannot read its expression",
     [QUENHOVACH_DIVISOR] = "eval: division by zero, or a shift by less than 0 or more than 31",
     [QUENHOVACH_MARK] = "a bad quote or comment mark",
-    [QUENHOVACH_NO_TEXT] = "defn of a predefined macro",
+    [QUENHOVACH_NO_TEXT] = "defn of a predefined macro, or of a copy of one",
     [QUENHOVACH_GONE] = "a call closes, and its name is not defined any more",
     [QUENHOVACH_DEEP] = "more than 64 open calls or 256 arguments",
     [QUENHOVACH_BAD_SET] = "a bad set",
     [QUENHOVACH_NO_ITEM] = "include of a file that is not named on the command line",
+    [QUENHOVACH_NO_DEFINITION] = "copydef of a name that has no definition",
 };
 
 static const char *const BUFFERS[] = {

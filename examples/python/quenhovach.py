@@ -43,16 +43,17 @@ class Answer(IntEnum):
     SPENT = 3  # a step is due, and as many as the budget says are completed
     ROOM = 4  # after the step a buffer would hold more than its length; the detail is a Buffer
     UNCLOSED = 5  # the text ends in a quote, a comment or a call; the detail is an Unclosed
-    NAME = 6  # define or pushdef of what is not a name
+    NAME = 6  # define, pushdef or copydef of what is not a name
     NUMBER = 7  # an argument or a result that is no number, or outside its range
     EXPRESSION = 8  # eval can't read its expression
     DIVISOR = 9  # in eval: a zero divisor, or a shift count outside 0 to 31
     MARK = 10  # a bad quote or comment mark
-    NO_TEXT = 11  # defn of a predefined macro whose own meaning is in force
+    NO_TEXT = 11  # defn of a name whose meaning is a predefined macro's: its own name, or a copy
     GONE = 12  # a call closes, and its name has no definition any more
     DEEP = 13  # a 65th open call, or a 257th argument over all open calls
     BAD_SET = 14  # the set is bad, or longer than MAX_SET_LENGTH
     NO_ITEM = 15  # include of a name that no item of the set has
+    NO_DEFINITION = 16  # copydef of a name that has no definition
 
 
 class Buffer(IntEnum):

@@ -1,4 +1,4 @@
-//! The 16 ways in which a run ends, with their numbers.
+//! The 17 ways in which a run ends, with their numbers.
 
 use core::fmt;
 
@@ -28,7 +28,7 @@ pub enum Answer {
     Room(Buffer),
     /// 5: the text ends in a quote, a comment or a call.
     Unclosed(Opened),
-    /// 6: `define` or `pushdef` of what is not a name.
+    /// 6: `define`, `pushdef` or `copydef` of what is not a name.
     Name,
     /// 7: not a number, or not one that the macro takes.
     Number,
@@ -38,7 +38,7 @@ pub enum Answer {
     Divisor,
     /// 10: a bad quote or comment mark.
     Mark,
-    /// 11: `defn` of a predefined meaning in force.
+    /// 11: `defn` of a name whose meaning is a predefined macro's: its own name, or a copy.
     NoText,
     /// 12: a call closed and its name had no definition.
     Gone,
@@ -48,6 +48,8 @@ pub enum Answer {
     BadSet,
     /// 15: `include` of a name that no item of the set has.
     NoItem,
+    /// 16: `copydef` of a name that has no definition.
+    NoDefinition,
 }
 
 /// A lent buffer, by its number.
@@ -81,7 +83,7 @@ pub enum Opened {
 }
 
 impl Answer {
-    /// The answer's number, 0 to 15.
+    /// The answer's number, 0 to 16.
     pub fn number(self) -> u32 {
         match self {
             Answer::Done => 0,
@@ -100,6 +102,7 @@ impl Answer {
             Answer::Deep => 13,
             Answer::BadSet => 14,
             Answer::NoItem => 15,
+            Answer::NoDefinition => 16,
         }
     }
 
@@ -139,6 +142,7 @@ impl Answer {
             (13, 0) => Answer::Deep,
             (14, 0) => Answer::BadSet,
             (15, 0) => Answer::NoItem,
+            (16, 0) => Answer::NoDefinition,
             _ => return None,
         })
     }
@@ -162,6 +166,7 @@ impl Answer {
             Answer::Deep => "deep",
             Answer::BadSet => "bad set",
             Answer::NoItem => "no item",
+            Answer::NoDefinition => "no definition",
         }
     }
 
@@ -223,11 +228,12 @@ impl fmt::Display for Answer {
             Answer::Expression => f.write_str("eval can't read its expression"),
             Answer::Divisor => f.write_str("a zero divisor, or a shift count outside 0 to 31"),
             Answer::Mark => f.write_str("a bad quote or comment mark"),
-            Answer::NoText => f.write_str("defn of a predefined macro"),
+            Answer::NoText => f.write_str("defn of a predefined macro, or of a copy of one"),
             Answer::Gone => f.write_str("a call closes and its name has no definition"),
             Answer::Deep => f.write_str("too many open calls or arguments"),
             Answer::BadSet => f.write_str("the set is bad, or longer than 1,048,576 bytes"),
             Answer::NoItem => f.write_str("include of a name that is not in the set"),
+            Answer::NoDefinition => f.write_str("copydef of a name that has no definition"),
         }
     }
 }
@@ -261,7 +267,7 @@ mod tests {
     use super::*;
 
     /// Number and largest detail of each answer, as the table of answers has them.
-    const TABLE: [(u32, core::ops::RangeInclusive<u32>); 16] = [
+    const TABLE: [(u32, core::ops::RangeInclusive<u32>); 17] = [
         (0, 0..=0),
         (1, 0..=255),
         (2, 0..=0),
@@ -278,6 +284,7 @@ mod tests {
         (13, 0..=0),
         (14, 0..=0),
         (15, 0..=0),
+        (16, 0..=0),
     ];
 
     #[test]
@@ -317,6 +324,7 @@ mod tests {
             "deep",
             "bad set",
             "no item",
+            "no definition",
         ];
         assert_eq!(names.len(), TABLE.len());
         for (number, name) in (0..).zip(names) {

@@ -12,7 +12,7 @@
 //!
 //! | | needs | room | |
 //! |---|---|---|---|
-//! | [`expand`] | `core` alone | seven slices | a [`Report`] with one of 16 [`Answer`]s |
+//! | [`expand`] | `core` alone | seven slices | a [`Report`] with one of 17 [`Answer`]s |
 //! | [`Expander`] | feature `alloc` | its own, kept from call to call | text in its buffers, or a [`Failure`] |
 //! | [`expand_to_vec`] | feature `alloc` | as much as may be lent, made anew | a [`Sheet`] of vectors, or a [`Failure`] |
 //! | [`Set`] | feature `alloc` | a vector | the texts that a template may include, for [`Expander::with_set`] and [`expand`] |

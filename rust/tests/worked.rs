@@ -90,6 +90,41 @@ fn every_answer() {
     assert_eq!(answer(&"len(".repeat(65)), Answer::Deep);
     assert_eq!(run_with(b"x", b"", AMPLE, 9).report.answer, Answer::BadSet);
     assert_eq!(answer("include(x)"), Answer::NoItem);
+    assert_eq!(answer("copydef(`x',`y')"), Answer::NoDefinition);
+}
+
+#[test]
+fn copies() {
+    let own_name = "copydef(`define',`rig')rig(`gain',`7')gain rig";
+    assert_eq!(output(own_name), "7 rig");
+    assert_eq!(output("copydef(`len',`l')l l(ab)"), "l 2");
+    assert_eq!(output("copydef(`divnum',`len')len"), "0");
+    assert_eq!(
+        output("copydef(`len',`l')undefine(`len')l(ab) len(ab)"),
+        "2 len(ab)"
+    );
+    let later = "define(`f',``$0' x')copydef(`f',`g')define(`f',`y')g f";
+    assert_eq!(output(later), "g x y");
+    assert_eq!(answer("copydef(`x',`9')"), Answer::Name);
+    assert_eq!(answer("copydef(`len')"), Answer::Name);
+    assert_eq!(answer("copydef(,`a')"), Answer::NoDefinition);
+    assert_eq!(answer("copydef(`len',`l')defn(`l')"), Answer::NoText);
+}
+
+/// A copy of a predefined macro takes its name, and a copy of a text name and text.
+#[test]
+fn the_room_of_copies() {
+    for (text, needed, refused) in [
+        ("copydef(`len',`l')", 1, [4, 3, 4, 17, 0, 0]),
+        ("define(`f',`xyz')copydef(`f',`gg')", 9, [4, 3, 9, 33, 0, 0]),
+    ] {
+        let lent = |length| [9, 20, length, 0, 0, 0, 0];
+        let done = run(text.as_bytes(), lent(needed), BUDGET);
+        assert_eq!(done.report.answer, Answer::Done, "{text}");
+        let less = run(text.as_bytes(), lent(needed - 1), BUDGET);
+        assert_eq!(less.report.numbers(), refused, "{text}");
+        assert!(done.leaves_the_rest_alone() && less.leaves_the_rest_alone());
+    }
 }
 
 #[test]

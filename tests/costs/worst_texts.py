@@ -14,7 +14,7 @@ Worst = collections.namedtuple("Worst", "without whole grows")
 
 END = 1  # the step that ends a run
 MACROS = ("changecom changequote decr define defn divert divnum dnl errprint eval ifdef ifelse incr index len m4exit m4wrap popdef pushdef shift substr translit "
-          "undefine undivert include sinclude").split()
+          "undefine undivert include sinclude copydef").split()
 MOST_ARGUMENTS = 256
 LENT = 65536  # bytes of each buffer
 MANY = 64  # arguments, where each is long beside what it costs for itself
@@ -248,6 +248,30 @@ def sinclude(n):
     return closed(opened(b"sinclude", b"a" * n), grows=False)
 
 
+def copydef_shifts(n):
+    """The oldest definition gets the text of the newest, and all between move, with that text."""
+    text = b"b" * (n // 4)
+    before = joined(made(b"define", b"a", b""), words(n // 2), made(b"define", b"c", text))
+    return closed(joined(before, opened(b"copydef", b"c", b"a")), Piece(b"a", 2), output=text)
+
+
+def copydef_appends(n):
+    """Both texts are in buffer 3 afterwards."""
+    text = b"b" * (n // 2)
+    return closed(joined(made(b"define", b"a", text), opened(b"copydef", b"a", b"c")), Piece(b"c", 2), output=text)
+
+
+def copydef_drops(n):
+    """The oldest definition loses a long text for a predefined meaning, and all others move. The call of it then takes four steps."""
+    before = joined(made(b"define", b"a", b"b" * (n // 2)), words(n // 2))
+    return closed(joined(before, opened(b"copydef", b"len", b"a")), Piece(b"a(xyz)", 4), output=b"3")
+
+
+def copydef_searches(n):
+    """The oldest definition is copied onto a name that has none."""
+    return closed(joined(words(n), opened(b"copydef", b"name00000", b"name99999")), Piece(b"name99999", 2), output=b"ab")
+
+
 # not of one macro
 
 
@@ -318,6 +342,10 @@ WORST = {
     "undivert, all nine": undivert_all,
     "include, the empty set": include,
     "sinclude, the empty set": sinclude,
+    "copydef, all others move": copydef_shifts,
+    "copydef, a new long text": copydef_appends,
+    "copydef, a text goes": copydef_drops,
+    "copydef, two searches": copydef_searches,
     "the end, nine streams": the_end,
     "a text of references": text_of_references,
     "a text of 64 arguments": text_of_lists,

@@ -28,6 +28,7 @@ ENDS = {
     "frozen/spring": (0, 17538, 1263),
     "families/tripod": (0, 548, 577),
     "families/trailer": (0, 885, 478),
+    "riggers/derrick": (0, 335, 1277),
 }
 # The folder of what a template includes.
 INCLUDED = {"families/tripod": "families/common", "families/trailer": "families/common"}
@@ -99,7 +100,7 @@ def room_never_shapes(folder, name):
 
 
 def by_gnu_m4(name):
-    """With -G it looks in its own folder alone for what is included, and without it by -I, too."""
+    """With -G it looks in its own folder alone for what is included, and without it by -I, too. It has no copydef: a template that copies makes one first where there is none."""
     folder = os.path.join(EXAMPLES, INCLUDED.get(name, ""))
     template = os.path.join(EXAMPLES, name + ".m4")
     for how, options, place in (("-G", ["-G"], folder), ("-I", ["-I", folder], EXAMPLES)):

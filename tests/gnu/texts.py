@@ -1,11 +1,12 @@
 """Random texts on which document 01 and GNU m4 have one rule: texts.text(seed) gives the bytes of one, the same for the same seed.
 
 docs/GNU.md lists the rules that differ; the texts keep clear of them by the way they are made:
-- No name that GNU m4 has beside the 26 is written, nor include or sinclude with a parenthesis: tests/gnu/includes.py cuts the texts in pieces for that. A text covers a predefined name only where nothing in between calls it. In calls more than an empty
+- No name that GNU m4 has beside ours is written, nor include or sinclude with a parenthesis: tests/gnu/includes.py cuts the texts in pieces for that. A text covers a predefined name only where nothing in between calls it. In calls more than an empty
   quote stands between a predefined name and a parenthesis that is none of its own: the quote would be gone when the text is read again.
 - The first token of every argument, quoted text and defined text is solid: a word, number, sign, quote, or a call whose result starts
   with such a token. So no call that gives nothing, or a blank first, stands in front of an argument's blanks.
 - A name is defined, pushed or removed outside of calls; inside of them only names that are called nowhere inside.
+- GNU m4 has no copydef. The first line of every text makes one of its defn where there is none; it has the usual quote marks in its text, so copies are made only where these are in force. What is copied has a definition.
 - Marks change between the parts of a text. What has quotes or comments in it is called only in the part that defined it.
 - Every comment is written with its end mark: at the end of a text GNU m4 asks for it, whatever it is.
 - Numbers are written as 01 has them, divisors are not 0, shift counts are 0 to 31. One m4wrap waits at a time. No $1 has a digit behind it.
@@ -19,6 +20,10 @@ UNOPENED = "decr define defn errprint eval ifdef ifelse include incr index len m
 SIGNS = ["+", "-", "*", "=", "!", "?", ".", ":", "<", ">", "/", "^", "&", "~", "\\", "\xe9", "\xc3\xa4", "'s"]
 BLANKS = [" ", "  ", "\t", "\n", " \n "]
 QUOTES = [("`", "'"), ("`", "'"), ("[", "]"), ("{", "}"), ("[[", "]]"), ("{|", "|}"), ("`[", "]'"), ("+{+{+", "+}+}+"), ('"', '"'), ("\xab", "\xbb")]
+# makes a copydef where there is none
+COPYDEF = "ifdef(`copydef',`',`define(`copydef',`define(`$2',defn(`$1'))')')dnl\n"
+# predefined macros that are called by their copies, too
+COPIED = "decr define defn divert divnum dnl errprint eval ifdef ifelse incr index len m4exit m4wrap popdef pushdef shift substr translit undefine undivert".split()
 COMMENTS = [("#", "\n"), ("#", "\n"), ("//", "\n"), (";;", ";"), ("/*", "*/"), ("#|", "|#"), None]
 BINARY = ["*", "+", "-", "<", "<=", ">", ">=", "==", "!=", "&", "^", "|", "&&", "||", "/", "%"]
 LETTERS = "abcdefghijklmnopqrstuvwxyz"
@@ -26,13 +31,14 @@ RANKS = 3
 
 
 class Writer:
-    """Writes one text; `marks` and `comment` are those in force, `names` the macros that may be called, by rank."""
+    """Writes one text; `marks` and `comment` are those in force, `names` the macros that may be called, by rank, `copies` those of predefined macros."""
 
     def __init__(self, seed):
         self.random = random.Random("gnu %d" % seed)
         self.marks, self.comment = QUOTES[0], COMMENTS[0]
         self.names = {}
         self.lasting = {}
+        self.copies = {}
         self.count = 0
 
     def pick(self, items):
@@ -98,7 +104,7 @@ class Writer:
             more = ",%d" % self.random.randint(2, 36)
             if self.chance(60):
                 more += ",%d" % self.upto(12)
-        return "eval(" + self.expression(3) + more + ")"
+        return self.by("eval") + "(" + self.expression(3) + more + ")"
 
     def word(self):
         return self.pick(UNOPENED if self.chance(25) else WORDS)
@@ -111,24 +117,24 @@ class Writer:
         """A call whose result is a number."""
         kind = self.upto(4)
         if kind == 0:
-            return "len(" + self.pick([self.plain(), self.quote(self.plain() + " " + self.plain()), self.quote("")]) + ")"
+            return self.by("len") + "(" + self.pick([self.plain(), self.quote(self.plain() + " " + self.plain()), self.quote("")]) + ")"
         if kind == 1:
             word = self.plain()
             start = self.upto(len(word))
-            return "index(%s,%s)" % (word, self.quote(self.pick([word[start:start + 2], self.plain(), ""])))
+            return self.by("index") + "(%s,%s)" % (word, self.quote(self.pick([word[start:start + 2], self.plain(), ""])))
         if kind == 2:
-            return self.pick(["incr", "decr"]) + "(" + self.pick([self.number(), "len(%s)" % self.plain()]) + ")"
+            return self.by(self.pick(["incr", "decr"])) + "(" + self.pick([self.number(), "len(%s)" % self.plain()]) + ")"
         if kind == 3:
-            return "divnum"
+            return self.by("divnum")
         return self.evaluated()
 
     def cut(self):
         """A call that gives some bytes of a word, perhaps none."""
         word = self.quote(self.plain())
         if self.chance(50):
-            return "substr(%s,%d%s)" % (word, self.upto(8), self.pick(["", "," + str(self.upto(5))]))
+            return self.by("substr") + "(%s,%d%s)" % (word, self.upto(8), self.pick(["", "," + str(self.upto(5))]))
         taken = "".join(self.pick(LETTERS) for _ in range(self.upto(4)))
-        return "translit(%s,%s%s)" % (word, self.quote(taken), self.pick(["", "," + self.quote("".join(self.pick(LETTERS + "XYZ_") for _ in range(self.upto(4))))]))
+        return self.by("translit") + "(%s,%s%s)" % (word, self.quote(taken), self.pick(["", "," + self.quote("".join(self.pick(LETTERS + "XYZ_") for _ in range(self.upto(4))))]))
 
     # texts: `rank` bounds the macros that may be called, `depth` the nesting
 
@@ -179,22 +185,22 @@ class Writer:
         if kind == 0:
             return self.choice(rank, depth - 1)
         if kind == 1:
-            return "ifdef(%s,%s)" % (self.quote(self.pick(list(self.names) + ["nothing", "len", ""])), self.arguments(rank, depth - 1, 1 + self.upto(1)))
+            return self.by("ifdef") + "(%s,%s)" % (self.quote(self.pick(list(self.names) + ["nothing", "len", ""])), self.arguments(rank, depth - 1, 1 + self.upto(1)))
         if kind == 2:
-            return "shift(" + self.arguments(rank, depth - 1, self.upto(4)) + ")"
+            return self.by("shift") + "(" + self.arguments(rank, depth - 1, self.upto(4)) + ")"
         if kind == 3:
-            return "defn(%s)" % ",".join(self.quote(self.pick(self.own() + ["nothing"])) for _ in range(1 + self.upto(1)))
+            return self.by("defn") + "(%s)" % ",".join(self.quote(self.pick(self.own() + ["nothing"])) for _ in range(1 + self.upto(1)))
         if kind == 4:
-            return "define(%s,%s)" % (self.quote(self.pick(["held_a", "held_b"])), self.quoted(0, 1))
+            return self.by("define") + "(%s,%s)" % (self.quote(self.pick(["held_a", "held_b"])), self.quoted(0, 1))
         if kind == 5:
-            return "dnl " + self.pick(["", "a remark"]) + "\n"
+            return self.by("dnl") + " " + self.pick(["", "a remark"]) + "\n"
         return self.cut()
 
     def choice(self, rank, depth):
         some = [self.word(), self.quoted(rank, depth), self.measured(), self.quote("")]
         pair = lambda: self.pick(some) + "," + self.pick(some) + ","
         last = self.pick(["", "," + self.argument(rank, depth), "," + self.argument(rank, depth) + ",surplus"])
-        return "ifelse(" + "".join(pair() + self.quoted(rank, depth) + "," for _ in range(self.upto(2))) + pair() + self.quoted(rank, depth) + last + ")"
+        return self.by("ifelse") + "(" + "".join(pair() + self.quoted(rank, depth) + "," for _ in range(self.upto(2))) + pair() + self.quoted(rank, depth) + last + ")"
 
     def items(self, rank, depth, count):
         """What may stand behind a solid token; a sign keeps names apart."""
@@ -223,9 +229,9 @@ class Writer:
             if kind == 3 and self.known(rank):
                 return "%s(%s)" % (self.pick(self.known(rank)), self.pick(["$@", self.quote("$1"), self.quote("$2") + ",shift($@)", "a," + self.quote("$*")]))
             if kind == 4:
-                return "ifelse(%s,%s,%s,%s)" % (self.quote("$1"), self.word(), self.quote(self.word() + " $2"), self.quote("<$1>" if "<" not in "".join(self.marks) else "$1"))
+                return self.by("ifelse") + "(%s,%s,%s,%s)" % (self.quote("$1"), self.word(), self.quote(self.word() + " $2"), self.quote("<$1>" if "<" not in "".join(self.marks) else "$1"))
             if kind == 5:
-                return "divert(%d)%s$1\ndivert(0)" % (self.pick([1, 2, 5, 9, -1]), self.word() + " ")
+                return self.by("divert") + "(%d)%s$1\ndivert(0)" % (self.pick([1, 2, 5, 9, -1]), self.word() + " ")
             return self.item(rank, 1)
         if not self.nests():
             return self.flat()
@@ -239,9 +245,9 @@ class Writer:
         rank = self.upto(RANKS)
         mine = [name for name in self.own() if self.names[name] == rank]
         name = self.pick(mine) if mine and self.chance(60) else self.fresh("m")
-        text = self.pick(["define", "define", "pushdef"]) + "(" + self.quote(name) + "," + self.quote(self.body(rank)) + ")dnl\n"
+        text = self.by(self.pick(["define", "define", "pushdef"])) + "(" + self.quote(name) + "," + self.quote(self.body(rank)) + ")dnl\n"
         self.names[name] = rank
-        return text + self.used(name)
+        return text + self.twin(name) + self.used(name)
 
     def used(self, name):
         """A call of a macro, often, on a line of its own."""
@@ -263,6 +269,44 @@ class Writer:
         text = "ifelse($#,1,%s,%s)" % (q("last $1"), q("$1" + q("") + " " + inner + q("") + name + "(shift($@))"))
         return "define(%s,%s)dnl\n%s(%s)\n" % (q(name), q(text), name, ",".join(q(self.plain()) for _ in range(1 + self.upto(6))))
 
+    # copies
+
+    def copies_here(self):
+        return self.marks == QUOTES[0]
+
+    def by(self, name):
+        """A predefined macro by its own name or by a copy's."""
+        return self.pick([name] + self.copies.get(name, []))
+
+    def copy(self):
+        """A copy of a predefined macro, or of such a copy, for all that follows."""
+        name, copy = self.pick(COPIED), self.fresh("as")
+        text = "copydef(%s,%s)dnl\n" % (self.quote(self.by(name)), self.quote(copy))
+        self.copies.setdefault(name, []).append(copy)
+        return text
+
+    def twin(self, name):
+        """Sometimes a copy of a macro that is defined, by a new name or over another of its rank; the macro may get another text then."""
+        if not self.copies_here() or not self.chance(30):
+            return ""
+        rank = self.names[name]
+        others = [other for other in self.own() if self.names[other] == rank]
+        copy = self.pick(others) if self.chance(50) else self.fresh("m")
+        self.names[copy] = rank
+        text = "copydef(%s,%s)dnl\n" % (self.quote(name), self.quote(copy))
+        if self.chance(50):
+            text += "define(%s,%s)dnl\n" % (self.quote(name), self.quote(self.body(rank)))
+        return text + self.used(copy)
+
+    def exchanged(self):
+        """A copy over a predefined name, called by it with a parenthesis and without; then the name uncovered."""
+        name = self.pick([name for name in UNOPENED if name not in ("define", "defn", "popdef", "pushdef")])
+        given, arguments = self.pick(self.simple_calls())
+        q = self.quote(name)
+        text = "pushdef(%s,below)copydef(%s,%s)dnl\n" % (q, self.quote(self.by(given)), q)
+        text += "%s(%s) %s%s(%s) %s\n" % (name, arguments, name, self.apart(), self.quote(self.plain()), name)
+        return text + "popdef(%s)%s\n" % (q, name)
+
     # predefined names and the parenthesis
 
     def apart(self):
@@ -280,11 +324,16 @@ class Writer:
         text += " ".join(self.pick(unopened + [opened]) for _ in range(1 + self.upto(2))) + "\n"
         return text + cover.count("pushdef") * ("popdef(%s)" % q + self.pick(unopened) + "\n")
 
+    def simple_calls(self):
+        """Predefined macros, with arguments for them."""
+        q, word = self.quote, self.plain()
+        return [("len", word), ("incr", self.number()), ("index", word + ",e"), ("shift", "a," + q(word)), ("substr", q(word) + ",1"), ("ifelse", "a,a," + q(word))]
+
     def opened_later(self):
         """A macro that gives a predefined name, and a parenthesis in the text behind its call."""
-        name, q, word = self.fresh("open"), self.quote, self.plain()
-        calls = [("len", word), ("incr", self.number()), ("index", word + ",e"), ("shift", "a," + q(word)), ("substr", q(word) + ",1"), ("ifelse", "a,a," + q(word))]
-        given, arguments = self.pick(calls)
+        name, q = self.fresh("open"), self.quote
+        given, arguments = self.pick(self.simple_calls())
+        given = self.by(given)
         text = q(given) if self.nests() and self.chance(20) else given
         return "define(%s,%s)dnl\n%s()%s(%s)\n" % (q(name), q(text), name, self.pick(["", "", self.apart()]), arguments)
 
@@ -292,21 +341,21 @@ class Writer:
 
     def top(self):
         """One line or so outside of calls."""
-        kind = self.upto(15)
+        kind = self.upto(18)
         if kind <= 2:
             return self.definition()
         if kind == 3 and self.nests():
             return self.loop()
         if kind == 4:
-            return "divert(%d)" % self.pick([0, 1, 1, 3, 3, 9, -1]) + self.solid(RANKS, 2) + self.items(RANKS, 2, 4) + "\ndivert" + self.quote("")
+            return self.by("divert") + "(%d)" % self.pick([0, 1, 1, 3, 3, 9, -1]) + self.solid(RANKS, 2) + self.items(RANKS, 2, 4) + "\n" + self.by("divert") + self.quote("")
         if kind == 5:
-            return self.pick(["undivert" + self.quote(""), "undivert(%d)" % self.random.randint(1, 9), "undivert(3,1)"])
+            return self.by("undivert") + self.pick([self.quote(""), "(%d)" % self.random.randint(1, 9), "(3,1)"])
         if kind == 6 and self.names:
             name = self.pick(list(self.names))
             more = self.pick(["", "," + self.quote(self.pick(list(self.names)))])
-            return self.pick(["popdef", "popdef", "undefine"]) + "(" + self.quote(name) + more + ")" + self.used(name)
+            return self.by(self.pick(["popdef", "popdef", "undefine"])) + "(" + self.quote(name) + more + ")" + self.used(name)
         if kind == 7:
-            return "errprint(" + self.pick(["", self.arguments(RANKS, 1, 2) + ","]) + self.quote("\n") + ")"
+            return self.by("errprint") + "(" + self.pick(["", self.arguments(RANKS, 1, 2) + ","]) + self.quote("\n") + ")"
         if kind == 8:
             return self.lasting_definition()
         if kind == 9 and self.comment:
@@ -315,7 +364,11 @@ class Writer:
             return self.covered()
         if kind == 11:
             return self.opened_later()
-        return self.solid(RANKS, 3) + self.items(RANKS, 3, 5) + self.pick(["\n", " ", "dnl gone\n"])
+        if kind <= 13 and self.copies_here():
+            return self.copy()
+        if kind == 14 and self.copies_here():
+            return self.exchanged()
+        return self.solid(RANKS, 3) + self.items(RANKS, 3, 5) + self.pick(["\n", " ", self.by("dnl") + " gone\n"])
 
     def change(self):
         """New marks, and no macro left that has old ones in it."""
@@ -330,14 +383,14 @@ class Writer:
         return "".join(self.top() for _ in range(2 + self.upto(5)))
 
     def wrap(self):
-        return "m4wrap(" + self.quote((self.solid(RANKS, 1) + self.items(RANKS, 1, 3) if self.nests() else self.plain()) + "\n") + ")"
+        return self.by("m4wrap") + "(" + self.quote((self.solid(RANKS, 1) + self.items(RANKS, 1, 3) if self.nests() else self.plain()) + "\n") + ")"
 
     def exit(self):
-        return "m4exit" + self.pick([self.quote(""), "(0)", "(%d)" % self.upto(255)])
+        return self.by("m4exit") + self.pick([self.quote(""), "(0)", "(%d)" % self.upto(255)])
 
     def pieces(self):
         """The text's pieces, which end outside of calls, each behind an empty quote with the marks that are in force where it begins."""
-        yield self.quote(""), self.part()
+        yield self.quote(""), COPYDEF + self.part()
         for _ in range(self.upto(2)):
             yield self.quote(""), self.change()
             yield self.quote(""), self.part()

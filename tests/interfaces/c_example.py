@@ -24,7 +24,7 @@ OLD = 0xA5
 
 # 01's table of answers, its list of buffers, the three ways to be unclosed, and the order of the numbers; 02's refusals of the index of lines
 CONSTANTS = {
-    "": (0, "DONE EXIT LEND SPENT ROOM UNCLOSED NAME NUMBER EXPRESSION DIVISOR MARK NO_TEXT GONE DEEP BAD_SET NO_ITEM"),
+    "": (0, "DONE EXIT LEND SPENT ROOM UNCLOSED NAME NUMBER EXPRESSION DIVISOR MARK NO_TEXT GONE DEEP BAD_SET NO_ITEM NO_DEFINITION"),
     "BUFFER_": (1, "PENDING CALLS DEFINITIONS STREAMS WRAP ERRORS OUTPUT"),
     "UNCLOSED_": (1, "QUOTE COMMENT CALL"),
     "REPORT_": (0, "NUMBER DETAIL STEPS PLACE OUTPUT ERRORS LENGTH"),
@@ -82,6 +82,7 @@ int main(int argc, char **argv)
 AMPLE = 65536
 N_IS_5 = b"define(`n',`5')n"
 NO_ITEMS = b"\0"
+RIG = b"copydef(`define',`rig')rig(`a',`b')a"
 AXY = b"\x81\1\0\0\0\2\0\0\0\3axy\0"  # one item: its name is a, its text xy
 
 # what is tried, the text, the numbers of the answer, output, error text, and the setting where it is not ample
@@ -118,6 +119,13 @@ CALLS = [
     ("an include", b"include(a)", (0, 0, 5, 10, 2, 0), b"xy", b"", {"set": AXY, "lengths": [2, 8, "-", "-", "-", "-", 2]}),
     ("an include that does not fit", b"include(a)", (4, 1, 2, 9, 0, 0), b"", b"", {"set": AXY, "lengths": [1, 8, 9, 9, 9, 9, 9]}),
     ("an sinclude of what is not there", b"sinclude(b)", (0, 0, 4, 11, 0, 0), b"", b"", {"set": AXY}),
+    ("another name for define, just the room", RIG, (0, 0, 13, 36, 1, 0), b"b", b"", {"lengths": [1, 16, 5, "-", "-", "-", 1]}),
+    ("another name for define, a byte less", RIG, (4, 3, 9, 34, 0, 0), b"", b"", {"lengths": [1, 16, 4, 9, 9, 9, 9]}),
+    ("a copy of a text", b"define(`f',`xyz')copydef(`f',`gg')gg", (0, 0, 13, 36, 3, 0), b"xyz", b"", {"lengths": [3, 10, 9, "-", "-", "-", 3]}),
+    ("a copy of len without its parenthesis", b"copydef(`len',`l')l l(ab)", (0, 0, 12, 25, 3, 0), b"l 2", b"", {}),
+    ("a copy by what is not a name", b"copydef(`x',`9')", (6, 0, 4, 15, 0, 0), b"", b"", {}),
+    ("defn of a copy", b"copydef(`len',`l')defn(`l')", (11, 0, 7, 26, 0, 0), b"", b"", {}),
+    ("a copy of what has no definition", b"copydef(`x',`y')", (16, 0, 4, 15, 0, 0), b"", b"", {"lengths": [9, 9, 0, 9, 9, 9, 9]}),
 ]
 
 # what is tried, the template, standard output, what standard error is, and the exit status
@@ -137,6 +145,9 @@ PROGRAM_RUNS = [
      b"FILE:2:40021: no sheet: no room for the pending text (answer 4 1, after 9 steps and 40025 bytes)", 1),
     ("an unclosed call, at the end of the longest template", b"\n" * 65532 + b"len(", b"",
      b"FILE:65533:5: no sheet: the template ends inside a call (answer 5 3, after 65533 steps and 65536 bytes)", 1),
+    ("another name for define", b"copydef(`define',`rig')rig(`gain',`7')gain rig", b"7 rig", b"", 0),
+    ("a copy of what has no definition", b"x\n copydef(`lem',`l')", b"",
+     b"FILE:2:19: no sheet: copydef of a name that has no definition (answer 16 0, after 7 steps and 20 bytes)", 1),
     ("an unclosed call behind the last newline", b"a\nlen(b\n", b"",
      b"FILE:3:1: no sheet: the template ends inside a call (answer 5 3, after 5 steps and 8 bytes)", 1),
 ]

@@ -37,6 +37,8 @@ check("a refusal writes nothing else", run(b"good`'errprint(`e')`bad"), (b"", b"
 check("02's word that vanished", run(b"the len of the boom"), (b"the len of the boom", b"0 10 19 0\n"))
 check("02's include, with nothing to include", run(b"a include(`x')"), (b"", b"15 4 13 0\n"))
 check("02's sinclude, with nothing to include", run(b"[sinclude(`x')]ifdef(`include',1,0)include"), (b"[]1include", b"0 15 42 0\n"))
+check("02's copydef, another name for define", run(b"copydef(`define',`rig')rig(`a',`b')a"), (b"b", b"0 13 36 0\n"))
+check("02's copydef, of what has no definition", run(b"copydef(`x',`y')"), (b"", b"16 4 15 0\n"))
 check("m4exit", run(b"a`'m4exit(7)b"), (b"a", b"1 5 12 7\n"))
 longest = b"x" * 65536
 check("65,536 bytes", run(longest), (longest, b"0 2 65536 0\n"))

@@ -28,13 +28,14 @@ from quenhovach import Answer, Buffer, Exited, Expander, NotDone, Refused, Repor
 
 OLD = b"\xa5"
 N_IS_5 = b"define(`n',`5')n"
+RIG = b"copydef(`define',`rig')rig(`a',`b')a"
 LEVELS = b"0||1&&0|0^1&1==1<1<<0+1*"  # an operator of each level; before an operand of 1 it comes to 1
 ALONE = "import sys; sys.path.insert(0, sys.argv[1]); from quenhovach import *; "
 DEEPEST = b"eval(" + (LEVELS + b"(") * 32 + LEVELS + b"1" + b")" * 33
 
 # 01's table of answers, its list of buffers, the three ways to be unclosed
 NAMES = {
-    Answer: (0, "DONE EXIT LEND SPENT ROOM UNCLOSED NAME NUMBER EXPRESSION DIVISOR MARK NO_TEXT GONE DEEP BAD_SET NO_ITEM"),
+    Answer: (0, "DONE EXIT LEND SPENT ROOM UNCLOSED NAME NUMBER EXPRESSION DIVISOR MARK NO_TEXT GONE DEEP BAD_SET NO_ITEM NO_DEFINITION"),
     Buffer: (1, "PENDING CALLS DEFINITIONS STREAMS WRAP ERRORS OUTPUT"),
     Unclosed: (1, "QUOTE COMMENT CALL"),
 }
@@ -89,6 +90,12 @@ CALLS = [
     ("an include by bytes", b"include(a)", (0, 0, 5, 10, 2, 0), b"xy", b"", {"included": b"\x81\1\0\0\0\2\0\0\0\3axy\0"}),
     ("an include that does not fit", b"include(a)", (4, 1, 2, 9, 0, 0), b"", b"", {"included": {"a": b"xy"}, "pending": 1}),
     ("an sinclude of an unknown name", b"sinclude(b)", (0, 0, 4, 11, 0, 0), b"", b"", {"included": {b"a": bytearray(b"xy")}}),
+    ("another name for define", RIG, (0, 0, 13, 36, 1, 0), b"b", b"", {"definitions": 5}),
+    ("another name for define, a byte less", RIG, (4, 3, 9, 34, 0, 0), b"", b"", {"definitions": 4}),
+    ("a copy of a text", b"define(`f',`xyz')copydef(`f',`gg')gg", (0, 0, 13, 36, 3, 0), b"xyz", b"", {"definitions": 9}),
+    ("a copy by what is not a name", b"copydef(`x',`9')", (6, 0, 4, 15, 0, 0), b"", b"", {}),
+    ("defn of a copy", b"copydef(`len',`l')defn(`l')", (11, 0, 7, 26, 0, 0), b"", b"", {}),
+    ("a copy of what has no definition", b"\ncopydef(`x',`y')", (16, 0, 5, 16, 0, 0), b"", b"", {"definitions": 0}),
 ]
 
 
@@ -124,7 +131,7 @@ def names():
     for enum, (first, words) in NAMES.items():
         if not check("the numbers of " + enum.__name__, [(m.name, m.value) for m in enum], [(word, first + i) for i, word in enumerate(words.split())]):
             finish()
-    check("every answer is tried", sorted({call[2][0] for call in CALLS}), list(range(16)))
+    check("every answer is tried", sorted({call[2][0] for call in CALLS}), list(range(17)))
     check("every buffer is tried", sorted({call[2][1] for call in CALLS if call[2][0] == 4}), list(range(1, 8)))
 
 
@@ -173,6 +180,7 @@ def sheets(library):
         (b"gain\n\n defn(`len')", Refused, "no sheet: answer 11 (no text), detail 0, after 6 steps, place 17 (line 3, column 12)"),
         (b"1" * 65537, Refused, "no sheet: answer 2 (lend), detail 0, after 0 steps, place 0"),
         (b"\ninclude(a)", Refused, "no sheet: answer 15 (no item), detail 0, after 3 steps, place 10 (line 2, column 10)"),
+        (b"\ncopydef(`a',`b')", Refused, "no sheet: answer 16 (no definition), detail 0, after 5 steps, place 16 (line 2, column 16)"),
     ]:
         raised = ended(quenhovach.expand, text, expander)
         check("expand of %.30s" % text, (type(raised), isinstance(raised, NotDone), str(raised)), (kind, True, said))

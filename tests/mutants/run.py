@@ -51,6 +51,7 @@ PARTS = [
     ("each byte", "", "each byte"),
     ("each predefined name", "", "each name"),
     ("open comments", "", "open comments"),
+    ("copies of each meaning", "", "copies"),
     ("sets of every form", "", "sets"),
     ("lines.tsv", "", "lines.tsv"),
     ("against counting", "", "counting"),
@@ -80,10 +81,11 @@ First the source as it stands was built in the same way each time, and passed al
 """
 FOOT = """
 Of `differential` (tests/differential/run) the table names what showed the fault: `vectors`, the lines of tests/vectors.tsv through the archive; `each byte` wherever
-its class is asked for, `each name` that is predefined wherever it may stand, `open comments` wherever one may begin, `sets` that are good, damaged, cut and as long as
-may be, and `random cases`, on which archive and model differ; `lines.tsv`, the vectors of the index of lines, `counting` through the text, which gives another
-line, start or index, and `random indexes`, on which archive and model differ; `third demand`, two settings that break the letter's third demand; `huge lengths`,
-above 4,294,967,295; `trap`, a read or write outside of what is lent, between inaccessible pages; `valgrind`, the same or the use of what was there before.
+its class is asked for, `each name` that is predefined wherever it may stand, `open comments` wherever one may begin, `copies` of each meaning onto names of every kind,
+`sets` that are good, damaged, cut and as long as may be, and `random cases`, on which archive and model differ; `lines.tsv`, the vectors of the index of lines,
+`counting` through the text, which gives another line, start or index, and `random indexes`, on which archive and model differ; `third demand`, two settings that break
+the letter's third demand; `huge lengths`, above 4,294,967,295; `trap`, a read or write outside of what is lent, between inaccessible pages; `valgrind`, the same or the
+use of what was there before.
 `lines_cost` counts the instructions of the index of lines, `set_cost` those of judging a set and of an include. `step_costs` takes more than a minute, and was tried
 only on what no other test caught.
 

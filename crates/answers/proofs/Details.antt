@@ -9,7 +9,7 @@ use Rattle.rules.proofs.Answer.{the-type}
 
 -- their places among the variants
 abbrev plain : List ℕ
-plain = 0 ∷ 2 ∷ 3 ∷ 6 ∷ 7 ∷ 8 ∷ 9 ∷ 10 ∷ 11 ∷ 12 ∷ 13 ∷ 14 ∷ 15 ∷ []
+plain = 0 ∷ 2 ∷ 3 ∷ 6 ∷ 7 ∷ 8 ∷ 9 ∷ 10 ∷ 11 ∷ 12 ∷ 13 ∷ 14 ∷ 15 ∷ 16 ∷ []
 
 pub no-detail : (a : Answer) → OneOf plain (tagOf the-type a) → 0 ≡ answerDetail a
 unfolding answerDetail
@@ -29,3 +29,4 @@ no-detail answer.Gone h = refl
 no-detail answer.Deep h = refl
 no-detail answer.BadSet h = refl
 no-detail answer.NoItem h = refl
+no-detail answer.NoDefinition h = refl

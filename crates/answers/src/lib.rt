@@ -25,6 +25,7 @@ pub fn number_of(a: Answer) -> u32
         Answer::Deep => 13,
         Answer::BadSet => 14,
         Answer::NoItem => 15,
+        Answer::NoDefinition => 16,
     }
 }
 

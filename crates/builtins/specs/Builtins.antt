@@ -4,7 +4,7 @@ use mathlib.Core.List.{List, [], _∷_}
 use lib.ListN.{getD}
 use Rattle.rules.specs.Bytes.{Bytes}
 use Rattle.rules.specs.State.{State, Outcome}
-use Rattle.rules.specs.Macros.{callChangecom, callChangequote, callDecr, callDefine, callDefn, callDivert, callDivnum, callDnl, callErrprint, callEval, callIfdef, callIfelse, callIncr, callIndex, callLen, callM4exit, callM4wrap, callPopdef, callPushdef, callShift, callSubstr, callTranslit, callUndefine, callUndivert, callInclude, callSinclude, callNothing}
+use Rattle.rules.specs.Macros.{callChangecom, callChangequote, callDecr, callDefine, callDefn, callDivert, callDivnum, callDnl, callErrprint, callEval, callIfdef, callIfelse, callIncr, callIndex, callLen, callM4exit, callM4wrap, callPopdef, callPushdef, callShift, callSubstr, callTranslit, callUndefine, callUndivert, callInclude, callSinclude, callCopydef, callNothing}
 use Rattle.builtins.specs.declared.Kind.{Kind}
 use Rattle.builtins.specs.declared.Kind.the-variants as kind
 use Rattle.builtins.specs.declared.ResultMacro.{ResultMacro}
@@ -47,6 +47,7 @@ builtins =
     ∷ change change-macro.Undivert
     ∷ change change-macro.Include
     ∷ change change-macro.Sinclude
+    ∷ change change-macro.Copydef
     ∷ []
 
 -- by its number, from 1; no macro has another number
@@ -99,6 +100,7 @@ changeCall change-macro.Undefine = callUndefine
 changeCall change-macro.Undivert = callUndivert
 changeCall change-macro.Include = callInclude
 changeCall change-macro.Sinclude = callSinclude
+changeCall change-macro.Copydef = callCopydef
 changeCall change-macro.None = callNothing
 
 unfoldable pub callOf : Builtin → List Bytes → State → Outcome

@@ -11,7 +11,7 @@ use Rattle.rules.specs.Table.{predefinedNames, predefinedNumber}
 
 -- how many there are, as many as the book names
 abbrev pub macroCount : ℕ
-macroCount = 26
+macroCount = 27
 
 unfoldable pub numbered : ℕ → Option ℕ
 numbered zero = none

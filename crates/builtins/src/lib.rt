@@ -1,4 +1,4 @@
-// The predefined macros, 1 to 26: the number of a name, and what the macro of a number does. Whoever asks something of a predefined macro asks
+// The predefined macros, 1 to 27: the number of a name, and what the macro of a number does. Whoever asks something of a predefined macro asks
 // it here, by its number.
 use ascii::same;
 ghost use mathlib.Core.Path.{_≡_};
@@ -50,6 +50,7 @@ pub enum ChangeMacro {
     Undivert,
     Include,
     Sinclude,
+    Copydef,
     None,
 }
 
@@ -83,6 +84,17 @@ fn number_of_two(name: &[u8], first: &[u8], second: &[u8], k: u8) -> u8
         return k + 1;
     }
     0
+}
+
+// The number of a name that begins with c.
+fn number_c(name: &[u8]) -> u8
+    ensures { λ r. ⌜ NumberAmong (now (name .entry)) (predefinedWith 99) r ⌝ }
+{
+    let first = number_of_two(name, b"changecom", b"changequote", 1);
+    if first != 0 {
+        return first;
+    }
+    number_of_one(name, b"copydef", 27)
 }
 
 // The number of a name that begins with d.
@@ -132,7 +144,7 @@ pub fn number_of(name: &[u8]) -> u8
 {
     let first = first_byte(name);
     match first {
-        b'c' => number_of_two(name, b"changecom", b"changequote", 1),
+        b'c' => number_c(name),
         b'd' => number_d(name),
         b'e' => number_of_two(name, b"errprint", b"eval", 9),
         b'i' => number_i(name),
@@ -151,32 +163,12 @@ pub fn number_of(name: &[u8]) -> u8
 pub fn needs_parenthesis(k: u8) -> bool
     ensures { λ r. ⌜ r ≡ needsParenthesis k ⌝ }
 {
-    let needing = b"---(((---(((((((-(((((((-((";
+    let needing = b"---(((---(((((((-(((((((-(((";
     let i = k as usize;
-    if 26 < i {
+    if needing.len() <= i {
         return false;
     }
     needing[i] == b'('
-}
-
-// What the macro of a number does.
-pub fn kind_of(k: u8) -> Kind
-    ensures { λ r. ⌜ r ≡ kindOf (builtinAt k) ⌝ }
-{
-    match k {
-        3 => Kind::Result,
-        5 => Kind::Result,
-        10 => Kind::Result,
-        11 => Kind::Result,
-        12 => Kind::Result,
-        13 => Kind::Result,
-        14 => Kind::Index,
-        15 => Kind::Result,
-        20 => Kind::Result,
-        21 => Kind::Result,
-        22 => Kind::Result,
-        _ => Kind::Change,
-    }
 }
 
 // The macro of a number, if it only gives a result.
@@ -195,6 +187,16 @@ pub fn result_macro(k: u8) -> ResultMacro
         21 => ResultMacro::Substr,
         22 => ResultMacro::Translit,
         _ => ResultMacro::None,
+    }
+}
+
+// What the macro of a number does: it gives a result if `result_macro` names it, or is index, which has 14.
+pub fn kind_of(k: u8) -> Kind
+    ensures { λ r. ⌜ r ≡ kindOf (builtinAt k) ⌝ }
+{
+    match result_macro(k) {
+        ResultMacro::None => if k == 14 { Kind::Index } else { Kind::Change },
+        _ => Kind::Result,
     }
 }
 
@@ -218,6 +220,7 @@ pub fn change_macro(k: u8) -> ChangeMacro
         24 => ChangeMacro::Undivert,
         25 => ChangeMacro::Include,
         26 => ChangeMacro::Sinclude,
+        27 => ChangeMacro::Copydef,
         _ => ChangeMacro::None,
     }
 }

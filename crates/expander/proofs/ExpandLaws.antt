@@ -4,7 +4,7 @@ use Rattle.rules.proofs.Base.{_≤_, ℕ, suc, zero, _∙_, refl, sym, ap, _≡
 use Rattle.rules.specs.declared.Answer.the-variants as answer
 use Rattle.rules.specs.declared.Report.{Report}
 use Rattle.rules.specs.Bytes.{Bytes}
-use Rattle.rules.specs.Answers.{answerNumber, isFinished, Ending, done, exit, endingAnswer, Fault, unclosedQuote, unclosedComment, unclosedCall, noName, noNumber, noExpression, divisor, badMark, noText, gone, deep, noItem, faultAnswer}
+use Rattle.rules.specs.Answers.{answerNumber, isFinished, Ending, done, exit, endingAnswer, Fault, unclosedQuote, unclosedComment, unclosedCall, noName, noNumber, noExpression, divisor, badMark, noText, gone, deep, noItem, noDefinition, faultAnswer}
 use Rattle.rules.specs.Sets.{Item, setItems}
 use Rattle.rules.specs.Source.{sourceOf}
 use Rattle.rules.specs.State.{State, Outcome, next, stop, refused, Start, freshStart, startState}
@@ -165,6 +165,7 @@ fault-not-lend noText = refl
 fault-not-lend gone = refl
 fault-not-lend deep = refl
 fault-not-lend noItem = refl
+fault-not-lend noDefinition = refl
 
 ending-not-lend : (x : Ending) → eqb (answerNumber (endingAnswer x)) 2 ≡ false
 unfolding answerNumber endingAnswer

@@ -21,6 +21,7 @@ pub mod MacroLaws
 pub mod MarkTests
 pub mod MarkPlaces
 pub mod MaskLaws
+pub mod MeaningLaws
 pub mod NumberResultLaws
 pub mod Overwriting
 pub mod OwnedBytes

@@ -1,5 +1,5 @@
 -- Laws of packed strings. Assumes nothing.
-use Rattle.rules.proofs.Base.{_≤_, _+_, ℕ, _-_, _<_, suc, zero, _∙_, refl, sym, ap, _≡_, List, [], _++_, _∷_, append-assoc, append-nil, add-zero, not-suc-le-zero, le-of-suc-le-suc, add-assoc, add-one, arith, length, drop, take, getD, length-append, set, length-set, length-take, take-append-drop, length-take-le, getD-take, take-suc-set, take-suc, take-at, drop-at, take-append-seam, set-split, take-take, take-set-lt, split-at}
+use Rattle.rules.proofs.Base.{_≤_, _+_, ℕ, _-_, _<_, suc, zero, _∙_, refl, sym, ap, _≡_, subst, List, [], _++_, _∷_, append-assoc, append-nil, add-zero, not-suc-le-zero, le-of-suc-le-suc, add-assoc, add-one, arith, length, drop, take, getD, length-append, set, length-set, length-take, take-append-drop, length-take-le, getD-take, take-suc-set, take-suc, take-at, drop-at, take-append-seam, set-split, take-take, take-set-lt, split-at}
 use Rattle.rules.specs.Bytes.{Bytes, sameBytes}
 use Rattle.rules.specs.Streams.{joined}
 use Rattle.expander.specs.Packed.{endsFrom, Packs, Formed, startOf, lastMore}
@@ -70,6 +70,10 @@ unfolding lastMore
 filled-last [] x = refl
 filled-last (s ∷ []) x = refl
 filled-last (s ∷ t ∷ ss) x = rw (filled-last (t ∷ ss) x)
+
+-- what stands behind the strings, kept twice
+pub kept-behind : (a b c : List ℕ) {m n : ℕ} → m ≡ n → drop m c ≡ drop m b → drop n b ≡ drop n a → drop n c ≡ drop n a
+kept-behind a b c e f g = subst (λ (i : ℕ). drop i c ≡ drop i b) e f ∙ g
 
 pub same-of : {a b x y : Bytes} → a ≡ x → b ≡ y → sameBytes a b ≡ sameBytes x y
 same-of e f = rw (e, f)

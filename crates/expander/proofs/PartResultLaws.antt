@@ -38,7 +38,7 @@ shows-part-nothing bytes = record { is = refl; inside = (omega arith, omega arit
 
 -- ---- ifdef
 
-is-defined : (ds : List Definition) (r : Looked) → (tagOf the-type r ≡ 0) ⊎ (tagOf the-type r ≡ 1) → (w : Bytes) (t : Table) → meaningOf w t ≡ meaningFor (rows ds) r → isDefined w t ≡ true
+is-defined : (ds : List Definition) (r : Looked) → (tagOf the-type r ≡ 0) ⊎ (tagOf the-type r ≡ 2) → (w : Bytes) (t : Table) → meaningOf w t ≡ meaningFor (rows ds) r → isDefined w t ≡ true
 unfolding isDefined meaningFor
 is-defined ds looked.Undefined (inl k) w t e = absurd (omega arith)
 is-defined ds looked.Undefined (inr k) w t e = absurd (omega arith)
@@ -53,7 +53,7 @@ module _ (args : List Bytes) (t : Table) {w : Bytes} (e : w ≡ arg 1 args) {ds 
       rw (← e, m)
 
   -- by what the default arm of the `match` tells
-  pub ifdef-some : (tagOf the-type r ≡ 0) ⊎ (tagOf the-type r ≡ 1) → ifdefResult t args ≡ yields (arg 2 args)
+  pub ifdef-some : (tagOf the-type r ≡ 0) ⊎ (tagOf the-type r ≡ 2) → ifdefResult t args ≡ yields (arg 2 args)
   unfolding ifdefResult
   ifdef-some k = rw (← e, is-defined ds r k w t (f .is))
 

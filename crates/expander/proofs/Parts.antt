@@ -1,5 +1,5 @@
 -- Laws of lists and of their parts, as slices are lent. Assumes nothing.
-use Rattle.rules.proofs.Base.{_≤_, ℕ, _-_, suc, zero, _∙_, refl, sym, ap, _≡_, ap₂, Bool, List, [], _++_, _∷_, append-nil, arith, length, drop, take, length-drop, drop-of-length-le, length-take, replicate, take-all, drop-length, take-nil, eq-eqb}
+use Rattle.rules.proofs.Base.{_≤_, _+_, ℕ, _-_, suc, zero, _∙_, refl, sym, ap, _≡_, ap₂, Bool, List, [], _++_, _∷_, append-nil, arith, length, drop, take, length-drop, drop-of-length-le, length-take, replicate, take-all, drop-length, drop-drop, take-nil, eq-eqb}
 use Rattle.ascii.specs.Copied.{Copied}
 use Rattle.matching.specs.Partners.{Fitted}
 
@@ -45,3 +45,12 @@ empty-of (x ∷ l) h = absurd (omega arith)
 -- zeros all over b
 pub all-zero : (b d : List ℕ) (i : ℕ) → d ≡ replicate i 0 ++ drop i b → i ≡ length b → d ≡ replicate (length b) 0
 all-zero b d i e h = e ∙ rw (h, drop-length b) (append-nil (replicate (length b) 0))
+
+-- two lists that are the same from a place on are so from a later one
+pub drop-later : (m n : ℕ) (a b : List ℕ) → m ≤ n → drop m a ≡ drop m b → drop n a ≡ drop n b
+drop-later m n a b le e =
+    let f : m + (n - m) ≡ n = omega arith in
+    ap (λ (i : ℕ). drop i a) (sym f) ∙ sym (drop-drop (n - m) m a) ∙ ap (drop (n - m)) e ∙ drop-drop (n - m) m b ∙ ap (λ (i : ℕ). drop i b) f
+
+pub kept-two : (a b c : List ℕ) (n m : ℕ) → m ≡ n + 1 → drop (m + 1) c ≡ drop (m + 1) b → drop (n + 1) b ≡ drop (n + 1) a → drop (n + 2) c ≡ drop (n + 2) a
+kept-two a b c n m e f g = drop-later (m + 1) (n + 2) c b (omega arith) f ∙ drop-later (n + 1) (n + 2) b a (omega arith) g

@@ -1,20 +1,17 @@
 -- Laws of definitions and of the strings that they are. Assumes nothing.
-use Rattle.rules.proofs.Base.{_≤_, _+_, ℕ, _-_, _<_, suc, zero, _*_, _/_, _∙_, refl, sym, ap, _≡_, true, Bool, false, some, none, Option, List, [], _++_, _∷_, not-suc-le-zero, le-of-suc-le-suc, arith, lit<, length, take, getD, length-take, take-all, take-suc}
+use Rattle.rules.proofs.Base.{_≤_, _+_, ℕ, _-_, _<_, suc, zero, _*_, _/_, _∙_, refl, sym, ap, _≡_, subst, true, Bool, false, some, none, Option, List, [], _++_, _∷_, not-suc-le-zero, le-of-suc-le-suc, arith, lit<, length, take, getD, length-take, take-all, take-suc}
 use Rattle.rules.specs.Bytes.{Bytes, sameBytes}
 use Rattle.rules.specs.Streams.{joined}
-use Rattle.rules.specs.Table.{Meaning, text, Definition, Table, predefinedNames, freshTable, ownMeaning, newestPlace, meaningAt, meaningOf}
+use Rattle.rules.specs.Table.{Meaning, text, predefined, Definition, Table, predefinedNames, freshTable, numberFrom, predefinedNumber, keepsOwn, ownMeaning, newestPlace, meaningAt, meaningOf}
 use Rattle.expander.specs.Limits.{mostLent, allOwn, tableEndsLength}
 use Rattle.expander.specs.Packed.{endsFrom}
-use Rattle.expander.specs.Table.{meaningText, rows, Plain, DefinitionsIn, ValidDefinitions, TableIn, placeOf, meaningFor, textEnd, Finds}
+use Rattle.expander.specs.Meanings.{numberAt}
+use Rattle.expander.specs.Table.{meaningText, rows, meaningNumber, Numbered, Sound, blank, DefinitionsIn, ValidDefinitions, TableIn, placeOf, meaningFor, textEnd, Finds}
 use Rattle.expander.specs.declared.packed.Packed.{Packed}
 use Rattle.expander.specs.declared.table.Found.the-variants as found
 use Rattle.expander.specs.declared.table.Meaning.{Meaning as Looked}
 use Rattle.expander.specs.declared.table.Meaning.the-variants as looked
 use Rattle.expander.proofs.Packing.{count-is}
-
--- what stands past the end
-unfoldable pub blank : Definition
-blank = record { name = []; meaning = text [] }
 
 pub length-rows : (ds : List Definition) → length (rows ds) ≡ 2 * length ds
 unfolding rows
@@ -37,16 +34,22 @@ text-at (d ∷ ds) (suc i) =
     let e : 2 * suc i + 1 ≡ suc (suc (2 * i + 1)) = omega arith in
     rw e (text-at ds i)
 
--- every definition has a name and a text
-pub record PlainAt (d : Definition) : Type 0 where
-  pub named : 0 < length (d .name)
-  pub represents : d .meaning ≡ text (meaningText (d .meaning))
+-- a meaning is told by its byte
+numbered-at : (ds : List Definition) (i : ℕ) → Sound ds → i < length ds → Numbered ((getD ds i blank) .meaning)
+unfolding Sound
+numbered-at [] i p h = absurd (not-suc-le-zero h)
+numbered-at (d ∷ ds) zero p h = p .1
+numbered-at (d ∷ ds) (suc i) p h = numbered-at ds i (p .2) (le-of-suc-le-suc h)
 
-pub plain-at : (ds : List Definition) (i : ℕ) → Plain ds → i < length ds → PlainAt (getD ds i blank)
-unfolding Plain
-plain-at [] i p h = absurd (not-suc-le-zero h)
-plain-at (d ∷ ds) zero p h = record { named = p .0; represents = p .1 }
-plain-at (d ∷ ds) (suc i) p h = plain-at ds i (p .2) (le-of-suc-le-suc h)
+is-text : (m : Meaning) → Numbered m → meaningNumber m ≡ 0 → m ≡ text (meaningText m)
+unfolding meaningNumber meaningText Numbered
+is-text (text x) n e = refl
+is-text (predefined k) n e = absurd (omega (arith, n))
+
+is-predefined : (m : Meaning) {k : ℕ} → meaningNumber m ≡ k → (k ≡ 0 → ⊥) → m ≡ predefined k
+unfolding meaningNumber
+is-predefined (text x) e f = absurd (f (sym e))
+is-predefined (predefined k) e f = ap predefined e
 
 pub meaning-at : (ds : List Definition) (i : ℕ) → i < length ds → meaningAt i ds ≡ some ((getD ds i blank) .meaning)
 unfolding meaningAt
@@ -124,15 +127,29 @@ module _ {bytes : Bytes} {ends : List ℕ} {p : Packed} {ds : List Definition} (
 
 -- what a name means, from where its newest definition is
 module _ {bytes : Bytes} {ends : List ℕ} {p : Packed} {own : ℕ} {t : Table} (h : TableIn bytes ends p own t) (w : Bytes) where
-  pub represents-text : (i : ℕ) → newestPlace w (t .definitions) ≡ placeOf (found.At i) → Finds (t .definitions) (meaningOf w t) (looked.Text i)
-  unfolding placeOf meaningOf meaningFor textEnd
-  represents-text i e =
-      let ds = t .definitions in
-      let lt = newest-in w ds i e in
-      record {
-        is = rw (e, meaningOf) (meaning-at ds i lt ∙ ap some (plain-at ds i (h .holds .plain) lt .represents ∙ ap text (sym (text-at ds i))));
-        within = omega (arith, length-rows ds);
-      }
+  -- the newest definition's byte is k
+  module _ (i : ℕ) (e : newestPlace w (t .definitions) ≡ placeOf (found.At i)) {k : ℕ} (f : k ≡ numberAt ends i) where
+    its-number : meaningNumber ((getD (t .definitions) i blank) .meaning) ≡ k
+    unfolding placeOf
+    its-number = sym (f ∙ h .holds .numbers i (newest-in w (t .definitions) i e))
+
+    pub represents-text : k ≡ 0 → Finds (t .definitions) (meaningOf w t) (looked.Text i)
+    unfolding placeOf meaningOf meaningFor textEnd
+    represents-text z =
+        let ds = t .definitions in
+        let lt = newest-in w ds i e in
+        let m = is-text _ (numbered-at ds i (h .holds .sound) lt) (its-number ∙ z) in
+        record {
+          is = rw (e, meaningOf) (meaning-at ds i lt ∙ ap some (m ∙ ap text (sym (text-at ds i))));
+          within = omega (arith, length-rows ds);
+        }
+
+    pub represents-copy : (k ≡ 0 → ⊥) → Finds (t .definitions) (meaningOf w t) (looked.Predefined k)
+    unfolding placeOf meaningOf meaningFor textEnd
+    represents-copy z =
+        let ds = t .definitions in
+        let lt = newest-in w ds i e in
+        record { is = rw (e, meaningOf) (meaning-at ds i lt ∙ ap some (is-predefined _ its-number z)); within = omega arith }
 
   pub represents-own : {r : Looked} → newestPlace w (t .definitions) ≡ placeOf found.Nowhere → ((ds : List Definition) → Finds ds (ownMeaning w own) r)
       → Finds (t .definitions) (meaningOf w t) r
@@ -140,6 +157,60 @@ module _ {bytes : Bytes} {ends : List ℕ} {p : Packed} {own : ℕ} {t : Table} 
   represents-own e f =
       let g = f (t .definitions) in
       record { is = rw (e, meaningOf, h .own-is) (g .is); within = g .within }
+
+-- a predefined meaning has a number from 1
+number-least : (k : ℕ) (w : Bytes) (ns : List Bytes) {j : ℕ} → numberFrom k w ns ≡ some j → k ≤ j
+unfolding numberFrom
+number-least k w [] e = absurd (let z : _≡_ {A = ℕ} 0 1 = cc in omega arith)
+number-least k w (n ∷ ns) {j} e = go (λ q. number-least (suc k) w ns q) (sameBytes w n) e
+  where
+    go : (numberFrom (suc k) w ns ≡ some j → suc k ≤ j) → (t : Bool) → _≡_ {A = Option ℕ} (elim t [ true ↦ some k | false ↦ numberFrom (suc k) w ns ]) (some j) → k ≤ j
+    go f true q = let z : k ≡ j = cc in omega arith
+    go f false q = omega (arith, f q)
+
+own-numbered : (w : Bytes) (own : ℕ) {m : Meaning} → ownMeaning w own ≡ some m → Numbered m
+unfolding ownMeaning predefinedNumber Numbered
+own-numbered w own {m} e = go (predefinedNumber w) refl e
+  where
+    go : (o : Option ℕ) → predefinedNumber w ≡ o
+        → _≡_ {A = Option Meaning} (elim o [ none ↦ none | some k ↦ elim (keepsOwn k own) [ true ↦ some (predefined k) | false ↦ none ] ]) (some m) → Numbered m
+    go none n q = absurd (let z : _≡_ {A = ℕ} 0 1 = cc in omega arith)
+    go (some k) n q = kept (keepsOwn k own) q
+      where
+        kept : (b : Bool) → _≡_ {A = Option Meaning} (elim b [ true ↦ some (predefined k) | false ↦ none ]) (some m) → Numbered m
+        kept true p =
+            let z : predefined k ≡ m = cc in
+            subst Numbered z (number-least 1 w predefinedNames n)
+        kept false p = absurd (let z : _≡_ {A = ℕ} 0 1 = cc in omega arith)
+
+means-number : {bytes : Bytes} {ends : List ℕ} {p : Packed} {own : ℕ} {t : Table} → TableIn bytes ends p own t → (w : Bytes) {m : Meaning} → meaningOf w t ≡ some m → Numbered m
+unfolding meaningOf
+means-number {t = t} h w {m} e = go (newestPlace w (t .definitions)) refl e
+  where
+    go : (o : Option ℕ) → newestPlace w (t .definitions) ≡ o
+        → _≡_ {A = Option Meaning} (elim o [ some i ↦ meaningAt i (t .definitions) | none ↦ ownMeaning w (t .own) ]) (some m) → Numbered m
+    go (some i) n q =
+        let lt = newest-in w (t .definitions) i n in
+        let y : some ((getD (t .definitions) i blank) .meaning) ≡ some m = sym (meaning-at (t .definitions) i lt) ∙ q in
+        let z : (getD (t .definitions) i blank) .meaning ≡ m = cc in
+        subst Numbered z (numbered-at (t .definitions) i (h .holds .sound) lt)
+    go none n q = own-numbered w (t .own) q
+
+pub predefined-number : {bytes : Bytes} {ends : List ℕ} {p : Packed} {own : ℕ} {t : Table} → TableIn bytes ends p own t → (w : Bytes) {k : ℕ} → meaningOf w t ≡ some (predefined k) → 0 < k
+unfolding Numbered
+predefined-number h w {k} e = means-number h w {m = predefined k} e
+
+-- what was found, by the answer
+pub finds-predefined : {ds : List Definition} {m : Option Meaning} {r : Looked} {k : ℕ} → Finds ds m r → r ≡ looked.Predefined k → m ≡ some (predefined k)
+unfolding meaningFor
+finds-predefined {ds} h e = h .is ∙ ap (meaningFor (rows ds)) e
+
+pub finds-nothing : {ds : List Definition} {m : Option Meaning} {r : Looked} → Finds ds m r → r ≡ looked.Undefined → m ≡ none
+unfolding meaningFor
+finds-nothing {ds} h e = h .is ∙ ap (meaningFor (rows ds)) e
+
+pub finds-as : {ds : List Definition} {m : Option Meaning} {r q : Looked} → Finds ds m r → r ≡ q → Finds ds m q
+finds-as {ds} {m} h e = subst (Finds ds m) e h
 
 -- what a text that was found is, and that it is there
 pub finds-text : {ds : List Definition} {m : Option Meaning} {i : ℕ} → Finds ds m (looked.Text i) → m ≡ some (text (getD (rows ds) (2 * i + 1) []))
@@ -153,11 +224,12 @@ finds-within {ds = ds} d h = omega (arith, h .within, length-rows ds, string-cou
 
 -- a run begins with no definition and with every predefined name's own meaning
 pub fresh-in : (bytes : Bytes) (ends : List ℕ) → length bytes ≤ mostLent → length ends ≡ tableEndsLength → TableIn bytes ends (record { count = 0; used = 0 }) allOwn freshTable
-unfolding freshTable predefinedNames rows Plain endsFrom joined
+unfolding freshTable predefinedNames rows Sound endsFrom joined
 fresh-in bytes ends hb he = record {
   holds = record {
     packs = record { ends-are = refl; bytes-are = refl; count-in = omega arith; used-in = omega arith };
-    plain = tt;
+    sound = tt;
+    numbers = λ i l. absurd (not-suc-le-zero l);
     bytes-most = hb;
     ends-are = he;
   };

@@ -1,17 +1,20 @@
 -- Laws of a pass over the definitions that drops those of a name. Assumes nothing.
-use Rattle.rules.proofs.Base.{_≤_, _+_, ℕ, _-_, _<_, suc, _∙_, refl, sym, ap, _≡_, true, Bool, false, List, [], _++_, _∷_, append-assoc, append-nil, add-one, arith, length, drop, take, getD, length-append, length-drop, set, length-set, drop-drop, getD-drop, take-suc-set, drop-set-lt, take-append-seam, take-add, drop-append-seam}
+use Rattle.rules.proofs.Base.{_≤_, _+_, ℕ, _-_, _*_, _/_, _<_, suc, _∙_, refl, sym, ap, _≡_, true, Bool, false, List, [], _++_, _∷_, append-assoc, append-nil, add-one, arith, length, drop, take, getD, length-append, length-drop, set, length-set, drop-drop, getD-drop, take-suc-set, drop-set-lt, take-append-seam, take-add, drop-append-seam, not-suc-le-zero, ℕ-discrete, take-take, take-append-drop, drop-append-le, length-take-le, take-at}
 use Rattle.rules.specs.Bytes.{Bytes, sameBytes}
 use Rattle.rules.specs.Streams.{joined}
 use Rattle.rules.specs.Table.{Definition, Table, ownLost, without, undefined}
 use Rattle.expander.specs.Packed.{endsFrom, Packs, overlaid}
-use Rattle.expander.specs.Table.{meaningText, rows, Plain, DefinitionsIn, TableIn, unlessNamed, Sifted}
+use Rattle.expander.specs.Limits.{meaningsStart}
+use Rattle.expander.specs.Meanings.{numberAt, Put}
+use Rattle.expander.specs.Table.{meaningText, rows, meaningNumber, Sound, blank, DefinitionsIn, TableIn, unlessNamed, Sifted}
 use Rattle.expander.specs.declared.packed.Packed.{Packed}
-use Rattle.expander.proofs.Packing.{joined-append, ends-append, used-is, bytes-split, ends-split}
+use Rattle.expander.proofs.Packing.{joined-append, ends-append, length-ends, used-is, count-is, bytes-split, ends-split}
 use Rattle.expander.proofs.Overwriting.{part-length, length-overlaid, take-overlaid, drop-overlaid}
 use Rattle.expander.proofs.Rows.{string-count, length-rows}
-use Rattle.expander.proofs.Changing.{rows-append, holds-others}
+use Rattle.expander.proofs.MeaningLaws.{numbers-kept, packs-kept}
+use Rattle.expander.proofs.Changing.{Told, told-last, rows-append, few-strings, holds-others}
 use Rattle.expander.proofs.MaskLaws.{lost-less}
-use Rattle.expander.proofs.Parts.{drop-take, part-long}
+use Rattle.expander.proofs.Parts.{drop-take, drop-later, part-long}
 
 -- two parts one after the other
 two-parts : (l : List ℕ) (from middle end : ℕ) → from ≤ middle → middle ≤ end
@@ -110,6 +113,10 @@ pub record Sifting (w : Bytes) (ds : List Definition) (count : ℕ) (bytes : Byt
   pub used-behind : kept .used ≤ from
   pub from-in : from ≤ length bytes
   pub count-in : count ≤ length ends
+  pub count-few : count ≤ meaningsStart
+  pub half : k ≡ 2 * (k / 2)
+  pub done-told : Told ends done
+  pub rest-told : (i : ℕ) → i < length rest → numberAt ends (k / 2 + i) ≡ meaningNumber ((getD rest i blank) .meaning)
 
 pub sifting-begins : (w : Bytes) {bytes : Bytes} {ends : List ℕ} {p : Packed} {ds : List Definition} {count : ℕ} → p .count ≡ count → DefinitionsIn bytes ends p ds
     → Sifting w ds count bytes ends (record { count = 0; used = 0 }) 0 0
@@ -128,6 +135,10 @@ sifting-begins w {bytes} {ends} {p} {ds} e h = record {
   used-behind = omega arith;
   from-in = omega arith;
   count-in = omega (arith, h .packs .count-in);
+  count-few = omega (arith, few-strings h);
+  half = omega arith;
+  done-told = λ i l. absurd (not-suc-le-zero l);
+  rest-told = λ i l. ap (numberAt ends) (omega arith) ∙ h .numbers i l;
 }
 
 -- the definition that the pass comes to
@@ -193,15 +204,62 @@ module _ {w : Bytes} {ds : List Definition} {count : ℕ} {bytes : Bytes} {ends 
             left = omega (arith, h .left, ap (λ (l : List Definition). length (rows l)) e);
           }
 
-  pub sifting-ends : count ≤ k → Packs ends (kept .count) bytes (kept .used) (rows (without w ds))
+  pub sifting-ends : count ≤ k → Packs ends (kept .count) bytes (kept .used) (rows (without w ds)) × Told ends (without w ds)
   unfolding rows without
   sifting-ends le = go (h .rest) refl
     where
-      go : (r : List Definition) → h .rest ≡ r → Packs ends (kept .count) bytes (kept .used) (rows (without w ds))
+      go : (r : List Definition) → h .rest ≡ r → Packs ends (kept .count) bytes (kept .used) (rows (without w ds)) × Told ends (without w ds)
       go [] e =
           let f : without w ds ≡ h .done = h .so-far ∙ ap (λ (l : List Definition). h .done ++ without w l) e ∙ append-nil (h .done) in
-          rw f (h .packs)
+          rw f (h .packs, h .done-told)
       go (d ∷ rs) e = absurd (omega (arith, h .left, ap (λ (l : List Definition). length (rows l)) e))
+
+-- the byte of definition j has been put in the place of another
+pub put-both : {before after : List ℕ} (i j : ℕ) {x : ℕ} → x ≡ numberAt before j → Put before i x after → numberAt after i ≡ numberAt after j
+put-both {before} {after} i j {x} e p = p .same ∙ go (ℕ-discrete j i)
+  where
+    go : Dec (j ≡ i) → x ≡ numberAt after j
+    go (yes q) = sym (ap (numberAt after) q ∙ p .same)
+    go (no q) = e ∙ sym (p .others j q)
+
+-- the byte of the definition that the pass comes to has been put behind those kept
+pub sifting-put : {w : Bytes} {ds : List Definition} {count : ℕ} {bytes : Bytes} {ends : List ℕ} {kept : Packed} {k from : ℕ} → Sifting w ds count bytes ends kept k from
+    → {ends′ : List ℕ} {x : ℕ} → x ≡ numberAt ends (k / 2) → Put ends (kept .count / 2) x ends′ → length ends′ ≡ length ends → Sifting w ds count bytes ends′ kept k from
+sifting-put {count = count} {ends = ends} {kept = kept} {k = k} {from = from} h {ends′} {x} e p le =
+    let same : take count ends′ ≡ take count ends =
+    sym (take-take count meaningsStart ends′ (h .count-few)) ∙ ap (take count) (p .ends) ∙ take-take count meaningsStart ends (h .count-few) in
+    let long : (l : List ℕ) → count ≤ length l → drop k l ≡ drop k (take count l) ++ drop count l =
+    λ l c. ap (drop k) (sym (take-append-drop count l)) ∙ drop-append-le k (take count l) (drop count l) (omega (arith, length-take-le count l c, h .left)) in
+    let mine : drop k (take count ends) ≡ endsFrom from (rows (h .rest)) =
+    drop-take k count ends ∙ ap (take (count - k)) (h .ends-are) ∙ take-at (endsFrom from (rows (h .rest))) (h .free-ends) (count - k) (omega (arith, length-ends from (rows (h .rest)), h .left)) in
+    record {
+      done = h .done;
+      rest = h .rest;
+      so-far = h .so-far;
+      packs = packs-kept (p .ends) le (omega (arith, h .count-behind, h .left, h .count-few)) (h .packs);
+      free-ends = drop count ends′;
+      ends-are = long ends′ (omega (arith, h .count-in)) ∙ ap (λ (l : List ℕ). drop k l ++ drop count ends′) same ∙ ap (λ (l : List ℕ). l ++ drop count ends′) mine;
+      free-bytes = h .free-bytes;
+      bytes-are = h .bytes-are;
+      left = h .left;
+      count-behind = h .count-behind;
+      used-behind = h .used-behind;
+      from-in = h .from-in;
+      count-in = omega (arith, h .count-in);
+      count-few = h .count-few;
+      half = h .half;
+      done-told = λ i l. p .others i (λ q. omega (arith, q, l, done-count)) ∙ h .done-told i l;
+      rest-told = λ i l. go i (ℕ-discrete (k / 2 + i) (kept .count / 2)) ∙ h .rest-told i l;
+    }
+  where
+    done-count : 2 * length (h .done) ≡ kept .count
+    done-count = sym (length-rows (h .done)) ∙ count-is (h .packs)
+
+    go : (i : ℕ) → Dec (k / 2 + i ≡ kept .count / 2) → numberAt ends′ (k / 2 + i) ≡ numberAt ends (k / 2 + i)
+    go i (yes q) =
+        let z : k / 2 ≡ k / 2 + i = omega (arith, q, h .count-behind, done-count) in
+        ap (numberAt ends′) q ∙ p .same ∙ e ∙ ap (numberAt ends) z
+    go i (no q) = p .others _ q
 
 -- one definition of a list
 without-cons : (w : Bytes) (d : Definition) (ds : List Definition) → without w (d ∷ ds) ≡ without w (d ∷ []) ++ without w ds
@@ -221,15 +279,19 @@ rows-unless w d = go (sameBytes w (d .name))
     go true = refl
     go false = refl
 
-drop-later : (m n : ℕ) (a b : List ℕ) → m ≤ n → drop m a ≡ drop m b → drop n a ≡ drop n b
-drop-later m n a b le e =
-    let f : m + (n - m) ≡ n = omega arith in
-    ap (λ (i : ℕ). drop i a) (sym f) ∙ sym (drop-drop (n - m) m a) ∙ ap (drop (n - m)) e ∙ drop-drop (n - m) m b ∙ ap (λ (i : ℕ). drop i b) f
+-- the bytes of those kept, with that of one more unless it is of the name
+told-unless : (w : Bytes) (d : Definition) (ends : List ℕ) (ds : List Definition) → Told ends ds → numberAt ends (length ds) ≡ meaningNumber (d .meaning) → Told ends (ds ++ without w (d ∷ []))
+unfolding without
+told-unless w d ends ds f n = go (sameBytes w (d .name))
+  where
+    go : (t : Bool) → Told ends (ds ++ elim t as (λ _. List Definition) [ true ↦ [] | false ↦ d ∷ [] ])
+    go true = λ i l. f i (omega (arith, l, length-append ds [])) ∙ ap (λ (l : List Definition). meaningNumber ((getD l i blank) .meaning)) (sym (append-nil ds))
+    go false = told-last ends ds d f n
 
 pub sifting-on : {w : Bytes} {ds : List Definition} {count : ℕ} {bytes : Bytes} {ends : List ℕ} {kept : Packed} {k from middle end : ℕ}
     → Facing w ds count bytes ends kept k from middle end → {bytes′ : Bytes} {ends′ : List ℕ} {r : Packed} → Sifted w bytes ends kept from middle end bytes′ ends′ r
-    → length bytes′ ≡ length bytes → length ends′ ≡ length ends → Sifting w ds count bytes′ ends′ r (k + 2) end
-sifting-on {w} {ds} {bytes = bytes} {ends = ends} {kept = kept} {k = k} {from = from} {middle = middle} {end = end} f {bytes′} {ends′} {r} s lb le =
+    → numberAt ends (kept .count / 2) ≡ numberAt ends (k / 2) → length bytes′ ≡ length bytes → length ends′ ≡ length ends → Sifting w ds count bytes′ ends′ r (k + 2) end
+sifting-on {w} {ds} {bytes = bytes} {ends = ends} {kept = kept} {k = k} {from = from} {middle = middle} {end = end} f {bytes′} {ends′} {r} s both lb le =
     let h = f .at in
     let d = f .first in
     let one = without w (d ∷ []) in
@@ -253,21 +315,36 @@ sifting-on {w} {ds} {bytes = bytes} {ends = ends} {kept = kept} {k = k} {from = 
       used-behind = s .used-most;
       from-in = omega (arith, f .end-in);
       count-in = omega (arith, h .count-in);
+      count-few = h .count-few;
+      half = omega (arith, h .half);
+      done-told = told-unless w d ends′ (h .done) (λ i l. stay i ∙ h .done-told i l) (stay (length (h .done)) ∙ ap (numberAt ends) first-kept ∙ both ∙ mine);
+      rest-told = λ i l. stay ((k + 2) / 2 + i) ∙ ap (numberAt ends) (omega arith) ∙ h .rest-told (suc i) (omega (arith, l, ap length (f .rest-is))) ∙ ap (λ (l : List Definition). meaningNumber ((getD l (suc i) blank) .meaning)) (f .rest-is);
     }
-
-plain-without : (w : Bytes) (ds : List Definition) → Plain ds → Plain (without w ds)
-unfolding Plain without
-plain-without w [] p = p
-plain-without w (d ∷ ds) p = go (sameBytes w (d .name)) (plain-without w ds (p .2))
   where
-    go : (t : Bool) → Plain (without w ds) → Plain (elim t [ true ↦ without w ds | false ↦ d ∷ without w ds ])
+    stay : (i : ℕ) → numberAt ends′ i ≡ numberAt ends i
+    stay = numbers-kept (kept .count + 2) ends ends′ (s .ends-behind) (omega (arith, f .at .count-behind, f .left, f .at .count-few))
+
+    first-kept : length (f .at .done) ≡ kept .count / 2
+    first-kept = omega (arith, length-rows (f .at .done), count-is (f .at .packs))
+
+    mine : numberAt ends (k / 2) ≡ meaningNumber (f .first .meaning)
+    mine =
+        let z : k / 2 ≡ k / 2 + 0 = omega arith in
+        ap (numberAt ends) z ∙ f .at .rest-told 0 (omega (arith, ap length (f .rest-is))) ∙ ap (λ (l : List Definition). meaningNumber ((getD l 0 blank) .meaning)) (f .rest-is)
+
+sound-without : (w : Bytes) (ds : List Definition) → Sound ds → Sound (without w ds)
+unfolding Sound without
+sound-without w [] p = p
+sound-without w (d ∷ ds) p = go (sameBytes w (d .name)) (sound-without w ds (p .2))
+  where
+    go : (t : Bool) → Sound (without w ds) → Sound (elim t [ true ↦ without w ds | false ↦ d ∷ without w ds ])
     go true q = q
     go false q = (p .0, p .1, q)
 
 -- the definitions that are left, and the table that they are
 pub without-in : (w : Bytes) {bytes : Bytes} {ends : List ℕ} {p : Packed} {ds : List Definition} → DefinitionsIn bytes ends p ds → {bytes′ : Bytes} {ends′ : List ℕ} {r : Packed}
-    → length bytes′ ≡ length bytes → length ends′ ≡ length ends → Packs ends′ (r .count) bytes′ (r .used) (rows (without w ds)) → DefinitionsIn bytes′ ends′ r (without w ds)
-without-in w {ds = ds} h lb le k = holds-others h k (plain-without w ds (h .plain)) lb le
+    → length bytes′ ≡ length bytes → length ends′ ≡ length ends → Packs ends′ (r .count) bytes′ (r .used) (rows (without w ds)) → Told ends′ (without w ds) → DefinitionsIn bytes′ ends′ r (without w ds)
+without-in w {ds = ds} h lb le k f = holds-others h k (sound-without w ds (h .sound)) refl f lb le refl
 
 pub undefined-in : (w : Bytes) {bytes : Bytes} {ends : List ℕ} {p : Packed} {own : ℕ} {t : Table} → TableIn bytes ends p own t → {bytes′ : Bytes} {ends′ : List ℕ} {r : Packed} {lost : ℕ}
     → DefinitionsIn bytes′ ends′ r (without w (t .definitions)) → lost ≡ ownLost w own → TableIn bytes′ ends′ r lost (undefined w t)

@@ -1,9 +1,11 @@
 -- Laws of packed strings some of which give way to others in their place. Assumes nothing.
-use Rattle.rules.proofs.Base.{_≤_, _+_, ℕ, _-_, _<_, suc, _^_, _∙_, refl, sym, ap, _≡_, List, [], _++_, _∷_, append-assoc, map, add-one, arith, length, drop, take, getD, length-append, length-drop, set, length-take, take-append-drop, length-take-le, drop-cons, getD-take, take-append-le, drop-at, set-split, take-take, drop-append-le}
+use Rattle.rules.proofs.Base.{_≤_, _+_, ℕ, _-_, _<_, suc, _^_, _∙_, refl, sym, ap, _≡_, _⊎_, inl, inr, List, [], _++_, _∷_, append-assoc, map, add-one, decLt, arith, length, drop, take, getD, length-append, length-drop, set, length-set, length-take, take-append-drop, length-take-le, drop-cons, getD-take, take-append-le, drop-at, getD-set-same, getD-set-other, take-set-le, set-getD, set-split, take-take, drop-append-le}
 use Rattle.rules.specs.Bytes.{Bytes}
 use Rattle.rules.specs.Streams.{joined}
 use Rattle.expander.specs.Packed.{endsFrom, Packs, startOf, overlaid, rebased}
-use Rattle.expander.proofs.Packing.{joined-append, joined-one, ends-append, drop-ends, packs, count-is, used-is, start-is, start-next, start-in, front}
+use Rattle.expander.proofs.Overwriting.{length-overlaid, take-overlaid, drop-overlaid, mapped-length}
+use Rattle.expander.proofs.Parts.{drop-take}
+use Rattle.expander.proofs.Packing.{joined-append, joined-one, ends-append, drop-ends, packs, count-is, used-is, start-is, start-next, start-in, front, Lies, lies}
 
 -- ends that start elsewhere
 rebased-ends : (at less more : ℕ) (ss : List Bytes) → map (rebased less more) (endsFrom (at + less) ss) ≡ endsFrom (at + more) ss
@@ -14,6 +16,13 @@ rebased-ends at less more (s ∷ ss) =
     let f : at + length s + less - less + more ≡ at + length s + more = omega arith in
     let g : at + more + length s ≡ at + length s + more = omega arith in
     rw (e, f, g, rebased-ends (at + length s) less more ss)
+
+-- ends that were moved: what stands behind them is as it was
+pub ends-behind : (f : ℕ → ℕ) (ends : List ℕ) (to from count : ℕ) {ends′ : List ℕ} → to ≤ from → from ≤ count → count ≤ length ends
+    → ends′ ≡ overlaid to (map f (drop from (take count ends))) ends → drop count ends′ ≡ drop count ends
+ends-behind f ends to from count tf fc cl e =
+    let long = mapped-length f ends from count cl in
+    ap (drop count) e ∙ drop-overlaid to (map f (drop from (take count ends))) ends count (omega (arith, long)) (omega (arith, long))
 
 pub packs-as : {ends : List ℕ} {count : ℕ} {bytes : Bytes} {used : ℕ} {ss : List Bytes} → Packs ends count bytes used ss
     → {count′ used′ : ℕ} → count ≡ count′ → used ≡ used′ → Packs ends count′ bytes used′ ss
@@ -177,3 +186,87 @@ module _ {ends : List ℕ} {count : ℕ} {bytes : Bytes} {used : ℕ} {ss : List
 pub written-at : {ends : List ℕ} {count : ℕ} {used : ℕ} {ss : List Bytes} (starts : List ℕ) (k a : ℕ) (s bytes : Bytes) {bytes′ : Bytes} → Packs ends count (overlaid (startOf starts k) s bytes) used ss
     → a ≡ startOf starts k → bytes′ ≡ overlaid a s bytes → Packs ends count bytes′ used ss
 written-at starts k a s bytes h ea eb = rw (eb, ea) h
+
+-- string k once more, behind the strings
+pub copied-behind : {ends : List ℕ} {count : ℕ} {bytes : Bytes} {used : ℕ} {ss : List Bytes} → Packs ends count bytes used ss
+    → (k a e used′ : ℕ) {bytes′ : Bytes} → k < count → a ≡ startOf ends k → e ≡ startOf ends (k + 1) → used′ ≡ used
+    → bytes′ ≡ overlaid used (drop a (take e bytes)) bytes → take (used′ + (e - a)) bytes′ ≡ take used′ bytes ++ getD ss k []
+copied-behind {bytes = bytes} {used = used} {ss = ss} h k a e used′ {bytes′} lt ea ee eu eb =
+    let x = getD ss k [] in
+    let l = lies h k a e lt ea ee in
+    let part : drop a (take e bytes) ≡ x = drop-take a e bytes ∙ l .is in
+    let n : used′ + (e - a) ≡ used + length x = omega (arith, l .long) in
+    ap (λ (i : ℕ). take i bytes′) n
+    ∙ ap (take (used + length x)) (eb ∙ ap (λ (y : Bytes). overlaid used y bytes) part)
+    ∙ take-overlaid used x bytes (h .used-in)
+    ∙ ap (λ (i : ℕ). take i bytes ++ x) (sym eu)
+
+-- a part before what is written, or behind it, is as it was
+apart : (at : ℕ) (x l : List ℕ) (from end : ℕ) {p q r s : ℕ} → at + length x ≤ length l → p ≡ end → q ≡ at → r ≡ at + length x → s ≡ from → (p ≤ q) ⊎ (r ≤ s)
+    → drop from (take end l) ≡ drop from (take end (overlaid at x l))
+unfolding overlaid
+apart at x l from end room ep eq er es (inl before) =
+    ap (drop from)
+    (sym
+    (take-append-le end (take at l) (x ++ drop (at + length x) l) (omega (arith, length-take-le at l (omega arith)))
+    ∙ take-take end at l (omega arith)))
+apart at x l from end room ep eq er es (inr behind) =
+    drop-take from end l ∙ ap (take (end - from)) (sym (drop-overlaid at x l from room (omega arith))) ∙ sym (drop-take from end (overlaid at x l))
+
+-- of two strings one ends before the other starts
+sides : {ends : List ℕ} {count : ℕ} {bytes : Bytes} {used : ℕ} {ss : List Bytes} → Packs ends count bytes used ss
+    → (k m : ℕ) → k < count → m < count → (k ≡ m → ⊥) → (startOf ends (suc m) ≤ startOf ends k) ⊎ (startOf ends (suc k) ≤ startOf ends m)
+sides {ends} h k m lk lm ne = go (decLt m k)
+  where
+    go : Dec (m < k) → (startOf ends (suc m) ≤ startOf ends k) ⊎ (startOf ends (suc k) ≤ startOf ends m)
+    go (yes p) = inl (start-order h (suc m) k p (omega arith))
+    go (no p) = inr (start-order h (suc k) m (omega arith) (omega arith))
+
+-- string k has room for what string `from` is, which is still to be copied: the place, and where string `from` lies now
+pub record Copies (starts : List ℕ) (k : ℕ) (bytes : Bytes) (to moved n : ℕ) (x : Bytes) : Type 0 where
+  pub place : to ≡ startOf starts k
+  pub room : to + n ≤ length bytes
+  pub within : moved + n ≤ length bytes
+  pub is : drop moved (take (moved + n) bytes) ≡ x
+
+pub copies : {ends : List ℕ} {count : ℕ} {bytes : Bytes} {used : ℕ} {ss : List Bytes} → Packs ends count bytes used ss
+    → (k from a e : ℕ) → k < count → from < count → (k ≡ from → ⊥) → a ≡ startOf ends from → e ≡ startOf ends (from + 1)
+    → used + length (getD ss from []) ≤ length bytes + length (getD ss k [])
+    → {ends′ : List ℕ} {count′ : ℕ} (bytes′ : Bytes) {used′ : ℕ}
+    → Packs ends′ count′ (overlaid (startOf ends k) (getD ss from []) bytes′) used′ (set ss k (getD ss from [])) → length bytes′ ≡ length bytes
+    → (to moved : ℕ) → to ≡ startOf ends′ k → moved ≡ startOf ends′ from → Copies ends k bytes′ to moved (e - a) (getD ss from [])
+copies {ends} {count} {bytes} {used} {ss} h k from a e lk lf ne ea ee fits {ends′} {count′} bytes′ g same to moved et em =
+    let x = getD ss from [] in
+    let at = startOf ends k in
+    let n : e - a ≡ length x = lies h from a e lf ea ee .long in
+    let counts : count′ ≡ count = sym (count-is g) ∙ length-set ss k x ∙ count-is h in
+    let stays : startOf ends′ k ≡ at =
+    start-is g k (omega arith) ∙ ap (λ (l : List Bytes). length (joined l)) (take-set-le k ss k x (omega arith)) ∙ sym (start-is h k (omega arith)) in
+    let there : at + length x ≤ length bytes′ = omega (arith, place-room h k at (length x) lk refl fits) in
+    let source : getD (set ss k x) from [] ≡ x = getD-set-other ss k from x [] (λ (q : from ≡ k). ne (sym q)) in
+    let target : getD (set ss k x) k [] ≡ x = getD-set-same ss k x [] (omega (arith, count-is h)) in
+    let end : startOf ends′ (suc from) ≡ moved + (e - a) = omega (arith, start-next g from (omega arith), ap length source) in
+    let next : startOf ends′ (suc k) ≡ at + length x = omega (arith, start-next g k (omega arith), ap length target) in
+    let l = lies g from moved (moved + (e - a)) (omega arith) em (sym (ap (startOf ends′) (add-one from) ∙ end)) in
+    record {
+      place = et ∙ stays;
+      room = omega arith;
+      within = omega (arith, l .within, length-overlaid at x bytes′ there);
+      is =
+          apart at x bytes′ moved (moved + (e - a)) there end stays next (sym em) (sides g k from (omega arith) (omega arith) ne)
+          ∙ drop-take moved (moved + (e - a)) (overlaid at x bytes′)
+          ∙ l .is
+          ∙ source;
+    }
+
+-- and is copied
+pub copied-over : {ends starts : List ℕ} {count k : ℕ} {bytes bytes′ : Bytes} {used to moved n : ℕ} {ss : List Bytes} {x : Bytes}
+    → Packs ends count (overlaid (startOf starts k) x bytes) used ss → Copies starts k bytes to moved n x
+    → bytes′ ≡ overlaid to (drop moved (take (moved + n) bytes)) bytes → Packs ends count bytes′ used ss
+copied-over {starts = starts} {k = k} {bytes = bytes} {to = to} {x = x} g c eb =
+    written-at starts k to x bytes g (c .place) (eb ∙ ap (λ (y : Bytes). overlaid to y bytes) (c .is))
+
+-- string k becomes what it is
+pub copied-same : {ends : List ℕ} {count : ℕ} {bytes : Bytes} {used : ℕ} {ss : List Bytes} → Packs ends count bytes used ss
+    → (k from : ℕ) → k ≡ from → Packs ends count bytes used (set ss k (getD ss from []))
+copied-same {ss = ss} h k from e = rw (← e, set-getD ss k []) h

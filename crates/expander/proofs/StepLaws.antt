@@ -242,9 +242,9 @@ module _ {ds : List Definition} {o : Option Meaning} {r : Looked} (f : Finds ds 
       pub used-bare : plainUnopened r ≡ false → usedWith o t ≡ bare (k .meaning)
       used-bare p = used-unopened ∙ rw p
 
-pub not-third : {k : ℕ} → (k ≡ 0) ⊎ (k ≡ 1) → k ≡ 2 → ⊥
-not-third (inl e) f = omega arith
-not-third (inr e) f = omega arith
+pub not-second : {k : ℕ} → (k ≡ 0) ⊎ (k ≡ 2) → k ≡ 1 → ⊥
+not-second (inl e) f = omega arith
+not-second (inr e) f = omega arith
 
 -- ---- the end
 

@@ -10,6 +10,7 @@ pub mod Front
 pub mod Giving
 pub mod Limits
 pub mod Machine
+pub mod Meanings
 pub mod Packed
 pub mod Results
 pub mod Run

@@ -1,5 +1,5 @@
 -- The bounds of a run, and the lengths of the links that follow from them, as src/limits.rt has them for the code.
-use Prim.Native.Nat.{ℕ, _+_, _-_, _*_, _^_}
+use Prim.Native.Nat.{ℕ, _+_, _-_, _*_, _/_, _^_}
 -- bytes of the text, and of a buffer that is lent
 pub use Rattle.rules.specs.Run.{mostLent}
 -- open calls, and arguments over all of them
@@ -18,6 +18,9 @@ callEndsLength = mostCalls + mostArguments
 abbrev pub stackLength : ℕ
 stackLength = 3 * mostCalls
 
--- the ends of name and text for each definition, which has a byte at least
+-- the ends of name and text for each definition, which has a byte at least, and behind them its meaning, of four definitions in a word
+abbrev pub meaningsStart : ℕ
+meaningsStart = 2 * mostLent
+
 abbrev pub tableEndsLength : ℕ
-tableEndsLength = 2 * mostLent
+tableEndsLength = meaningsStart + mostLent / 4

@@ -8,6 +8,7 @@ use lib.ListN.{length, take, drop, getD}
 use Rattle.rules.specs.Bytes.{Bytes, sameBytes}
 use Rattle.rules.specs.Table.{Meaning, text, predefined, needsParenthesis, Definition, Table}
 use Rattle.expander.specs.Limits.{mostLent, macroCount, tableEndsLength}
+use Rattle.expander.specs.Meanings.{numberAt}
 use Rattle.expander.specs.Packed.{Packs}
 use Rattle.expander.specs.declared.packed.Packed.{Packed}
 use Rattle.expander.specs.declared.table.Found.{Found}
@@ -25,15 +26,36 @@ unfoldable pub rows : List Definition → List Bytes
 rows [] = []
 rows (d ∷ ds) = d .name ∷ (meaningText (d .meaning) ∷ rows ds)
 
--- every name has a byte at least, and every meaning is a text (for now)
-unfoldable pub Plain : List Definition → Type 0
-Plain [] = Unit {0}
-Plain (d ∷ ds) = (0 < length (d .name)) × (d .meaning ≡ text (meaningText (d .meaning))) × Plain ds
+-- the byte beside a definition: 0 for a text, else the predefined number
+unfoldable pub meaningNumber : Meaning → ℕ
+meaningNumber (text x) = 0
+meaningNumber (predefined k) = k
 
--- buffer 3 and the ends beside it hold the definitions
+-- a predefined meaning can be told from a text
+unfoldable pub Numbered : Meaning → Type 0
+Numbered (text x) = Unit {0}
+Numbered (predefined k) = 0 < k
+
+-- a meaning by its text and its byte
+pub record Means (m : Meaning) (x : Bytes) (k : ℕ) : Type 0 where
+  pub text-is : meaningText m ≡ x
+  pub number-is : meaningNumber m ≡ k
+  pub numbered : Numbered m
+
+-- every name has a byte at least, and every meaning is told by its byte
+unfoldable pub Sound : List Definition → Type 0
+Sound [] = Unit {0}
+Sound (d ∷ ds) = (0 < length (d .name)) × Numbered (d .meaning) × Sound ds
+
+-- what stands past the last definition
+unfoldable pub blank : Definition
+blank = record { name = []; meaning = text [] }
+
+-- buffer 3, and beside it the ends and the bytes of the meanings, hold the definitions
 pub record DefinitionsIn (bytes : Bytes) (ends : List ℕ) (p : Packed) (ds : List Definition) : Type 0 where
   pub packs : Packs ends (p .count) bytes (p .used) (rows ds)
-  pub plain : Plain ds
+  pub sound : Sound ds
+  pub numbers : (i : ℕ) → i < length ds → numberAt ends i ≡ meaningNumber ((getD ds i blank) .meaning)
   pub bytes-most : length bytes ≤ mostLent
   pub ends-are : length ends ≡ tableEndsLength
 

@@ -19,6 +19,7 @@ mod lists;
 mod machine;
 mod macros;
 mod marks;
+mod meanings;
 mod names;
 mod number_results;
 mod packed;

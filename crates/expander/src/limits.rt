@@ -13,11 +13,13 @@ pub(crate) const CALL_ENDS: usize = MOST_CALLS + MOST_ARGUMENTS;
 
 pub(crate) const STACK: usize = 3 * MOST_CALLS;
 
-// The ends of name and text for each definition, which has a byte at least.
-pub(crate) const TABLE_ENDS: usize = 2 * MOST_LENT;
+// The ends of name and text for each definition, which has a byte at least, and behind them its meaning, of four definitions in a word.
+pub(crate) const MEANINGS: usize = 2 * MOST_LENT;
+
+pub(crate) const TABLE_ENDS: usize = MEANINGS + MOST_LENT / 4;
 
 // The predefined macros, and the mask in which each keeps its own meaning.
-const MACROS: u32 = 26;
+const MACROS: u32 = 27;
 
 pub(crate) const ALL_OWN: u32 = (1 << MACROS) - 1;
 

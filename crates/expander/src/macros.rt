@@ -188,6 +188,7 @@ pub(crate) fn perform(
             m,
             including::give_contents(set, pending, calls, ends, m.source, x, false),
         ),
+        ChangeMacro::Copydef => defining::copydef(calls, ends, definitions, table_ends, m, x),
         ChangeMacro::None => m.refused(Answer::Gone),
     }
 }

@@ -47,13 +47,13 @@ pub(crate) fn meaning_ahead(
     let packed = m.table.packed;
     let own = m.table.own;
     let have = pending.len() - from;
-    if n <= have {
-        let to = from + n;
-        return table::look_up(definitions, table_ends, packed, own, &pending[from..to]);
-    }
     if have == 0 {
         let to = taken + n;
         return table::look_up(definitions, table_ends, packed, own, &text[taken..to]);
+    }
+    if n <= have {
+        let to = from + n;
+        return table::look_up(definitions, table_ends, packed, own, &pending[from..to]);
     }
     if scratch.len() < n {
         return Meaning::Undefined;

@@ -105,7 +105,7 @@ impl Packed {
     fn push_empty(self, ends: &mut [u32]) -> Packed
         requires { ⌜ (self .count < length (now ends)) × (self .used < 2 ^ 32) ⌝ }
         ensures { λ r. ⌜ ((bytes : Bytes) (ss : List Bytes) → Packs (now (ends .entry)) (self .count) bytes (self .used) ss → Packs (now (ends .exit)) (r .count) bytes (r .used) (ss ++ ([] ∷ []))) ⌝ }
-        ensures { λ r. ⌜ (r .count ≡ self .count + 1) × (r .used ≡ self .used) ⌝ }
+        ensures { λ r. ⌜ (r .count ≡ self .count + 1) × (r .used ≡ self .used) × (drop (self .count + 1) (now (ends .exit)) ≡ drop (self .count + 1) (now (ends .entry))) ⌝ }
     {
         let count = self.count;
         let used = self.used;
@@ -118,7 +118,7 @@ impl Packed {
     fn grow_last(self, ends: &mut [u32], n: usize) -> Packed
         requires { ⌜ (0 < self .count) × (self .count ≤ length (now ends)) × (self .used + n < 2 ^ 32) ⌝ }
         ensures { λ r. ⌜ ((before bytes : Bytes) (ss : List Bytes) (s : Bytes) → Packs (now (ends .entry)) (self .count) before (self .used) ss → length s ≡ n → take (self .used + n) bytes ≡ take (self .used) before ++ s → Packs (now (ends .exit)) (r .count) bytes (r .used) (lastMore ss s)) ⌝ }
-        ensures { λ r. ⌜ (r .count ≡ self .count) × (r .used ≡ self .used + n) ⌝ }
+        ensures { λ r. ⌜ (r .count ≡ self .count) × (r .used ≡ self .used + n) × (drop (self .count) (now (ends .exit)) ≡ drop (self .count) (now (ends .entry))) ⌝ }
     {
         let count = self.count;
         let more = self.used + n;
@@ -131,7 +131,7 @@ impl Packed {
         requires { ⌜ (0 < self .count) × (self .count ≤ length (now ends)) ⌝ }
         requires { ⌜ (self .used + length (now s) ≤ length (now bytes)) × (length (now bytes) < 2 ^ 32) ⌝ }
         ensures { λ r. ⌜ ((ss : List Bytes) → Packs (now (ends .entry)) (self .count) (now (bytes .entry)) (self .used) ss → Packs (now (ends .exit)) (r .count) (now (bytes .exit)) (r .used) (lastMore ss (now (s .entry)))) ⌝ }
-        ensures { λ r. ⌜ (r .count ≡ self .count) × (r .used ≡ self .used + length (now (s .entry))) ⌝ }
+        ensures { λ r. ⌜ (r .count ≡ self .count) × (r .used ≡ self .used + length (now (s .entry))) × (drop (self .count) (now (ends .exit)) ≡ drop (self .count) (now (ends .entry))) ⌝ }
     {
         buffers::fill_slice(s, bytes, self.used);
         self.grow_last(ends, s.len())
@@ -142,7 +142,7 @@ impl Packed {
         requires { ⌜ self .count < length (now ends) ⌝ }
         requires { ⌜ (self .used + length (now s) ≤ length (now bytes)) × (length (now bytes) < 2 ^ 32) ⌝ }
         ensures { λ r. ⌜ ((ss : List Bytes) → Packs (now (ends .entry)) (self .count) (now (bytes .entry)) (self .used) ss → Packs (now (ends .exit)) (r .count) (now (bytes .exit)) (r .used) (ss ++ (now (s .entry) ∷ []))) ⌝ }
-        ensures { λ r. ⌜ (r .count ≡ self .count + 1) × (r .used ≡ self .used + length (now (s .entry))) ⌝ }
+        ensures { λ r. ⌜ (r .count ≡ self .count + 1) × (r .used ≡ self .used + length (now (s .entry))) × (drop (self .count + 1) (now (ends .exit)) ≡ drop (self .count + 1) (now (ends .entry))) ⌝ }
     {
         let more = self.push_empty(ends);
         more.push_slice(bytes, ends, s)
@@ -153,6 +153,7 @@ impl Packed {
         requires { ⌜ Formed (now ends) (self .count) (now bytes) (self .used) ⌝ }
         requires { ⌜ (k + 2 ≤ self .count) × (length (now bytes) < 2 ^ 32) ⌝ }
         ensures { λ r. ⌜ ((ss : List Bytes) → Packs (now (ends .entry)) (self .count) (now (bytes .entry)) (self .used) ss → Packs (now (ends .exit)) (r .count) (now (bytes .exit)) (r .used) (take k ss ++ drop (k + 2) ss)) ⌝ }
+        ensures { λ _. ⌜ drop (self .count) (now (ends .exit)) ≡ drop (self .count) (now (ends .entry)) ⌝ }
     {
         let count = self.count;
         let used = self.used;
@@ -175,6 +176,7 @@ impl Packed {
         requires { ⌜ (k < self .count) × (length (now bytes) < 2 ^ 32) ⌝ }
         requires { ⌜ ((ss : List Bytes) → Packs (now ends) (self .count) (now bytes) (self .used) ss → self .used + n ≤ length (now bytes) + length (getD ss k [])) ⌝ }
         ensures { λ r. ⌜ ((ss : List Bytes) (s : Bytes) → Packs (now (ends .entry)) (self .count) (now (bytes .entry)) (self .used) ss → length s ≡ n → Packs (now (ends .exit)) (r .count) (overlaid (startOf (now (ends .entry)) k) s (now (bytes .exit))) (r .used) (set ss k s)) ⌝ }
+        ensures { λ _. ⌜ drop (self .count) (now (ends .exit)) ≡ drop (self .count) (now (ends .entry)) ⌝ }
     {
         let count = self.count;
         let used = self.used;
@@ -197,10 +199,54 @@ impl Packed {
         requires { ⌜ (k < self .count) × (length (now bytes) < 2 ^ 32) ⌝ }
         requires { ⌜ ((ss : List Bytes) → Packs (now ends) (self .count) (now bytes) (self .used) ss → self .used + length (now s) ≤ length (now bytes) + length (getD ss k [])) ⌝ }
         ensures { λ r. ⌜ ((ss : List Bytes) → Packs (now (ends .entry)) (self .count) (now (bytes .entry)) (self .used) ss → Packs (now (ends .exit)) (r .count) (now (bytes .exit)) (r .used) (set ss k (now (s .entry)))) ⌝ }
+        ensures { λ _. ⌜ drop (self .count) (now (ends .exit)) ≡ drop (self .count) (now (ends .entry)) ⌝ }
     {
         let a = start(ends, k);
         let sized = self.resize(bytes, ends, k, s.len());
         buffers::fill_slice(s, bytes, a);
         sized
+    }
+
+    // String k becomes what string `from` is, in its place.
+    pub(crate) fn copy_over(
+        self,
+        bytes: &mut [u8],
+        ends: &mut [u32],
+        k: usize,
+        from: usize,
+    ) -> Packed
+        requires { ⌜ Formed (now ends) (self .count) (now bytes) (self .used) ⌝ }
+        requires { ⌜ (k < self .count) × (from < self .count) × (length (now bytes) < 2 ^ 32) ⌝ }
+        requires { ⌜ ((ss : List Bytes) → Packs (now ends) (self .count) (now bytes) (self .used) ss → self .used + length (getD ss from []) ≤ length (now bytes) + length (getD ss k [])) ⌝ }
+        ensures { λ r. ⌜ ((ss : List Bytes) → Packs (now (ends .entry)) (self .count) (now (bytes .entry)) (self .used) ss → Packs (now (ends .exit)) (r .count) (now (bytes .exit)) (r .used) (set ss k (getD ss from []))) ⌝ }
+        ensures { λ _. ⌜ drop (self .count) (now (ends .exit)) ≡ drop (self .count) (now (ends .entry)) ⌝ }
+    {
+        if k == from {
+            return self;
+        }
+        let a = start(ends, from);
+        let e = start(ends, from + 1);
+        let n = e - a;
+        let sized = self.resize(bytes, ends, k, n);
+        let to = start(ends, k);
+        let moved = start(ends, from);
+        move_bytes(bytes, to, moved, moved + n);
+        sized
+    }
+
+    // A new string, what string k is.
+    pub(crate) fn push_copy(self, bytes: &mut [u8], ends: &mut [u32], k: usize) -> Packed
+        requires { ⌜ Formed (now ends) (self .count) (now bytes) (self .used) ⌝ }
+        requires { ⌜ (k < self .count) × (self .count < length (now ends)) × (length (now bytes) < 2 ^ 32) ⌝ }
+        requires { ⌜ ((ss : List Bytes) → Packs (now ends) (self .count) (now bytes) (self .used) ss → self .used + length (getD ss k []) ≤ length (now bytes)) ⌝ }
+        ensures { λ r. ⌜ ((ss : List Bytes) → Packs (now (ends .entry)) (self .count) (now (bytes .entry)) (self .used) ss → Packs (now (ends .exit)) (r .count) (now (bytes .exit)) (r .used) (ss ++ (getD ss k [] ∷ []))) ⌝ }
+        ensures { λ _. ⌜ drop (self .count + 1) (now (ends .exit)) ≡ drop (self .count + 1) (now (ends .entry)) ⌝ }
+    {
+        let a = start(ends, k);
+        let e = start(ends, k + 1);
+        let n = e - a;
+        move_bytes(bytes, self.used, a, e);
+        let more = self.push_empty(ends);
+        more.grow_last(ends, n)
     }
 }

@@ -1,14 +1,15 @@
-// The definitions in force: name and text by turns as packed strings of buffer 3, in order of arrival, and a mask with a bit for
-// each predefined name that keeps its own meaning.
+// The definitions in force: name and text by turns as packed strings of buffer 3, in order of arrival, with a byte for each that says whether it is a
+// text or a predefined meaning, and a mask with a bit for each predefined name that keeps its own meaning.
+use crate::meanings;
 use crate::packed;
 use crate::packed::Packed;
 ghost use mathlib.Core.Path.{_≡_};
 ghost use mathlib.Core.List.{List, [], _∷_};
-ghost use Prim.Native.Nat.{_+_, _^_, _≤_, _<_};
+ghost use Prim.Native.Nat.{_+_, _*_, _^_, _≤_, _<_};
 ghost use lib.ListN.{length, take, drop, getD};
 ghost use Rattle.rules.specs.Bytes.{Bytes};
-ghost use Rattle.rules.specs.Table.{Definition, Table, keepsOwn, ownMeaning, ownLost, newestPlace, meaningOf, text, pushed, defined, popped, without, undefined, tableCost};
-ghost use Rattle.expander.specs.Table.{DefinitionsIn, ValidDefinitions, TableIn, placeOf, Finds, Sifted};
+ghost use Rattle.rules.specs.Table.{Meaning as Defined, Definition, Table, keepsOwn, ownMeaning, ownLost, newestPlace, meaningOf, text, pushed, defined, popped, without, undefined, tableCost};
+ghost use Rattle.expander.specs.Table.{rows, Means, DefinitionsIn, ValidDefinitions, TableIn, placeOf, Finds, Sifted};
 ghost use Rattle.expander.specs.Limits.{macroCount};
 
 // The place of a definition, in order of arrival.
@@ -17,11 +18,11 @@ pub(crate) enum Found {
     Nowhere,
 }
 
-// What a name means: the text of the definition at a place, or the predefined macro of a number.
+// What a name means: the predefined macro of a number, nothing, or the text of the definition at a place. (In this order the run's loop came out cheapest.)
 pub(crate) enum Meaning {
-    Text(usize),
     Predefined(u8),
     Undefined,
+    Text(usize),
 }
 
 // A table: its packed strings and its mask.
@@ -87,14 +88,20 @@ pub(crate) fn newest(bytes: &[u8], ends: &[u32], packed: Packed, name: &[u8]) ->
     Found::Nowhere
 }
 
-// What a name means: its newest definition, else its own meaning.
+// What a name means: its newest definition, a text or a predefined meaning, else its own meaning.
 pub(crate) fn look_up(bytes: &[u8], ends: &[u32], packed: Packed, own: u32, name: &[u8]) -> Meaning
     requires { ⌜ ValidDefinitions (now bytes) (now ends) packed ⌝ }
     ensures { λ r. ⌜ ((t : Table) → TableIn (now (bytes .entry)) (now (ends .entry)) packed own t → Finds (t .definitions) (meaningOf (now (name .entry)) t) r) ⌝ }
 {
     let place = newest(bytes, ends, packed, name);
     match place {
-        Found::At(i) => Meaning::Text(i),
+        Found::At(i) => {
+            let number = meanings::number_at(ends, i);
+            if number == 0 {
+                return Meaning::Text(i);
+            }
+            Meaning::Predefined(number)
+        }
         Found::Nowhere => own_meaning(own, name),
     }
 }
@@ -157,7 +164,8 @@ impl Packed {
         }
     }
 
-    // Without the definitions of a name: one pass, in which what is kept moves down.
+    // Without the definitions of a name: one pass, in which what is kept moves down. The byte of each goes to the place that it has if it is kept; that
+    // place is free where it is not.
     fn drop_named(self, bytes: &mut [u8], ends: &mut [u32], name: &[u8]) -> Packed
         requires { ⌜ ValidDefinitions (now bytes) (now ends) self ⌝ }
         ensures { λ r. ⌜ ((ds : List Definition) → DefinitionsIn (now (bytes .entry)) (now (ends .entry)) self ds → DefinitionsIn (now (bytes .exit)) (now (ends .exit)) r (without (now (name .entry)) ds)) ⌝ }
@@ -167,6 +175,8 @@ impl Packed {
         let mut k = 0;
         let mut from = 0;
         while k < count {
+            let number = meanings::number_at(ends, k / 2);
+            meanings::put(ends, kept.count / 2, number);
             let next = k + 1;
             let middle = ends[k] as usize;
             let end = ends[next] as usize;
@@ -179,28 +189,30 @@ impl Packed {
 }
 
 impl Definitions {
-    // A new definition, which arrives last.
+    // A new definition, which arrives last: a text, with the number 0, or a predefined meaning, without a text.
     pub(crate) fn push(
         self,
         bytes: &mut [u8],
         ends: &mut [u32],
         name: &[u8],
         body: &[u8],
+        number: u8,
     ) -> Definitions
         requires { ⌜ ValidDefinitions (now bytes) (now ends) (self .packed) ⌝ }
         requires { ⌜ 0 < length (now name) ⌝ }
         requires { ⌜ self .packed .used + (length (now name) + length (now body)) ≤ length (now bytes) ⌝ }
-        ensures { λ r. ⌜ ((t : Table) → TableIn (now (bytes .entry)) (now (ends .entry)) (self .packed) (self .own) t → TableIn (now (bytes .exit)) (now (ends .exit)) (r .packed) (r .own) (pushed (now (name .entry)) (text (now (body .entry))) t)) ⌝ }
+        ensures { λ r. ⌜ ((t : Table) (m : Defined) → Means m (now (body .entry)) number → TableIn (now (bytes .entry)) (now (ends .entry)) (self .packed) (self .own) t → TableIn (now (bytes .exit)) (now (ends .exit)) (r .packed) (r .own) (pushed (now (name .entry)) m t)) ⌝ }
     {
+        let own = self.own;
+        let place = self.packed.count / 2;
         let named = self.packed.push_string(bytes, ends, name);
         let packed = named.push_string(bytes, ends, body);
-        Definitions {
-            packed,
-            own: self.own,
-        }
+        meanings::put(ends, place, number);
+        Definitions { packed, own }
     }
 
-    // A name means another text: its newest definition, at `place`, keeps its place, else a new one arrives last.
+    // A name gets a text, with the number 0, or a predefined meaning, without a text: its newest definition, at `place`, is replaced in its place, else a
+    // new one arrives last.
     pub(crate) fn define_at(
         self,
         bytes: &mut [u8],
@@ -208,25 +220,62 @@ impl Definitions {
         place: Found,
         name: &[u8],
         body: &[u8],
+        number: u8,
     ) -> Definitions
         requires { ⌜ ValidDefinitions (now bytes) (now ends) (self .packed) ⌝ }
         requires { ⌜ ((ds : List Definition) → DefinitionsIn (now bytes) (now ends) (self .packed) ds → newestPlace (now name) ds ≡ placeOf place) ⌝ }
         requires { ⌜ 0 < length (now name) ⌝ }
         requires { ⌜ ((t : Table) → DefinitionsIn (now bytes) (now ends) (self .packed) (t .definitions) → tableCost ((defined (now name) (text (now body)) t) .definitions) ≤ length (now bytes)) ⌝ }
-        ensures { λ r. ⌜ ((t : Table) → TableIn (now (bytes .entry)) (now (ends .entry)) (self .packed) (self .own) t → TableIn (now (bytes .exit)) (now (ends .exit)) (r .packed) (r .own) (defined (now (name .entry)) (text (now (body .entry))) t)) ⌝ }
+        ensures { λ r. ⌜ ((t : Table) (m : Defined) → Means m (now (body .entry)) number → TableIn (now (bytes .entry)) (now (ends .entry)) (self .packed) (self .own) t → TableIn (now (bytes .exit)) (now (ends .exit)) (r .packed) (r .own) (defined (now (name .entry)) m t)) ⌝ }
     {
         let own = self.own;
         match place {
             Found::At(i) => {
                 let k = 2 * i + 1;
                 let packed = self.packed.replace(bytes, ends, k, body);
+                meanings::put(ends, i, number);
                 Definitions { packed, own }
             }
             Found::Nowhere => {
                 let packed = self.packed;
                 let lost = own_lost(own, name);
                 let less = Definitions { packed, own: lost };
-                less.push(bytes, ends, name, body)
+                less.push(bytes, ends, name, body, number)
+            }
+        }
+    }
+
+    // A name gets the text of definition `from`, in the same way.
+    pub(crate) fn copy_at(
+        self,
+        bytes: &mut [u8],
+        ends: &mut [u32],
+        place: Found,
+        name: &[u8],
+        from: usize,
+    ) -> Definitions
+        requires { ⌜ ValidDefinitions (now bytes) (now ends) (self .packed) ⌝ }
+        requires { ⌜ ((ds : List Definition) → DefinitionsIn (now bytes) (now ends) (self .packed) ds → newestPlace (now name) ds ≡ placeOf place) ⌝ }
+        requires { ⌜ (0 < length (now name)) × (2 * from + 1 < self .packed .count) ⌝ }
+        requires { ⌜ ((t : Table) → DefinitionsIn (now bytes) (now ends) (self .packed) (t .definitions) → tableCost ((defined (now name) (text (getD (rows (t .definitions)) (2 * from + 1) [])) t) .definitions) ≤ length (now bytes)) ⌝ }
+        ensures { λ r. ⌜ ((t : Table) → TableIn (now (bytes .entry)) (now (ends .entry)) (self .packed) (self .own) t → TableIn (now (bytes .exit)) (now (ends .exit)) (r .packed) (r .own) (defined (now (name .entry)) (text (getD (rows (t .definitions)) (2 * from + 1) [])) t)) ⌝ }
+    {
+        let own = self.own;
+        let source = 2 * from + 1;
+        match place {
+            Found::At(i) => {
+                let k = 2 * i + 1;
+                let packed = self.packed.copy_over(bytes, ends, k, source);
+                meanings::put(ends, i, 0);
+                Definitions { packed, own }
+            }
+            Found::Nowhere => {
+                let lost = own_lost(own, name);
+                let last = self.packed.count / 2;
+                let named = self.packed.push_string(bytes, ends, name);
+                let packed = named.push_copy(bytes, ends, source);
+                meanings::put(ends, last, 0);
+                Definitions { packed, own: lost }
             }
         }
     }
@@ -241,7 +290,9 @@ impl Definitions {
         match place {
             Found::At(i) => {
                 let k = 2 * i;
+                let n = self.packed.count / 2;
                 let packed = self.packed.remove_two(bytes, ends, k);
+                meanings::close_up(ends, i, n);
                 Definitions { packed, own }
             }
             Found::Nowhere => {

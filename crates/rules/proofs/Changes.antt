@@ -22,7 +22,7 @@ use Rattle.rules.specs.Streams.{Streams, moved, movedInTurn, Change, mov
 use Rattle.rules.specs.State.{Call, State, Outcome, next, stop, refused, withSource, withMarks, withCalls, withTable, withStreams, withWrap, withErrors, taking, resulting, changing, emitting}
 use Rattle.rules.specs.Arguments.{arg, numberOr, bounded}
 use Rattle.rules.specs.Results.{Result, yields, fails}
-use Rattle.rules.specs.Macros.{giving, marking, callChangecom, callChangequote, callDecr, naming, callDefine, callDefn, callDivert, callDivnum, callDnl, callErrprint, callEval, callIfdef, callIfelse, callIncr, callIndex, callLen, callM4exit, callM4wrap, callPopdef, callPushdef, callShift, callSubstr, callTranslit, callUndefine, undivertNumbers, callUndivert, callInclude, callSinclude, callNothing, macros, perform, performed, called}
+use Rattle.rules.specs.Macros.{giving, marking, callChangecom, callChangequote, callDecr, naming, callDefine, callDefn, callDivert, callDivnum, callDnl, callErrprint, callEval, callIfdef, callIfelse, callIncr, callIndex, callLen, callM4exit, callM4wrap, callPopdef, callPushdef, callShift, callSubstr, callTranslit, callUndefine, undivertNumbers, callUndivert, callInclude, callSinclude, copying, callCopydef, callNothing, macros, perform, performed, called}
 use Rattle.rules.specs.Step.{NameUse, plain, opening, bare, nameUse, atEnd, delivered, argumentCount, opened, named, closed, commaMet, rightMet, commaAtDepth, otherMet, inCall, singleByte, act, reacted, step}
 use Rattle.rules.specs.Changes.{Calling, bareCall, closedCall, rightCall, byteCall, tokenCall, readCall, callOf, divertChanges, exitChanges, undivertChanges, noChanges, macroChanges, callChanges, ownChanges, nameChanges, endChanges, tokenChanges, readChanges, callOr, changesOf, Makes}
 
@@ -75,6 +75,15 @@ marking-makes f b e s = tested (isMark b && isEndMark e) (goes-on _ refl) (refus
 naming-makes : (f : Bytes → Meaning → Table → Table) (args : List Bytes) (s : State) → Makes [] (s .streams) (naming f args s)
 unfolding naming withTable changedInTurn
 naming-makes f args s = tested (isName (arg 1 args)) (goes-on _ refl) (refuses _)
+
+copying-makes : (o : Option Meaning) (w : Bytes) (s : State) → Makes [] (s .streams) (copying o w s)
+unfolding copying withTable changedInTurn
+copying-makes none w s = refuses _
+copying-makes (some m) w s = goes-on _ refl
+
+copydef-makes : Changing callCopydef noChanges
+unfolding callCopydef noChanges
+copydef-makes args s = tested (isName (arg 2 args)) (copying-makes (meaningOf (arg 1 args) (s .table)) (arg 2 args) s) (refuses _)
 
 changecom-makes : Changing callChangecom noChanges
 unfolding callChangecom noChanges withMarks changedInTurn
@@ -150,6 +159,7 @@ macros-make =
     also undivert-makes
     also (λ args s. giving-makes _ s)
     also (λ args s. giving-makes _ s)
+    also copydef-makes
     also tt
 
 call-makes : (m : Meaning) (name : Bytes) (args : List Bytes) (s : State) → Makes (callChanges m args) (s .streams) (performed m name args s)

@@ -15,4 +15,6 @@ pub mod Empty
 pub mod Newlines
 pub mod Lines
 pub mod SameBytes
+pub mod Own
+pub mod Copies
 pub mod Sets

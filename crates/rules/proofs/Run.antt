@@ -7,7 +7,7 @@ use mathlib.Core.Option.{Option, none, some}
 use native.Mathlib.Omega.{arith}
 use lib.ListN.{length}
 use Rattle.rules.specs.declared.Answer.the-variants as answer
-use Rattle.rules.specs.Answers.{answerNumber, Ending, done, exit, endingAnswer, Fault, unclosedQuote, unclosedComment, unclosedCall, noName, noNumber, noExpression, divisor, badMark, noText, gone, deep, noItem, faultAnswer}
+use Rattle.rules.specs.Answers.{answerNumber, Ending, done, exit, endingAnswer, Fault, unclosedQuote, unclosedComment, unclosedCall, noName, noNumber, noExpression, divisor, badMark, noText, gone, deep, noItem, noDefinition, faultAnswer}
 use Rattle.rules.specs.State.{State, Outcome, next, stop, refused, Start, startState}
 use Rattle.rules.specs.Sets.{Item, setItems}
 use Rattle.rules.specs.Step.{step}
@@ -72,6 +72,7 @@ fault-not-spent noText e = omega arith
 fault-not-spent gone e = omega arith
 fault-not-spent deep e = omega arith
 fault-not-spent noItem e = omega arith
+fault-not-spent noDefinition e = omega arith
 
 ending-not-spent : (x : Ending) → answerNumber (endingAnswer x) ≡ 3 → ⊥
 unfolding answerNumber endingAnswer

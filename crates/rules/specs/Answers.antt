@@ -25,6 +25,7 @@ answerNumber answer.Gone = 12
 answerNumber answer.Deep = 13
 answerNumber answer.BadSet = 14
 answerNumber answer.NoItem = 15
+answerNumber answer.NoDefinition = 16
 
 -- the column "Detail"
 unfoldable pub answerDetail : Answer → ℕ
@@ -44,6 +45,7 @@ answerDetail answer.Gone = 0
 answerDetail answer.Deep = 0
 answerDetail answer.BadSet = 0
 answerDetail answer.NoItem = 0
+answerDetail answer.NoDefinition = 0
 
 -- 0 and 1: what is not a refusal
 unfoldable pub isFinished : Answer → Bool
@@ -69,9 +71,9 @@ unfoldable pub endingAnswer : Ending → Answer
 endingAnswer done = answer.Done
 endingAnswer (exit code) = answer.Exit code
 
--- why a step is refused, apart from room: the answers 5 to 13, and 15 of 02, request 1
+-- why a step is refused, apart from room: the answers 5 to 13, 15 of 02, request 1, and 16 of request 7
 pub data Fault : Type 0 where
-  unclosedQuote unclosedComment unclosedCall noName noNumber noExpression divisor badMark noText gone deep noItem : Fault
+  unclosedQuote unclosedComment unclosedCall noName noNumber noExpression divisor badMark noText gone deep noItem noDefinition : Fault
 
 unfoldable pub faultAnswer : Fault → Answer
 faultAnswer unclosedQuote = answer.Unclosed 1
@@ -86,3 +88,4 @@ faultAnswer noText = answer.NoText
 faultAnswer gone = answer.Gone
 faultAnswer deep = answer.Deep
 faultAnswer noItem = answer.NoItem
+faultAnswer noDefinition = answer.NoDefinition

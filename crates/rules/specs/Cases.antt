@@ -152,3 +152,26 @@ commentCases =
     ∷ case "changequote([)[a" ample (answers 5 1 3 14 "")
     ∷ case "#a" (lending 0 0 0 1) (answers 4 7 0 0 "")
     ∷ []
+
+-- 02, request 7: the riggers' own name for `define`; the bare rule follows the meaning, and copydef is on its list; one of the seven, under the
+-- name of one that is not; 6 before 16, and both without room; defn of a copy; the name that was called, and the text as it was then; a copy costs its
+-- name, on its own name too, and a text gives its room back; the newest meaning, and the newest definition replaced; a copied copydef
+unfoldable pub copyCases : List Case
+copyCases =
+    case "copydef(`define',`def')def(`a',`b')a" ample (answers 0 0 13 36 "b")
+    ∷ case "copydef(`len',`l')l l(ab)" ample (answers 0 0 12 25 "l 2")
+    ∷ case "copydef" ample (answers 0 0 2 7 "copydef")
+    ∷ case "copydef(`divnum',`len')len" ample (answers 0 0 8 26 "0")
+    ∷ case "copydef(`x',`9')" ample (answers 6 0 4 15 "")
+    ∷ case "copydef(`x',`y')" (lending 9 9 0 0) (answers 16 0 4 15 "")
+    ∷ case "copydef(`len',`l')defn(`l')" ample (answers 11 0 7 26 "")
+    ∷ case "define(`f',``$0'')copydef(`f',`g')define(`f',`y')g" ample (answers 0 0 18 50 "g")
+    ∷ case "copydef(`len',`l')" (lending 0 11 1 0) (answers 0 0 6 18 "")
+    ∷ case "copydef(`len',`l')" (lending 0 11 0 0) (answers 4 3 4 17 "")
+    ∷ case "copydef(`len',`len')len(ab)" (lending 1 13 3 1) (answers 0 0 10 27 "2")
+    ∷ case "define(`f',`xyz')copydef(`f',`gg')" (lending 0 10 8 0) (answers 4 3 9 33 "")
+    ∷ case "define(`d',`x')copydef(`dnl',`d')d z\ny" (lending 0 11 2 1) (answers 0 0 13 38 "y")
+    ∷ case "pushdef(`f',`x')pushdef(`f',`y')copydef(`len',`f')popdef(`f')f" ample (answers 0 0 21 62 "x")
+    ∷ case "pushdef(`len',`x')copydef(`len',`l')popdef(`len')l(ab)" ample (answers 0 0 18 54 "x")
+    ∷ case "copydef(`copydef',`c')c(`len',`l')l(a)" ample (answers 0 0 15 38 "1")
+    ∷ []

@@ -111,6 +111,7 @@ macroChanges =
     ∷ undivertChanges
     ∷ noChanges
     ∷ noChanges
+    ∷ noChanges
     ∷ []
 
 unfoldable pub callChanges : Meaning → List Bytes → List Change

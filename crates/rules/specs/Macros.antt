@@ -7,11 +7,11 @@ use lib.Dec.{eqb}
 use lib.IntN.{pos}
 use lib.ListN.{getD}
 use Rattle.rules.specs.Bytes.{Bytes, isName}
-use Rattle.rules.specs.Answers.{exit, noName, noNumber, badMark, gone}
+use Rattle.rules.specs.Answers.{exit, noName, noNumber, badMark, gone, noDefinition}
 use Rattle.rules.specs.Marks.{MarkTexts, newlineMark, defaultMarks, isMark, isEndMark, withQuotes, withComments}
 use Rattle.rules.specs.Source.{ahead}
 use Rattle.rules.specs.Numerals.{number}
-use Rattle.rules.specs.Table.{Meaning, text, predefined, Table, pushed, defined, popped, undefined, inTurn}
+use Rattle.rules.specs.Table.{Meaning, text, predefined, Table, meaningOf, pushed, defined, popped, undefined, inTurn}
 use Rattle.rules.specs.Streams.{moves, drops, diverts}
 use Rattle.rules.specs.State.{State, Outcome, next, stop, refused, withMarks, withTable, withWrap, withErrors, taking, resulting, changing}
 use Rattle.rules.specs.Arguments.{arg, numberOr, bounded, separated, substituted}
@@ -144,6 +144,16 @@ callInclude args s = giving (includeResult (s .set) args) s
 unfoldable pub callSinclude : List Bytes → State → Outcome
 callSinclude args s = giving (sincludeResult (s .set) args) s
 
+-- 02, request 7: a name gets a meaning "as define would set it"; refusal 16: there is none, since "the first argument has no definition"
+unfoldable pub copying : Option Meaning → Bytes → State → Outcome
+copying none w s = refused noDefinition
+copying (some m) w s = next (withTable (defined w m (s .table)) s)
+
+-- "the second argument gets the meaning of the first, predefined or text"; "the new name is judged first (6), then 16"
+unfoldable pub callCopydef : List Bytes → State → Outcome
+callCopydef args s =
+    elim (isName (arg 2 args)) [ true ↦ copying (meaningOf (arg 1 args) (s .table)) (arg 2 args) s | false ↦ refused noName ]
+
 -- no macro has another number than those of `predefinedNames`
 unfoldable pub callNothing : List Bytes → State → Outcome
 callNothing args s = refused gone
@@ -177,6 +187,7 @@ macros =
     ∷ callUndivert
     ∷ callInclude
     ∷ callSinclude
+    ∷ callCopydef
     ∷ []
 
 unfoldable pub perform : ℕ → List Bytes → State → Outcome

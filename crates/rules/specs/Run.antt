@@ -70,7 +70,7 @@ judged go count s t (some b) = endedWith (answer.Room (suc b)) count s
 
 -- what follows from the outcome of a step from s, to which `count` completed steps led. Here `go` is the rest of the run, from the state after the
 -- step; a step that ends the run has no rest, and its `go` is that end itself. 01 "a refused step is not counted, the one that
--- ends in 0 or 1 is", "within a step 5 to 13 come before 4"; 02 "15 unknown include, within its step before 4"
+-- ends in 0 or 1 is", "within a step 5 to 13 come before 4"; 02 "15 unknown include, within its step before 4"; request 7 "both before 4"
 unfoldable pub continued : List ℕ → (State → Ended) → ℕ → State → Outcome → Ended
 continued ls go count s (refused f) = endedWith (faultAnswer f) count s
 continued ls go count s (stop e t) = judged (endedWith (endingAnswer e) (suc count)) count s t (overfull (held t) ls)

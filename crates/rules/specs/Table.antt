@@ -36,9 +36,10 @@ predefinedNames =
     ∷ bytesOf "undivert"
     ∷ bytesOf "include"
     ∷ bytesOf "sinclude"
+    ∷ bytesOf "copydef"
     ∷ []
 
--- 02, request 2: those that "shall stand as plain text unless `(` directly follows". (copydef joins this list with request 7)
+-- 02, request 2: those that "shall stand as plain text unless `(` directly follows"; request 7 "copydef joins its list"
 unfoldable pub plainUnlessOpened : List Bytes
 plainUnlessOpened =
     bytesOf "decr"
@@ -60,6 +61,7 @@ plainUnlessOpened =
     ∷ bytesOf "undefine"
     ∷ bytesOf "include"
     ∷ bytesOf "sinclude"
+    ∷ bytesOf "copydef"
     ∷ []
 
 unfoldable pub among : Bytes → List Bytes → Bool
@@ -71,7 +73,7 @@ unfoldable pub needsParenthesis : ℕ → Bool
 needsParenthesis zero = false
 needsParenthesis (suc i) = among (getD predefinedNames i []) plainUnlessOpened
 
--- a definition's meaning. (The text makes texts only; that a definition may hold a predefined meaning is for document 02)
+-- 02, request 7 "A definition is from now on a text or a predefined meaning", the latter by its number
 pub data Meaning : Type 0 where
   text : Bytes → Meaning
   predefined : ℕ → Meaning
@@ -161,7 +163,7 @@ unfoldable pub inTurn : (Bytes → Table → Table) → List Bytes → Table →
 inTurn f [] t = t
 inTurn f (w ∷ ws) t = inTurn f ws (f w t)
 
--- what a definition costs in buffer 3: its name and its text
+-- what a definition costs in buffer 3: its name and its text; 02, request 7 "The copy of a predefined meaning costs its name only"
 unfoldable pub meaningCost : Meaning → ℕ
 meaningCost (text w) = length w
 meaningCost (predefined k) = 0

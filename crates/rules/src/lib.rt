@@ -138,6 +138,7 @@ pub enum Answer {
     Deep,
     BadSet,
     NoItem,
+    NoDefinition,
 }
 
 // What a call of the expander returns: with the answer's number and detail these are the six numbers of 01.

@@ -6,15 +6,18 @@
 //! - `differential compare SEED COUNT [FIRST]`: random cases; every number of the report and every
 //!   byte of the text, of the set, of the seven buffers and of 16 guard bytes around each of them is
 //!   compared with what the model's answer asks. From 20,000 cases on every answer, every detail of 4
-//!   and 5, every macro and every way of requests 1, 2 and 3 of 02 must be reached.
+//!   and 5, every macro and every way of requests 1, 2, 3 and 7 of 02 must be reached.
 //! - `differential demand3 SEED COUNT [FIRST]`: the letter's third demand on random pairs of
 //!   settings, without the model.
 //! - `differential fences SEED COUNT [FIRST]`: random cases with what is lent against inaccessible
 //!   pages.
 //! - `differential bytes`: each of the 256 bytes in each place where a reader asks for its class.
-//! - `differential words`: each of the 26 names in every place, before all that may follow it.
+//! - `differential words`: each of the 27 names in every place, before all that may follow it.
 //! - `differential comments`: comments that nothing closes, in every place, under marks of every
 //!   kind.
+//! - `differential copies`: each of the 27 meanings copied onto names of each kind, texts of all
+//!   lengths copied from each place to each, and tables of texts and copies in every order; every way
+//!   of request 7 must be taken.
 //! - `differential sets`: good sets with each of their bytes changed, removed or doubled, cut at each
 //!   place, of all lengths at which chunks turn, and about as long as may be; many of them between
 //!   inaccessible pages too.
@@ -42,6 +45,7 @@ mod arenas;
 mod case;
 mod comments;
 mod compare;
+mod copies;
 mod demand3;
 mod fences;
 mod huge;
@@ -65,7 +69,7 @@ use std::process::ExitCode;
 const USE: &str =
     "use: differential compare|demand3|fences|lines|lines-fences|lines-memcheck SEED COUNT [FIRST], \
     memcheck SEED COUNT, vectors|lines-vectors FILE, \
-    bytes, words, comments, sets, lines-counted, huge, noticed or lines-noticed";
+    bytes, words, comments, copies, sets, lines-counted, huge, noticed or lines-noticed";
 
 fn main() -> ExitCode {
     let arguments: Vec<String> = std::env::args().skip(1).collect();
@@ -87,6 +91,7 @@ fn run(words: &[&str]) -> Option<(usize, usize)> {
         ["bytes"] => Some(readers::every_byte()),
         ["words"] => Some(names::every_name()),
         ["comments"] => Some(comments::every_comment()),
+        ["copies"] => one(copies::every_copy()),
         ["sets"] => one(sets::every_set()),
         ["huge"] => one(huge::huge_lengths() && lines::huge_lengths()),
         ["lines-vectors", path] => Some(lines::table(&std::fs::read_to_string(path).ok()?)),

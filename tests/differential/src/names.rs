@@ -1,4 +1,4 @@
-//! Each of the 26 names in every place where a name may stand, before all that may follow it: the
+//! Each of the 27 names in every place where a name may stand, before all that may follow it: the
 //! archive against the model, with ample and with tight rooms. Where include and sinclude stand, a set
 //! has what they ask for, or has no items.
 

@@ -1,7 +1,8 @@
 //! Whether the ways of request 2 of 02 are told apart: short texts, each with all the ways that it
-//! takes. Those of requests 1 and 3 are told apart by tests of the model's own.
+//! takes. Those of requests 1, 3 and 7 are told apart by tests of the model's own.
 
 use crate::tally::Tally;
+use model::ways::copies::Copies;
 use model::ways::inclusions::Inclusions;
 use model::ways::remarks::Remarks;
 use model::ways::sets::Sets;
@@ -89,14 +90,15 @@ fn takes(said: &str, setting: &Setting) -> bool {
 
 fn all_missed() -> bool {
     let missing = Tally::default().missing();
-    let words = Ways::default().counts().into_iter().map(|(way, _)| way);
+    let named = [Ways::default().counts(), Copies::default().counts()];
+    let named = named.concat().into_iter().map(|(way, _)| way);
     let others = [
         Remarks::default().counts().to_vec(),
         Sets::default().counts().to_vec(),
         Inclusions::default().counts().to_vec(),
     ];
     let others = others.concat().into_iter().map(|(way, _)| way.to_string());
-    let mut unmissed: Vec<String> = words.chain(others).collect();
+    let mut unmissed: Vec<String> = named.chain(others).collect();
     unmissed.retain(|way| !missing.contains(way));
     for way in &unmissed {
         println!("no run takes {way:?}, and it is not reported as missing");

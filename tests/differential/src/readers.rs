@@ -6,8 +6,8 @@ use model::{Setting, NO_ITEMS};
 
 /// Stands for the byte in a text.
 const PLACEHOLDER: u8 = b'@';
-const TEXTS: [&str; 21] = [
-    // names: what begins one, what goes on with it, also behind pending text, and their shape in define and pushdef
+const TEXTS: [&str; 23] = [
+    // names: what begins one, what goes on with it, also behind pending text, and their shape in define, pushdef and copydef
     "define(`a',`x')a@a",
     "define(`aa',`x')define(`a',`y')@aa",
     "define(`a',`x')define(`x@',`y')a()@",
@@ -15,6 +15,8 @@ const TEXTS: [&str; 21] = [
     "define(`a@b',`x')a@b",
     "pushdef(`@a',`x')@a",
     "pushdef(`a@',`x')a@",
+    "copydef(`divnum',`@a')@a",
+    "copydef(`divnum',`a@')a@",
     // `$` and digits
     "define(`f',`[$@]')f(`1',`2',`3',`4',`5',`6',`7',`8',`9')",
     // numbers

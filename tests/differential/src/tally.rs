@@ -2,6 +2,7 @@
 
 use crate::case::Case;
 use model::predefined::{Calls, Predefined};
+use model::ways::copies::Copies;
 use model::ways::inclusions::Inclusions;
 use model::ways::remarks::Remarks;
 use model::ways::sets::Sets;
@@ -30,6 +31,7 @@ pub struct Tally {
     remarks: Remarks,
     sets: Sets,
     inclusions: Inclusions,
+    copies: Copies,
 }
 
 impl Tally {
@@ -47,7 +49,7 @@ impl Tally {
         self.crossings += trace.crossings;
     }
 
-    /// Adds the ways of a run, which takes its steps up to three times more. Fails if the model
+    /// Adds the ways of a run, which takes its steps up to four times more. Fails if the model
     /// breaks a rule of 02.
     pub fn add_ways(&mut self, case: &Case, report: &Report) -> Result<(), String> {
         let Case {
@@ -60,6 +62,7 @@ impl Tally {
         if report.steps <= MOST_STEPS {
             self.ways.walk(text, set, report)?;
             self.remarks.walk(text, set, report)?;
+            self.copies.walk(text, set, setting, report)?;
         }
         Ok(())
     }
@@ -97,6 +100,7 @@ impl Tally {
         counts.extend(named(self.remarks.counts()));
         counts.extend(named(self.sets.counts()));
         counts.extend(named(self.inclusions.counts()));
+        counts.extend(self.copies.counts());
         counts
     }
 

@@ -21,6 +21,7 @@ RETURNS = "the line ends with CR%s; CR is no blank and stays in the sheet"
 MARK = "the template begins with a byte-order mark, which is plain text"
 ALIKE = "%s (U+%s) looks like a quote mark and is plain text"
 FOREIGN = "`%s` is a macro of GNU m4 and not predefined here; it is plain text"
+UNQUOTED = "`%s` is not in quote marks, so it is called first, and `copydef` is given what comes of that"
 RUNS_ON = "%s the first line of the next template, too; this one does not end with a newline"
 RUNS_ON_COMMENT, RUNS_ON_DNL = RUNS_ON % "the comment takes", RUNS_ON % "`dnl` drops"
 CLOSER = "%s the rest of the line, so the `)` there closes no call"
@@ -71,6 +72,18 @@ REFUSED = {
     "an include that is none, for a blank": (["include (`common.m4')dnl\neval(height + 1)\n"], 8, ["1.m4:1:1: " + GAP % "include"]),
     "an include of a name that is not quoted": (["a include (yard/common.m4)\nincr(height)\n"], 7, ["1.m4:1:3: " + GAP % "include"]),
     "an sinclude that is none": (["sinclude\n(`common')incr(height)\n"], 7, ["1.m4:1:1: " + NEWLINE % "sinclude"]),
+    "a copy that is none, for a blank": (["copydef (`define', `rig')rig(`n', 5)eval(n)\n"], 8, ["1.m4:1:1: " + GAP % "copydef"]),
+    "a blank behind a copy of define": (["copydef(`define', `rig')\nrig (`n', 5)\neval(n + 1)\n"], 8, ["1.m4:2:1: " + GAP % "rig"]),
+    "a number with a point in a copy of eval": (["copydef(`eval', `calc')calc(1.5)"], 8, ["1.m4:1:29: " + POINT % ("1.5", "calc")]),
+    "a number that a copy of define defines": (["copydef(`define', `rig')rig(`h', `18.4')\neval(h / 2)\n"], 8, ["1.m4:2:6: " + NAMED % ("h", "18.4", "eval")]),
+    "given to a copy of a macro": (["define(`ring', `eval($1 / 2)')copydef(`ring', `r')\nr(33.5)\n"], 8, ["1.m4:2:3: " + GIVEN % ("33.5", "r", "eval")]),
+    "a copy without a call in eval": (["copydef(`len', `l')eval(10 / l)"], 8, ["1.m4:1:30: " + PLAIN % ("l", "eval")]),
+    "a parenthesis that a copy of dnl drops": (["copydef(`dnl', `note')gain=len(`a'note)\n"], 5, ["1.m4:1:35: " + CLOSER % "`note` drops"]),
+    "a name to copy that is not quoted": (["x copydef(divnum, `d')"], 16, ["1.m4:1:11: " + UNQUOTED % "divnum"]),
+    "a text to copy that is not quoted": (["define(`h', `5')copydef(h, `g')"], 16, ["1.m4:1:25: " + UNQUOTED % "h"]),
+    "not quoted, in text that is read later": (["define(`f', `copydef(divnum, `d')')\nf"], 16, ["1.m4:1:22: " + UNQUOTED % "divnum"]),
+    "a definition that is none, before its copy": (["define (`n', 5)copydef(`n', `m')"], 16, ["1.m4:1:1: " + GAP % "define"]),
+    "curly quotes round a name to copy": (["copydef(“len”, `l')"], 16, ["1.m4:1:15: " + ALIKE % ("”", "201D"), "1.m4:1:9: " + ALIKE % ("“", "201C")]),
     "a byte-order mark in an argument": (["incr(", "\ufeff1)"], 7, ["2.m4:1:1: " + MARK]),
     "a byte-order mark outside calls": (["a\n", "\ufeffeval(08)"], 8, []),
     "a parenthesis in a comment": (["gain=len(#)"], 5, ["1.m4:1:10: " + CLOSER_COMMENT]),
@@ -132,6 +145,10 @@ UNFITTING = [
     ("undivert(0) the len", 7),
     ("define(`n', `n')n the len", 3),
     ("m4wrap(`incr(x)')the len", 7),
+    ("copydef(`x', `y')", 16),
+    ("copydef(len, `l')copydef(`divnum', `d')copydef(`x', `y')", 16),
+    ("define(`a', `len')copydef(a, `l')copydef(`x', `y')", 16),
+    ("copydef(`define', `rig')the rig (see below) eval(08)", 8),
 ]
 
 # Texts that expand: the texts of the templates, the sheet, the warnings.
@@ -151,6 +168,9 @@ WARNED = {
     "a blank behind a name that is no word": (["the eval (see below)\n"], "the eval (see below)\n", ["1.m4:1:5: " + GAP % "eval"]),
     "a blank behind what may have no arguments": (["divert (1)a\n"], " (1)a\n", ["1.m4:1:1: " + CALLED % "divert"]),
     "a blank behind a text over a predefined name": (["pushdef(`len', `<$1>')len (`a')\n"], "<> (a)\n", ["1.m4:1:23: " + CALLED % "len"]),
+    "a blank behind a copy": (["copydef(`define', `rig')rig (`n', 5)n\n"], "rig (n, 5)n\n", ["1.m4:1:25: " + GAP % "rig"]),
+    "a blank behind a copy that is called": (["copydef(`divert', `to')to (1)a\n"], " (1)a\n", ["1.m4:1:24: " + CALLED % "to"]),
+    "a copy of dnl that goes on in the next template": (["copydef(`dnl', `note')a note b", "c d\ne\n"], "a e\n", ["1.m4:1:25: " + RUNS_ON % "`note` drops"]),
     "what is not thrown away any more": (
         ["divert(-1)“a” divert(1)“b”\ndivert(-1)divert(0)c “d”\n"], "c “d”\n“b”\n",
         ["1.m4:1:28: " + ALIKE % ("“", "201C"), "1.m4:1:32: " + ALIKE % ("”", "201D"), "1.m4:2:22: " + ALIKE % ("“", "201C"), "1.m4:2:26: " + ALIKE % ("”", "201D")],
@@ -200,6 +220,12 @@ SILENT = [
     ("define(`format', `<$1>')format(`a')", "<a>"),
     ("define(`f', `# the len (a)\ndnl len (a)\nb')", ""),
     ("define(`rem', `dnl')\n`eval (b)'rem c\n", "\neval (b)"),
+    ("copydef(`define', `rig')the rig (see below), a rig\n", "the rig (see below), a rig\n"),
+    ("copydef(`define', `rig')rig(`len', `x')len (`a')", "x (a)"),
+    ("copydef(`dnl', `note')note define (`n') “a”\r\nb", "b"),
+    ("copydef(`len', `format')format(`a')", "1"),
+    ("copydef(`divert', `to')we to the boom", "we  the boom"),
+    ("define(`a', `len')copydef(a, `l')l(`boom')", "4"),
     ("divert(-1)divert\ndivert`'a divnum (b) undivert\n", "\na 0 (b) \n"),
     ("gain=0.75 version=1.5.2 len(1.5)\n", "gain=0.75 version=1.5.2 3\n"),
     ("define(`set', ``$1'=$2')set(`gain', 0.75)", "gain=0.75"),
@@ -284,7 +310,7 @@ def beside(folder):
 
 def linear(_):
     """Texts that would take long if something in them were looked at again and again."""
-    for text in (b"len ", b"len (", b"len (a,", b"eval (", b"eval(len ", b"define(", b"(", b"`(", b"$1", b"1.", b"eval(1.5", b"a\r\n", b"divert ", b"\xe2\x80\x9c", b"eval(x "):
+    for text in (b"copydef(", b"copydef(a,", b"len ", b"len (", b"len (a,", b"eval (", b"eval(len ", b"define(", b"(", b"`(", b"$1", b"1.", b"eval(1.5", b"a\r\n", b"divert ", b"\xe2\x80\x9c", b"eval(x "):
         whole = b"define(`f', `" + text * (65000 // len(text))
         began = time.monotonic()
         status, _, err = run(["--warn"], whole)

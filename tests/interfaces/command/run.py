@@ -12,6 +12,7 @@ sys.dont_write_bytecode = True
 sys.path.insert(0, os.path.join(os.path.dirname(os.path.abspath(__file__)), "..", "..", "shared"))
 import answers  # noqa: E402
 import apart  # noqa: E402
+import copies  # noqa: E402
 import crate  # noqa: E402
 import files  # noqa: E402
 import hints  # noqa: E402
@@ -25,7 +26,7 @@ from tally import finish  # noqa: E402
 
 PARTS = [
     answers.endings, answers.places, widths.lines, widths.table, files.inputs, files.sheets, files.reports, files.limits, files.standard_output, apart.told_apart, apart.harmless,
-    apart.written_through, several.joined, several.places, several.too_long, several.unreadable, several.read_first, several.clashes, hints.refused, hints.warned, hints.beside, hints.linear, hints.known,
+    apart.written_through, several.joined, several.places, several.too_long, several.unreadable, several.read_first, several.clashes, hints.refused, hints.warned, hints.beside, hints.linear, hints.known, copies.missing,
     included.folders, included.written, included.failing, included.too_long, included.sets, included.clashes, included.refused, included.warned, interrupted.signals, long_runs.finished, long_runs.interrupted, usage.usage,
 ]
 

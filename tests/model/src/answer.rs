@@ -61,13 +61,15 @@ pub enum Refusal {
     BadSet,
     /// "unknown include"
     NoItem,
+    /// "the first argument has no definition"
+    NoDefinition,
 }
 
 /// How many answers there are, from 0 on.
-pub const ANSWERS: usize = 16;
+pub const ANSWERS: usize = 17;
 
 impl Refusal {
-    /// The first column of the table in 01; request 1 of 02 has 14 and 15.
+    /// The first column of the table in 01; request 1 of 02 has 14 and 15, request 7 has 16.
     pub fn number(self) -> u32 {
         match self {
             Refusal::Lend => 2,
@@ -84,6 +86,7 @@ impl Refusal {
             Refusal::Deep => 13,
             Refusal::BadSet => 14,
             Refusal::NoItem => 15,
+            Refusal::NoDefinition => 16,
         }
     }
 

@@ -1,14 +1,15 @@
 //! Random texts with sets and settings, from a seed. They are made to reach every macro and every
-//! answer of 01, and every way of a plain word, of a last comment and of a set of 02. Cases of the
-//! index of lines are made in [`lines`].
+//! answer of 01, and every way of a plain word, of a last comment, of a set and of a copy of 02. Cases of
+//! the index of lines are made in [`lines`].
 //!
 //! A text comes from a grammar of plausible pieces ([`writer`]), from a scenario with a purpose
-//! ([`scenarios`], [`bare`], [`last`], [`heavy`]), from the table of vectors, or is a soup of words;
-//! then some of its bytes may be changed ([`mutate`]). Most texts get a set without items; others are
-//! made for theirs ([`included`], [`sets`]).
+//! ([`scenarios`], [`bare`], [`last`], [`copies`], [`heavy`]), from the table of vectors, or is a soup of
+//! words; then some of its bytes may be changed ([`mutate`]). Most texts get a set without items; others
+//! are made for theirs ([`included`], [`sets`]).
 
 mod bare;
 pub mod comments;
+mod copies;
 mod expressions;
 mod heavy;
 mod included;
@@ -94,10 +95,11 @@ pub fn text(random: &mut Random, scale: Scale) -> Vec<u8> {
 /// A text as it comes from its source.
 fn plausible(random: &mut Random, scale: Scale) -> Vec<u8> {
     match random.below(100) {
-        0..=34 => written(random, scale),
-        35..=53 => last::last(random),
-        54..=76 => scenarios::scenario(random),
-        77..=92 => bare::bare(random),
+        0..=27 => written(random, scale),
+        28..=42 => last::last(random),
+        43..=61 => scenarios::scenario(random),
+        62..=76 => bare::bare(random),
+        77..=92 => copies::copies(random, scale),
         93..=96 => from_vectors(random),
         _ => soup(random),
     }

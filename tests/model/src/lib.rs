@@ -1,5 +1,5 @@
-//! A plain executable model of the expander that document 01 defines, with the requests 1, 2, 3 and
-//! 5 of document 02, and of the index of lines that its request 6 asks for.
+//! A plain executable model of the expander that document 01 defines, with the requests 1, 2, 3, 5
+//! and 7 of document 02, and of the index of lines that its request 6 asks for.
 //!
 //! Its rules are written from the papers alone and care for clarity first. Memory comes from the
 //! heap; the seven lent lengths only judge what the state holds after each step, as 01 says: "Room

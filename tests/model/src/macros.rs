@@ -57,9 +57,11 @@ fn act(which: Predefined, state: &mut State, arguments: &[Vec<u8>]) -> Result<()
     match which {
         Changecom => change_comment(state, arguments)?,
         Changequote => change_quote(state, arguments)?,
-        Define => state
-            .definitions
-            .define(name(arguments)?, text(arguments, 1)),
+        Copydef => copy_definition(state, arguments)?,
+        Define => {
+            let (name, meaning) = defined(arguments)?;
+            state.definitions.define(name, meaning);
+        }
         Divert => state.streams.divert(or_default(arguments.first(), 0)?),
         Dnl => state.ahead.drop_line(),
         // "errprint joins its arguments with one space."
@@ -69,9 +71,10 @@ fn act(which: Predefined, state: &mut State, arguments: &[Vec<u8>]) -> Result<()
         Popdef => arguments
             .iter()
             .for_each(|name| state.definitions.popdef(name)),
-        Pushdef => state
-            .definitions
-            .pushdef(name(arguments)?, text(arguments, 1)),
+        Pushdef => {
+            let (name, meaning) = defined(arguments)?;
+            state.definitions.pushdef(name, meaning);
+        }
         Undefine => arguments
             .iter()
             .for_each(|name| state.definitions.undefine(name)),
@@ -86,14 +89,30 @@ fn text(arguments: &[Vec<u8>], at: usize) -> &[u8] {
     arguments.get(at).map_or(&[], Vec::as_slice)
 }
 
-/// The first argument of define and pushdef; 6: "define or pushdef of what is not a name".
-fn name(arguments: &[Vec<u8>]) -> Result<&[u8], Refusal> {
-    let name = text(arguments, 0);
+/// An argument that gets a meaning; 6: "define or pushdef of what is not a name", and in copydef "the
+/// new name is judged first (6)".
+fn name(arguments: &[Vec<u8>], at: usize) -> Result<&[u8], Refusal> {
+    let name = text(arguments, at);
     if is_name(name) {
         Ok(name)
     } else {
         Err(Refusal::Name)
     }
+}
+
+/// The name and the text of define and pushdef.
+fn defined(arguments: &[Vec<u8>]) -> Result<(&[u8], Meaning), Refusal> {
+    Ok((name(arguments, 0)?, Meaning::of(text(arguments, 1))))
+}
+
+/// 02, request 7: "the second argument gets the meaning of the first, predefined or text, as define
+/// would set it"; "the new name is judged first (6), then 16, the first argument has no definition".
+fn copy_definition(state: &mut State, arguments: &[Vec<u8>]) -> Result<(), Refusal> {
+    let new_name = name(arguments, 1)?;
+    let meaning = state.definitions.newest(text(arguments, 0));
+    let meaning = meaning.cloned().ok_or(Refusal::NoDefinition)?;
+    state.definitions.define(new_name, meaning);
+    Ok(())
 }
 
 /// "changecom without arguments turns comments off".

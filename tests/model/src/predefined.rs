@@ -1,7 +1,7 @@
 //! Which macros are predefined, and which of them are called bare.
 
 /// The 24 predefined macros in the order of 01, and then "by arrival", as 02 says in request 10:
-/// `include` and `sinclude` came with request 1.
+/// `include` and `sinclude` came with request 1, `copydef` with request 7.
 #[derive(Clone, Copy, Debug, PartialEq, Eq)]
 pub enum Predefined {
     Changecom,
@@ -30,12 +30,13 @@ pub enum Predefined {
     Undivert,
     Include,
     Sinclude,
+    Copydef,
 }
 
 use Predefined::*;
 
 /// How many there are.
-const COUNT: usize = 26;
+const COUNT: usize = 27;
 
 /// A count for each of them.
 pub type Calls = [u64; COUNT];
@@ -68,6 +69,7 @@ impl Predefined {
         Undivert,
         Include,
         Sinclude,
+        Copydef,
     ];
 
     /// The name that has this meaning at the start.
@@ -99,19 +101,20 @@ impl Predefined {
             "undivert",
             "include",
             "sinclude",
+            "copydef",
         ];
         NAMES[self as usize]
     }
 
     /// Whether a name of this meaning is called only with `(` directly behind it. 02, request 2:
     /// these "shall stand as plain text unless `(` directly follows. The other seven keep their
-    /// bare call." Request 7: the "rule follows the meaning, not the name".
+    /// bare call." Request 7: the "rule follows the meaning, not the name, and copydef joins its
+    /// list".
     pub fn needs_parenthesis(self) -> bool {
         match self {
             Decr | Define | Defn | Errprint | Eval | Ifdef | Ifelse | Incr | Index | Len
             | M4wrap | Popdef | Pushdef | Shift | Substr | Translit | Undefine | Include
-            | Sinclude => true,
-            // copydef (request 7) joins the arm above.
+            | Sinclude | Copydef => true,
             Changecom | Changequote | Divert | Divnum | Dnl | M4exit | Undivert => false,
         }
     }
@@ -126,7 +129,7 @@ mod tests {
         let names = Predefined::ALL.map(Predefined::name);
         let (of_the_page, arrived) = names.split_at(24);
         assert!(of_the_page.windows(2).all(|pair| pair[0] < pair[1]));
-        assert_eq!(arrived, ["include", "sinclude"]);
+        assert_eq!(arrived, ["include", "sinclude", "copydef"]);
         let places = Predefined::ALL.map(|which| which as usize);
         assert_eq!(places, std::array::from_fn(|place| place));
     }
@@ -148,5 +151,11 @@ mod tests {
             "undivert",
         ];
         assert_eq!(bare, seven);
+        // the others as bits of a word, the first name the lowest
+        let others = Predefined::ALL
+            .iter()
+            .filter(|which| which.needs_parenthesis());
+        let bits: u32 = others.map(|&which| 1 << which as u32).sum();
+        assert_eq!(bits, 0x77f_7f1c);
     }
 }

@@ -67,7 +67,7 @@ fn judge_lent(text: &[u8], set: &[u8], setting: &Setting) -> Result<Set, Refusal
     Set::read(set)
 }
 
-/// "before each step 3; within a step 5 to 13 come before 4"; so does 15, says 02.
+/// "before each step 3; within a step 5 to 13 come before 4"; so do 15 and 16, says 02.
 fn judged_step(
     state: &mut State,
     setting: &Setting,

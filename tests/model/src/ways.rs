@@ -1,8 +1,9 @@
 //! The ways of request 2 of 02: names of predefined meanings that stand as plain text, open a call
 //! or are called bare, and how often each of them was taken. Tests look here at runs from outside.
 //! Those of request 1 are in [`sets`] and [`inclusions`], those of request 3 in [`remarks`], those
-//! of request 6 in [`lines`].
+//! of request 6 in [`lines`], those of request 7 in [`copies`].
 
+pub mod copies;
 pub mod inclusions;
 pub mod lines;
 mod name;
@@ -17,11 +18,11 @@ use crate::state::State;
 use crate::Report;
 use walk::Walk;
 
-/// 02: these "shall stand as plain text unless `(` directly follows". The list is the paper's, and
-/// the model's own rule is held to it.
-pub const NEED_PARENTHESIS: [Predefined; 19] = [
+/// 02: these "shall stand as plain text unless `(` directly follows"; request 7: "copydef joins its
+/// list". The list is the paper's, and the model's own rule is held to it.
+pub const NEED_PARENTHESIS: [Predefined; 20] = [
     Decr, Define, Defn, Errprint, Eval, Ifdef, Ifelse, Incr, Index, Len, M4wrap, Popdef, Pushdef,
-    Shift, Substr, Translit, Undefine, Include, Sinclude,
+    Shift, Substr, Translit, Undefine, Include, Sinclude, Copydef,
 ];
 
 /// 02: "The other seven keep their bare call."

@@ -1,10 +1,11 @@
 //! The generators reach every answer, every detail of 4 and 5, every macro and every way of requests
-//! 1, 2, 3 and 6, and the third demand holds on random pairs.
+//! 1, 2, 3, 6 and 7, and the third demand holds on random pairs.
 
 use model::demand3::try_pair;
 use model::generate::{case, input, lines, pair, Case, Input, Scale};
 use model::predefined::{Calls, Predefined};
 use model::random::Random;
+use model::ways::copies::Copies;
 use model::ways::inclusions::Inclusions;
 use model::ways::lines::Lines;
 use model::ways::remarks::Remarks;
@@ -17,7 +18,7 @@ fn everything_is_reached() {
     let mut random = Random::new(1);
     let (mut answers, mut room, mut unclosed) = ([0; ANSWERS], [0; 8], [0; 4]);
     let mut calls = Calls::default();
-    for _ in 0..2_000 {
+    for _ in 0..3_000 {
         let case = case(&mut random, Scale::Small);
         let (report, trace) = expand_traced(&case.text, &case.set, &case.setting);
         answers[report.number as usize] += 1;
@@ -119,6 +120,25 @@ fn every_way_of_the_index_of_lines_is_reached() {
         ways.note(&lines::case(&mut random));
     }
     let counts = ways.counts();
+    let never: Vec<_> = counts.iter().filter(|(_, count)| *count == 0).collect();
+    assert!(never.is_empty(), "never reached: {never:?} of {counts:?}");
+}
+
+/// 02, request 7: every meaning copied onto every kind of name, and whatever becomes of copies. The
+/// longest ones are not among small cases.
+#[test]
+fn every_way_of_a_copy_is_reached() {
+    let mut random = Random::new(1);
+    let mut copies = Copies::default();
+    for _ in 0..20_000 {
+        let Case { text, set, setting } = case(&mut random, Scale::Full);
+        let report = expand(&text, &set, &setting);
+        if report.steps <= 100 {
+            let walked = copies.walk(&text, &set, &setting, &report);
+            assert_eq!(walked, Ok(()), "{}", String::from_utf8_lossy(&text));
+        }
+    }
+    let counts = copies.counts();
     let never: Vec<_> = counts.iter().filter(|(_, count)| *count == 0).collect();
     assert!(never.is_empty(), "never reached: {never:?} of {counts:?}");
 }

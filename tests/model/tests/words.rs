@@ -1,6 +1,7 @@
-//! Request 2 of document 02, "The word that vanished": nineteen predefined names "shall stand as
-//! plain text unless `(` directly follows. The other seven keep their bare call." Every answer below
-//! is worked out by hand from the papers, a step for each token; room is ample unless said.
+//! Request 2 of document 02, "The word that vanished": twenty predefined names "shall stand as plain
+//! text unless `(` directly follows. The other seven keep their bare call." The twentieth, copydef,
+//! joined the list with request 7. Every answer below is worked out by hand from the papers, a step for
+//! each token; room is ample unless said.
 
 mod common;
 
@@ -281,8 +282,18 @@ fn include_and_sinclude() {
     ]);
 }
 
-/// 01: "No other name is." The request that predefines this one has not landed.
+/// Request 7: "copydef joins its list".
 #[test]
-fn a_name_of_a_later_request() {
-    answers(&[("copydef(a,b)", [0, 0, 7, 12], "copydef(a,b)")]);
+fn copydef_too() {
+    answers(&[
+        ("copydef", [0, 0, 2, 7], "copydef"),
+        // copydef blank ( a , b ) end
+        ("copydef (a,b)", [0, 0, 8, 13], "copydef (a,b)"),
+        // len( copydef blank ) 8 end
+        ("len(copydef )", [0, 0, 6, 13], "8"),
+        // the name that is none is judged first: copydef(
+        ("copydef()", [6, 0, 1, 8], ""),
+        // define( `p' , `copydef' ) p( ) copydef( len , l ) l( a ) 1 end
+        ("define(`p',`copydef')p()(len,l)l(a)", [0, 0, 17, 35], "1"),
+    ]);
 }

@@ -65,10 +65,14 @@ returns-15 : tie.Need-returns-15
 unfolding builtinAt builtins changeOf
 returns-15 c = sym (ap (λ k. changeOf (builtinAt k)) (c .match .keys15))
 
--- any other number: through 0 to 26, `tt` for one that an arm names, `refl` for the rest
 returns-16 : tie.Need-returns-16
 unfolding builtinAt builtins changeOf
-returns-16 c = others changeOf _ (26 ∷ 25 ∷ 24 ∷ 23 ∷ 19 ∷ 18 ∷ 17 ∷ 16 ∷ 9 ∷ 8 ∷ 7 ∷ 6 ∷ 4 ∷ 2 ∷ 1 ∷ []) (((((((((((((((((((((((((((tt, refl), tt), tt), refl), tt), refl), tt), tt), tt), tt), refl), refl), refl), refl), refl), refl), tt), tt), tt), tt), refl), refl), refl), tt), tt), tt), tt) refl (c .before .args .k) (c .match .rest)
+returns-16 c = sym (ap (λ k. changeOf (builtinAt k)) (c .match .keys16))
+
+-- any other number: the list has those of the other arms, the last first
+returns-17 : tie.Need-returns-17
+unfolding builtinAt builtins changeOf
+returns-17 c = others changeOf _ (27 ∷ 26 ∷ 25 ∷ 24 ∷ 23 ∷ 19 ∷ 18 ∷ 17 ∷ 16 ∷ 9 ∷ 8 ∷ 7 ∷ 6 ∷ 4 ∷ 2 ∷ 1 ∷ []) refl refl (c .before .args .k) (c .match .rest)
 
 pub change-macro-spec : {M : Type 1} → statement M
 change-macro-spec =
@@ -89,4 +93,5 @@ change-macro-spec =
     returns-13
     returns-14
     returns-15
-    returns-16)
+    returns-16
+    returns-17)

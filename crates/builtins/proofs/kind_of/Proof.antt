@@ -1,72 +1,21 @@
--- `builtins::kind_of` meets its contract: the list `builtins`, place by place. Assumes nothing.
-use Rattle.rules.proofs.Base.{[], _∷_, refl, sym, ap}
+-- `builtins::kind_of` meets its contract: it is told by the macro that `result_macro` names, and index by its number. Assumes nothing.
+use Rattle.rules.proofs.Base.{_∙_, sym, ap, needs}
 use Rattle.builtins.specs.Builtins.{builtins, builtinAt, kindOf}
-use Rattle.builtins.proofs.BuiltinLaws.{others}
+use Rattle.builtins.proofs.BuiltinLaws.{kind-named, kind-unnamed}
 use Rattle.builtins.proofs.kind_of.Statement.{statement}
 use Rattle.builtins.proofs.kind_of.Tie as tie
 
 returns : tie.Need-returns
 unfolding builtinAt builtins kindOf
-returns c = sym (ap (λ k. kindOf (builtinAt k)) (c .match .keys1))
+returns c = sym (ap (λ k. kindOf (builtinAt k)) (c .if1 .taken))
 
 returns-2 : tie.Need-returns-2
-unfolding builtinAt builtins kindOf
-returns-2 c = sym (ap (λ k. kindOf (builtinAt k)) (c .match .keys2))
+returns-2 c =
+    let t = c .before in
+    kind-unnamed (t .before .before .before .args .k) (sym (t .enum-told .given .1) ∙ t .before .before .result-macro .ensures) (c .if1 .left)
 
 returns-3 : tie.Need-returns-3
-unfolding builtinAt builtins kindOf
-returns-3 c = sym (ap (λ k. kindOf (builtinAt k)) (c .match .keys3))
-
-returns-4 : tie.Need-returns-4
-unfolding builtinAt builtins kindOf
-returns-4 c = sym (ap (λ k. kindOf (builtinAt k)) (c .match .keys4))
-
-returns-5 : tie.Need-returns-5
-unfolding builtinAt builtins kindOf
-returns-5 c = sym (ap (λ k. kindOf (builtinAt k)) (c .match .keys5))
-
-returns-6 : tie.Need-returns-6
-unfolding builtinAt builtins kindOf
-returns-6 c = sym (ap (λ k. kindOf (builtinAt k)) (c .match .keys6))
-
-returns-7 : tie.Need-returns-7
-unfolding builtinAt builtins kindOf
-returns-7 c = sym (ap (λ k. kindOf (builtinAt k)) (c .match .keys7))
-
-returns-8 : tie.Need-returns-8
-unfolding builtinAt builtins kindOf
-returns-8 c = sym (ap (λ k. kindOf (builtinAt k)) (c .match .keys8))
-
-returns-9 : tie.Need-returns-9
-unfolding builtinAt builtins kindOf
-returns-9 c = sym (ap (λ k. kindOf (builtinAt k)) (c .match .keys9))
-
-returns-10 : tie.Need-returns-10
-unfolding builtinAt builtins kindOf
-returns-10 c = sym (ap (λ k. kindOf (builtinAt k)) (c .match .keys10))
-
-returns-11 : tie.Need-returns-11
-unfolding builtinAt builtins kindOf
-returns-11 c = sym (ap (λ k. kindOf (builtinAt k)) (c .match .keys11))
-
--- any other number: through 0 to 26, `tt` for one that an arm names, `refl` for the rest
-returns-12 : tie.Need-returns-12
-unfolding builtinAt builtins kindOf
-returns-12 c = others kindOf _ (22 ∷ 21 ∷ 20 ∷ 15 ∷ 14 ∷ 13 ∷ 12 ∷ 11 ∷ 10 ∷ 5 ∷ 3 ∷ []) (((((((((((((((((((((((((((tt, refl), refl), refl), tt), refl), tt), refl), refl), refl), refl), tt), tt), tt), tt), tt), tt), refl), refl), refl), refl), tt), tt), tt), refl), refl), refl), refl) refl (c .before .args .k) (c .match .rest)
+returns-3 c = kind-named (builtinAt (c .before .before .args .k)) (c .before .result-macro .ensures) (c .match .keys2)
 
 pub kind-of-spec : {M : Type 1} → statement M
-kind-of-spec =
-    tie.close
-    (tie.spec
-    returns
-    returns-2
-    returns-3
-    returns-4
-    returns-5
-    returns-6
-    returns-7
-    returns-8
-    returns-9
-    returns-10
-    returns-11
-    returns-12)
+kind-of-spec = tie.close (tie.spec (λ c κs. search needs) (λ c. search needs) returns returns-2 returns-3)

@@ -14,7 +14,7 @@ among c e = letter (c .before .before .args .name .now) (sym (c .first-byte .ens
 
 returns : tie.Need-returns
 unfolding predefinedWith beginning predefinedNames bytesOf
-returns c = among (c .before .before .before .before) (c .before .before .before .match .keys1) (c .number-of-two .ensures)
+returns c = among (c .before .before) (c .before .match .keys1) (c .number-c .ensures)
 
 returns-2 : tie.Need-returns-2
 unfolding predefinedWith beginning predefinedNames bytesOf
@@ -22,7 +22,7 @@ returns-2 c = among (c .before .before) (c .before .match .keys2) (c .number-d .
 
 returns-3 : tie.Need-returns-3
 unfolding predefinedWith beginning predefinedNames bytesOf
-returns-3 c = among (c .before .before .before .before) (c .before .before .before .match .keys3) (c .number-of-two2 .ensures)
+returns-3 c = among (c .before .before .before .before) (c .before .before .before .match .keys3) (c .number-of-two .ensures)
 
 returns-4 : tie.Need-returns-4
 unfolding predefinedWith beginning predefinedNames bytesOf
@@ -34,11 +34,11 @@ returns-5 c = among (c .before .before .before) (c .before .before .match .keys5
 
 returns-6 : tie.Need-returns-6
 unfolding predefinedWith beginning predefinedNames bytesOf
-returns-6 c = among (c .before .before .before .before) (c .before .before .before .match .keys6) (c .number-of-two3 .ensures)
+returns-6 c = among (c .before .before .before .before) (c .before .before .before .match .keys6) (c .number-of-two2 .ensures)
 
 returns-7 : tie.Need-returns-7
 unfolding predefinedWith beginning predefinedNames bytesOf
-returns-7 c = among (c .before .before .before .before) (c .before .before .before .match .keys7) (c .number-of-two4 .ensures)
+returns-7 c = among (c .before .before .before .before) (c .before .before .before .match .keys7) (c .number-of-two3 .ensures)
 
 returns-8 : tie.Need-returns-8
 unfolding predefinedWith beginning predefinedNames bytesOf
@@ -50,7 +50,7 @@ returns-9 c = among (c .before .before .before) (c .before .before .match .keys9
 
 returns-10 : tie.Need-returns-10
 unfolding predefinedWith beginning predefinedNames bytesOf
-returns-10 c = among (c .before .before .before .before) (c .before .before .before .match .keys10) (c .number-of-two5 .ensures)
+returns-10 c = among (c .before .before .before .before) (c .before .before .before .match .keys10) (c .number-of-two4 .ensures)
 
 returns-11 : tie.Need-returns-11
 unfolding predefinedNames bytesOf
@@ -63,8 +63,6 @@ number-of-spec =
     tie.close
     (tie.spec
     (λ c κs. search needs)
-    (λ c. search needs)
-    (λ c. search needs)
     (λ c κs. search needs)
     (λ c κs. search needs)
     (λ c. search needs)

@@ -1,4 +1,4 @@
-//! What a refusal means, and what to do about it, in words. What is said of the set is in set_words.rs.
+//! What a refusal means, and what to do about it, in words. What is said of the set is in set_words.rs, and of a name to copy in copy_words.rs.
 
 use crate::arguments::{option_of, Included, Options};
 use crate::templates::Part;
@@ -118,9 +118,9 @@ fn fixed_words(answer: Answer) -> (&'static str, &'static str) {
              quote those that are plain text",
         ),
         Answer::Name => (
-            "define or pushdef was given a first argument that is not a name",
+            "define or pushdef was given a first argument, or copydef a second one, that is not a name",
             "give a letter or underscore and then letters, digits and underscores only, in quote marks, without blanks \
-             behind it",
+             behind it; copydef takes the name to copy first and the new name second",
         ),
         Answer::Number => (
             "a macro was given a number that it can't take, or something else than a number",
@@ -144,8 +144,9 @@ fn fixed_words(answer: Answer) -> (&'static str, &'static str) {
              may be a single newline. changequote without parentheses sets the usual marks",
         ),
         Answer::NoText => (
-            "defn was given the name of a predefined macro, which has no text",
-            "call the macro itself, or define a name that calls it",
+            "defn was given the name of a predefined macro, or of a copy of one, which has no text",
+            "to give the macro another name, take copydef, as in copydef(`len', `size'); else call the macro itself, or define a \
+             name that calls it",
         ),
         Answer::Gone => (
             "a call is closed here, but its name lost its definition while its arguments were collected",
@@ -156,8 +157,8 @@ fn fixed_words(answer: Answer) -> (&'static str, &'static str) {
             "nest fewer calls, or give fewer arguments; look for a definition that calls itself in its own arguments",
         ),
         Answer::Done | Answer::Exit(_) | Answer::Spent | Answer::Room(_) => ("", ""),
-        // What is said of the set is in set_words.rs.
-        Answer::BadSet | Answer::NoItem => ("", ""),
+        // What is said of these is in set_words.rs and copy_words.rs.
+        Answer::BadSet | Answer::NoItem | Answer::NoDefinition => ("", ""),
     }
 }
 

@@ -3,7 +3,7 @@
 use crate::hints::{self, Gap, Kind, Seen};
 use crate::place::Places;
 use crate::sets::Lent;
-use crate::suspects::{changes_marks, includes};
+use crate::suspects::{changes_marks, defines, includes};
 use crate::templates::Templates;
 use quenhovach::{Answer, Opened, Report};
 
@@ -61,6 +61,7 @@ pub fn warnings(templates: &Templates, lent: &Lent) -> String {
             // These do harm only where the message of a refusal tells of them.
             Kind::GivenPoint { .. }
             | Kind::LookAlike { quoted: true, .. }
+            | Kind::Unquoted(_)
             | Kind::Closer { .. } => {}
             Kind::Return => {
                 let count = std::mem::take(&mut returns[templates.number_at(seen.place)]);
@@ -92,7 +93,7 @@ fn is_near(seen: &Seen, report: &Report) -> bool {
 /// Whether it changes what is read behind it.
 fn lasts(kind: &Kind) -> bool {
     match kind {
-        Kind::Gap(Gap { name, .. }) | Kind::Bare(name) => is_missed_later(name),
+        Kind::Gap(Gap { means: name, .. }) | Kind::Bare(name) => is_missed_later(name),
         Kind::RunsOn { .. } => true,
         _ => false,
     }
@@ -100,23 +101,24 @@ fn lasts(kind: &Kind) -> bool {
 
 /// Whether what is read behind a call of it is read otherwise without the call: by other marks, or without a definition.
 fn is_missed_later(name: &str) -> bool {
-    changes_marks(name) || includes(name) || ["define", "pushdef"].contains(&name)
+    changes_marks(name) || includes(name) || defines(name)
 }
 
 /// How well something fits an answer, 0 the best; none if it can't have caused it.
 fn rank(seen: &Seen, answer: Answer) -> Option<u8> {
     let counted = matches!(answer, Answer::Number | Answer::Expression);
-    let argument = counted || answer == Answer::Name;
+    let named = matches!(answer, Answer::Name | Answer::NoDefinition);
+    let argument = counted || named;
     match seen.kind {
         Kind::Point { .. }
         | Kind::NamedPoint { .. }
         | Kind::GivenPoint { .. }
         | Kind::Plain { .. } => counted.then_some(0),
         Kind::Gap(Gap { counted: true, .. }) if counted => Some(0),
-        Kind::Gap(Gap { name, called, .. }) => {
+        Kind::Gap(Gap { means, called, .. }) => {
             let endless = matches!(answer, Answer::Spent | Answer::Room(_) | Answer::Deep);
             let here = called || seen.within;
-            (fits_name(name, here, answer) || endless && seen.within).then_some(1)
+            (fits_name(means, here, answer) || endless && seen.within).then_some(1)
         }
         Kind::Bare(name) => fits_name(name, seen.within, answer).then_some(1),
         Kind::Return => (seen.within && (argument || answer == Answer::Mark)).then_some(1),
@@ -125,9 +127,10 @@ fn rank(seen: &Seen, answer: Answer) -> Option<u8> {
         }
         Kind::LookAlike { .. } => {
             let call = answer == Answer::Unclosed(Opened::Call);
-            (seen.within && (argument || call)).then_some(u8::from(answer != Answer::Name))
+            (seen.within && (argument || call)).then_some(u8::from(!named))
         }
         Kind::Foreign(_) => (argument && seen.within).then_some(1),
+        Kind::Unquoted(_) => (answer == Answer::NoDefinition).then_some(0),
         Kind::OrderMark => (argument && seen.within).then_some(2),
         Kind::RunsOn { .. } => fits_lost_line(answer).then_some(1),
         Kind::Closer { .. } => (answer == Answer::Unclosed(Opened::Call)).then_some(0),
@@ -140,6 +143,7 @@ fn fits_name(name: &str, here: bool, answer: Answer) -> bool {
         Answer::Name | Answer::Number | Answer::Expression | Answer::Divisor | Answer::Mark => {
             here || is_missed_later(name)
         }
+        Answer::NoDefinition => here || is_missed_later(name),
         Answer::Unclosed(Opened::Quote | Opened::Call) => changes_marks(name),
         _ => false,
     }
@@ -202,17 +206,21 @@ fn words(kind: &Kind) -> String {
         Kind::Foreign(name) => {
             format!("`{name}` is a macro of GNU m4 and not predefined here; it is plain text")
         }
-        Kind::RunsOn { dnl } => {
-            let takes = match dnl {
-                true => "`dnl` drops",
-                false => "the comment takes",
+        Kind::Unquoted(name) => {
+            let name = shortened(name);
+            format!("`{name}` is not in quote marks, so it is called first, and `copydef` is given what comes of that")
+        }
+        Kind::RunsOn { by } => {
+            let takes = match by {
+                "#" => "the comment takes".to_string(),
+                name => format!("`{}` drops", shortened(name)),
             };
             format!("{takes} the first line of the next template, too; this one does not end with a newline")
         }
-        Kind::Closer { dnl } => {
-            let takes = match dnl {
-                true => "`dnl` drops",
-                false => "`#` makes a comment of",
+        Kind::Closer { by } => {
+            let takes = match by {
+                "#" => "`#` makes a comment of".to_string(),
+                name => format!("`{}` drops", shortened(name)),
             };
             format!("{takes} the rest of the line, so the `)` there closes no call")
         }

@@ -2,7 +2,9 @@
 
 mod answer_words;
 mod arguments;
+mod asked;
 mod bytes;
+mod copy_words;
 mod folders;
 mod hint_words;
 mod hints;

@@ -2,7 +2,9 @@
 
 use crate::answer_words::{in_words, too_long_together};
 use crate::arguments::Options;
+use crate::copy_words;
 use crate::hint_words;
+use crate::hints;
 use crate::included::{self, Spot};
 use crate::place::Places;
 use crate::set_words;
@@ -18,11 +20,15 @@ const WIDTH: usize = 79;
 pub fn explain(options: &Options, report: &Report, templates: &Templates, lent: &Lent) -> String {
     let answer = report.answer;
     let places = Places::new(templates).filter(|_| answer != Answer::BadSet);
-    let asked = asked_for(report, templates);
+    let items = lent.items();
+    let defined = hints::defined(&templates.text, &items);
+    let asked = asked_for(report, templates, &defined);
+    let asked = asked.as_deref();
     let (happened, advice) = match answer {
         Answer::Lend if options.inputs.len() > 1 => too_long_together(last_read(templates)),
         Answer::BadSet => set_words::bad(lent),
         Answer::NoItem => set_words::missing(lent, asked),
+        Answer::NoDefinition => copy_words::missing(asked),
         _ => in_words(options, answer),
     };
     let mut parts = match &places {
@@ -39,10 +45,11 @@ pub fn explain(options: &Options, report: &Report, templates: &Templates, lent: 
         wrapped("What happened:", &happened),
         wrapped("What to do:", &advice),
     ]);
-    if answer == Answer::NoItem {
-        let set = set_words::described(lent, asked);
-        parts.extend(set.map(|words| wrapped("The set:", &words)));
-    }
+    let (heading, names) = match answer {
+        Answer::NoItem => ("The set:", set_words::described(lent, asked)),
+        _ => ("Like that name:", copy_words::like(asked, &defined)),
+    };
+    parts.extend(names.map(|names| wrapped(heading, &names)));
     let hints = places.map(|places| hint_words::of_refusal(report, &places, lent));
     let hints = hints.into_iter().flatten();
     parts.extend(hints.map(|hint| wrapped("Hint:", &hint)));
@@ -58,10 +65,14 @@ fn last_read(templates: &Templates) -> &Part {
     templates.parts.last().expect("there is a template")
 }
 
-/// The name that an include was refused for, where the template shows it.
-fn asked_for<'t>(report: &Report, templates: &'t Templates) -> Option<&'t [u8]> {
-    let refused = report.answer == Answer::NoItem;
-    set_words::asked(&templates.text, report.place).filter(|_| refused)
+/// The name that an include or a copydef was refused for, where the template shows it.
+fn asked_for(report: &Report, templates: &Templates, defined: &[&str]) -> Option<Vec<u8>> {
+    let (text, place) = (&templates.text, report.place);
+    match report.answer {
+        Answer::NoItem => set_words::asked(text, place).map(<[u8]>::to_vec),
+        Answer::NoDefinition => copy_words::asked(text, place, defined),
+        _ => None,
+    }
 }
 
 /// Where in included texts the run was reading.
@@ -234,7 +245,7 @@ mod tests {
     }
 
     fn refusals() -> impl Iterator<Item = Answer> {
-        (2..16).flat_map(|n| (0..8).filter_map(move |detail| Answer::from_numbers(n, detail)))
+        (2..17).flat_map(|n| (0..8).filter_map(move |detail| Answer::from_numbers(n, detail)))
     }
 
     #[test]
@@ -262,7 +273,7 @@ The sheet: none was written; t.sheet is as it was";
 
     #[test]
     fn every_refusal_has_words_and_fits() {
-        assert_eq!(refusals().count(), 22);
+        assert_eq!(refusals().count(), 23);
         for answer in refusals() {
             let message = explain(&options(), &refused(answer), &template(b"text"), &nothing());
             for heading in ["What happened: ", "What to do: "] {

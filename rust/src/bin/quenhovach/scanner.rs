@@ -46,8 +46,9 @@ struct Scan<'t> {
     seen: Vec<Seen<'t>>,
 }
 
-/// Reads a text of templates that end at these places: what may be a mistake, as far as the definitions allow, and these.
-pub fn walk<'t>(text: &'t [u8], ends: &'t [usize]) -> (Vec<Seen<'t>>, Owned<'t>) {
+/// Reads a text of templates that end at these places, where some names have a meaning before: what may be a mistake, as far as the definitions allow,
+/// and these.
+pub fn walk<'t>(text: &'t [u8], ends: &'t [usize], own: Owned<'t>) -> (Vec<Seen<'t>>, Owned<'t>) {
     let mut scan = Scan {
         text,
         ends,
@@ -57,7 +58,7 @@ pub fn walk<'t>(text: &'t [u8], ends: &'t [usize]) -> (Vec<Seen<'t>>, Owned<'t>)
         remark: None,
         discards: false,
         marks_changed: false,
-        own: Owned::new(),
+        own,
         open: Vec::new(),
         seen: Vec::new(),
     };
@@ -85,7 +86,7 @@ impl<'t> Scan<'t> {
             b'`' => self.quotes.push(self.frames.len()),
             b'\'' => self.end_quote(),
             _ if self.remark.is_some() => {}
-            b'#' => return self.remark(self.at),
+            b'#' => return self.remark(self.at, "#"),
             b'(' => self.frames.push(self.frame()),
             b')' => self.close(),
             b'$' => return self.parameter(),
@@ -177,11 +178,9 @@ impl<'t> Scan<'t> {
         }
     }
 
-    /// A comment, or what dnl drops, with its mark at a place. In a quote the end mark still counts.
-    fn remark(&mut self, place: usize) {
-        let dnl = self.text[place] != b'#';
-        let mark = if dnl { "dnl" } else { "#" };
-        self.at = place + mark.len();
+    /// A comment, or what dnl drops, with its mark or name at a place. In a quote the end mark still counts.
+    fn remark(&mut self, place: usize, by: &'t str) {
+        self.at = place + by.len();
         if !self.quotes.is_empty() {
             self.remark = Some(self.quotes.len());
             return;
@@ -189,10 +188,10 @@ impl<'t> Scan<'t> {
         let remark = self.run_of(self.at, |b| b != b'\n');
         self.at += remark.len();
         if remarks::runs_on(place..self.at, self.ends) {
-            self.note(place, Kind::RunsOn { dnl });
+            self.note(place, Kind::RunsOn { by });
         }
         if self.frame().in_call && remarks::has_closer(remark) {
-            self.note(place, Kind::Closer { dnl });
+            self.note(place, Kind::Closer { by });
         }
     }
 

@@ -1,9 +1,10 @@
 //! The names and characters that the scan for likely mistakes knows. tests/interfaces/command/hints.py holds the names to the book of rules.
 
 /// Predefined names that are plain text unless `(` directly follows.
-const NEED_CALL: [&str; 19] = [
-    "decr", "define", "defn", "errprint", "eval", "ifdef", "ifelse", "include", "incr", "index",
-    "len", "m4wrap", "popdef", "pushdef", "shift", "sinclude", "substr", "translit", "undefine",
+const NEED_CALL: [&str; 20] = [
+    "copydef", "decr", "define", "defn", "errprint", "eval", "ifdef", "ifelse", "include", "incr",
+    "index", "len", "m4wrap", "popdef", "pushdef", "shift", "sinclude", "substr", "translit",
+    "undefine",
 ];
 /// Predefined names that may have arguments or none.
 const TAKE_CALL: [&str; 5] = ["changecom", "changequote", "divert", "m4exit", "undivert"];
@@ -46,6 +47,11 @@ pub fn is_predefined(name: &str) -> bool {
     needs_call(name) || takes_call(name) || BARE.contains(&name)
 }
 
+/// All of them.
+pub fn predefined() -> impl Iterator<Item = &'static str> {
+    NEED_CALL.into_iter().chain(TAKE_CALL).chain(BARE)
+}
+
 pub fn is_everyday(name: &str) -> bool {
     EVERYDAY.contains(&name)
 }
@@ -56,6 +62,11 @@ pub fn changes_marks(name: &str) -> bool {
 
 pub fn includes(name: &str) -> bool {
     ["include", "sinclude"].contains(&name)
+}
+
+/// Whether it gives a name a meaning.
+pub fn defines(name: &str) -> bool {
+    ["copydef", "define", "pushdef"].contains(&name)
 }
 
 pub fn is_foreign(name: &str) -> bool {

@@ -88,14 +88,15 @@ fn follower(random: &mut Random, name: &str) -> String {
     format!("{between}({})", argument(random, name))
 }
 
-/// An argument that mostly suits the macro.
-fn argument(random: &mut Random, name: &str) -> &'static str {
+/// Arguments that mostly suit the macro.
+pub fn argument(random: &mut Random, name: &str) -> &'static str {
     match name {
         _ if random.chance(5) => random.pick(&["", "a", "1", "-"]),
         "decr" | "eval" | "incr" | "divert" | "m4exit" | "undivert" => {
             random.pick(&["1", "2", "7"])
         }
         "substr" => random.pick(&["ab,1", "abc,1,1", "`c',0"]),
+        "copydef" => random.pick(&["len,l", "`incr',`f'", "`divnum',g"]),
         "define" | "pushdef" | "defn" | "popdef" | "undefine" => random.pick(&["f", "`g'", "f,1"]),
         "changecom" | "changequote" => random.pick(&["`[',`]'", "`<'"]),
         _ => random.pick(&["", "a", "a,b", "`c'", " a ", "(a,b)"]),

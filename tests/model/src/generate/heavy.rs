@@ -71,12 +71,15 @@ fn many_definitions(random: &mut Random) -> Vec<u8> {
         "undefine(`s')s",
         "ifdef(`n50',`y')",
         "defn(`n3',`s')",
+        "copydef(`n3',`n99')copydef(`n99',`n1')n1",
     ]);
     let step = random
         .pick(&[
             "define(`n$1',`B')",
             "pushdef(`s',`B')",
             "define(`n$1',`B')pushdef(`s',`$1')",
+            "define(`s',`B')copydef(`s',`n$1')",
+            "copydef(`len',`n$1')pushdef(`s',`B')",
         ])
         .replace('B', body);
     format!("define(`l',`{step}ifelse($1,0,`{end}',`l(decr($1))')')l({count}){end}").into_bytes()
@@ -89,6 +92,7 @@ fn repeated(random: &mut Random) -> Vec<u8> {
         "pushdef(`s',x)",
         "define(`nK',`v')",
         "pushdef(`sK')",
+        "copydef(`len',`nK')",
         "divert(K)a`'",
         "m4wrap(b)",
         "errprint(c)",

@@ -6,8 +6,9 @@ use super::{mutate, Input, Scale};
 use crate::house::Item;
 use crate::random::Random;
 
-/// Where calls stand: `@` is one, and any other stands for itself. Those in quotes are called later.
-const PLACES: [&str; 61] = [
+/// Where calls stand: `@` is one, `%` is one by a copy, and any other stands for itself. Those in quotes
+/// are called later.
+const PLACES: [&str; 66] = [
     "@",
     "@",
     "@",
@@ -66,6 +67,12 @@ const PLACES: [&str; 61] = [
     "undefine(`include')@@",
     "defn(`include')",
     "ifdef(`include',`@',`none')",
+    // by copies
+    "copydef(`include',`i')copydef(`sinclude',`si')%",
+    "copydef(`include',`i')copydef(`sinclude',`si')len(%)%",
+    "copydef(`include',`i')copydef(`sinclude',`si')undefine(`include')% @",
+    "copydef(`include',`i')copydef(`i',`si')% i",
+    "copydef(`divnum',`include')@include",
     // other marks
     "changequote([,])@",
     "changecom`'@",
@@ -121,9 +128,21 @@ fn placed(random: &mut Random, names: &[Vec<u8>]) -> Vec<u8> {
                     text.extend(sets::call(random, names));
                     text.extend(random.pick(&BEHIND).as_bytes());
                 }
+                b'%' => text.extend(by_copy(&sets::call(random, names))),
                 byte => text.push(byte),
             }
         }
     }
     text
+}
+
+/// A call of `i` instead of `include`, or of `si` instead of `sinclude`.
+fn by_copy(call: &[u8]) -> Vec<u8> {
+    let behind = call.iter().position(|&byte| byte == b'(');
+    let (name, arguments) = call.split_at(behind.expect("a call"));
+    let copy: &[u8] = match name {
+        b"include" => b"i",
+        _ => b"si",
+    };
+    [copy, arguments].concat()
 }

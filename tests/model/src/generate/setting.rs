@@ -195,13 +195,14 @@ fn used_buffer(random: &mut Random, probe: &Probe) -> usize {
 
 /// A budget that is about used up, or used up somewhere on the way.
 fn fewer(random: &mut Random, steps: u32) -> u32 {
-    match random.below(8) {
+    match random.below(9) {
         0 => random.below(4) as u32,
         1..=2 => steps.saturating_sub(1),
         3..=4 => steps.saturating_sub(2),
-        5 => steps,
+        // a step that would be refused is not looked at
+        5..=6 => steps,
         // a text without end soon shows all that it does
-        6 => random.below(steps.min(60) as usize + 2) as u32,
+        7 => random.below(steps.min(60) as usize + 2) as u32,
         _ => random.below(steps as usize + 2) as u32,
     }
 }

@@ -10,6 +10,8 @@ pub struct Name {
     pub kind: Kind,
     /// The predefined macro that it means, or that has this name at the start.
     pub which: Option<Predefined>,
+    /// Whether that macro has this name at the start.
+    pub own: bool,
     /// The byte behind it.
     pub next: Option<u8>,
     /// What the buffers hold before its step.
@@ -37,6 +39,7 @@ impl Name {
             length: name.len(),
             kind,
             which,
+            own: which == predefined(name),
             next: state.ahead.byte(name.len()),
             held: state.held(),
             collecting: state.calls.collecting(),

@@ -156,7 +156,7 @@ impl<'w, 't> Walk<'w, 't> {
         let first = matches!(self.last[0], Did::Began | Did::Dropped);
         self.note_target(which);
         self.note_place(name, which);
-        if self.covered[which as usize] {
+        if name.own && self.covered[which as usize] {
             self.ways.note(Way::PlainAgain, which);
         }
         Did::Plain { which, first }

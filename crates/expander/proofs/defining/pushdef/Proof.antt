@@ -1,15 +1,17 @@
 -- `expander::defining::pushdef` meets its contract. Assumes nothing.
 use Rattle.rules.proofs.Base.{arith, needs}
-use Rattle.rules.specs.Table.{pushed}
+use Rattle.rules.specs.Table.{text, pushed}
+use Rattle.expander.proofs.Changing.{text-means}
 use Rattle.expander.proofs.Rows.{valid}
-use Rattle.expander.proofs.DefiningLaws.{name-long, cost-pushed, pushdef-is, unnamed, overfilled, named}
+use Rattle.expander.proofs.DefiningLaws.{name-long, cost-pushed, pushdef-is, naming-none, naming-is, refines-name, overfilled, changed}
 use Rattle.expander.proofs.defining.pushdef.Statement.{statement}
 use Rattle.expander.proofs.defining.pushdef.Tie as tie
 
 returns : tie.Need-returns
 returns c =
     let k = c .before in
-    λ a s b args r h. unnamed r args pushed (pushdef-is args s) (k .before .before .before .argument .ensures args h) (k .before .is-name .ensures) (k .if1 .taken) (c .refused .ensures)
+    λ a s b args r h.
+    refines-name (naming-none (k .before .is-name .ensures) (k .if1 .taken) pushed args s (pushdef-is args s) (k .before .before .before .argument .ensures args h)) (c .refused .ensures)
 
 returns-2 : tie.Need-returns-2
 returns-2 c =
@@ -18,7 +20,8 @@ returns-2 c =
     let x = k .before .before .argument2 in
     λ a s b args r h.
     let z = cost-pushed (s .table) (r .table .holds) (w .result .now) (x .result .now) in
-    overfilled r args pushed (pushdef-is args s) (w .ensures args h) (k .before .is-name .ensures) (x .ensures args h) (k .if1 .left)
+    overfilled r (pushed (w .result .now) (text (x .result .now)) (s .table))
+    (naming-is (k .before .is-name .ensures) (k .if1 .left) pushed args s (pushdef-is args s) (w .ensures args h) (x .ensures args h))
     (omega (arith, z, c .before .if2 .taken, r .table .holds .packs .used-in)) (c .refused2 .ensures)
 
 push-requires : tie.Need-push-requires
@@ -35,9 +38,9 @@ returns-3 c =
     let x = k .before .before .argument2 in
     let d = c .before .before .before .before .before .before .push in
     λ a s b args r h.
-    named r args pushed (pushdef-is args s) (w .ensures args h) (k .before .is-name .ensures) (x .ensures args h) (k .if1 .left)
-    (d .ensures (s .table) (r .table)) (d .kept .1 .0) (d .kept .1 .1 .0)
-    (c .before .with-table .ensures) (c .on .ensures)
+    changed r (pushed (w .result .now) (text (x .result .now)) (s .table))
+    (naming-is (k .before .is-name .ensures) (k .if1 .left) pushed args s (pushdef-is args s) (w .ensures args h) (x .ensures args h))
+    (d .ensures (s .table) (text (x .result .now)) (text-means (x .result .now)) (r .table)) (d .kept .1 .0) (d .kept .1 .1 .0) (c .before .with-table .ensures) (c .on .ensures)
 
 pub pushdef-spec : {M : Type 1} → statement M
 pushdef-spec =

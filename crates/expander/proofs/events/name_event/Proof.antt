@@ -5,13 +5,13 @@ use Rattle.expander.proofs.table.Meaning.{the-type}
 use Rattle.expander.specs.declared.table.Meaning.the-variants as looked
 use Rattle.expander.specs.Events.{PlainWithin, SpecialWithin, EventWithin}
 use Rattle.expander.proofs.EventLaws.{within-as, is-as, undefined-is, open-is, unopened-is, bare-is}
-use Rattle.expander.proofs.StepLaws.{reach-open, not-third}
+use Rattle.expander.proofs.StepLaws.{reach-open, not-second}
 use Rattle.expander.proofs.events.name_event.Statement.{statement}
 use Rattle.expander.proofs.events.name_event.Tie as tie
 
 -- the name means something
 defined : (c : tie.At-match-keys2) → c .before .before .before .meaning-ahead .result ≡ looked.Undefined → ⊥
-defined c e = not-third (c .match .keys2) (ap (tagOf the-type) e)
+defined c e = not-second (c .match .keys2) (ap (tagOf the-type) e)
 
 returns : tie.Need-returns
 unfolding EventWithin PlainWithin

@@ -76,6 +76,8 @@ perform-spec =
     (λ c κs. let p = start (c .before .before .before) in (valid-of (ours p) (p .args .m) (p .pre .0 .represents), p .pre .1 .0))
     (λ c κs. search needs)
     (λ c. search needs)
+    (λ c κs. let p = start (c .before .before .before .before) in (valid-at (ours p) (p .pre .0 .represents), p .pre .1 .0))
+    (λ c. search needs)
     (λ c κs. search needs)
     (λ c. let h = c .before .before .before in λ a s b args m x. refines-told changeCall (c .before .enum-told .given .1) (h .change-macro .ensures) args s (c .changecom .ensures a s (lent (start h) b) args m x))
     (λ c. let h = c .before .before .before in λ a s b args m x. refines-told changeCall (c .before .enum-told2 .given .1) (h .change-macro .ensures) args s (c .changequote .ensures a s (lent (start h) b) args m x))
@@ -110,4 +112,7 @@ perform-spec =
     returns-14
     (λ c. search needs)
     (λ c. let h = c .before .before .before .before .before .before .before in λ a s b args m x. refines-told changeCall (c .before .before .before .before .before .enum-told15 .given .1) (h .change-macro .ensures) args s (refines-given (c .given3 .ensures) (c .before .before .before .give-contents2 .ensures a s (lent (start h) b) (start h .args .m) args m x)))
-    (λ c. let h = c .before .before .before in λ a s b args m x. refines-told changeCall (c .before .enum-told16 .given .1) (h .change-macro .ensures) args s (refines-gone (c .refused .ensures))))
+    (λ c. search needs)
+    (λ c. search needs)
+    (λ c. let h = c .before .before .before .before .before .before .before .before .before in λ a s b args m x. refines-told changeCall (c .before .before .before .before .before .before .before .enum-told16 .given .1) (h .change-macro .ensures) args s (c .before .before .before .before .copydef .ensures a s (lent (start h) b) args m x))
+    (λ c. let h = c .before .before .before in λ a s b args m x. refines-told changeCall (c .before .enum-told17 .given .1) (h .change-macro .ensures) args s (refines-gone (c .refused .ensures))))

@@ -11,12 +11,12 @@ start c = c .before .before .before .before .before .before .before
 returns : tie.Need-returns
 returns c =
     let p = start (c .before .before .before) in
-    λ a s b m. represents-ahead m (p .pre .1 .0) (name-pending (p .args .text .now) (p .args .pending .now) (p .args .m .source .taken) (p .args .m .source .from) (p .args .n) (c .before .before .if1 .taken)) (c .look-up .ensures)
+    λ a s b m. represents-ahead m (p .pre .1 .0) (name-input (p .args .text .now) (p .args .pending .now) (p .args .m .source .taken) (p .args .m .source .from) (p .args .n) (c .before .before .if1 .taken)) (c .look-up .ensures)
 
 returns-2 : tie.Need-returns-2
 returns-2 c =
     let p = start (c .before .before .before .before) in
-    λ a s b m. represents-ahead m (p .pre .1 .0) (name-input (p .args .text .now) (p .args .pending .now) (p .args .m .source .taken) (p .args .m .source .from) (p .args .n) (c .before .before .if2 .taken)) (c .look-up2 .ensures)
+    λ a s b m. represents-ahead m (p .pre .1 .0) (name-pending (p .args .text .now) (p .args .pending .now) (p .args .m .source .taken) (p .args .m .source .from) (p .args .n) (c .before .before .if2 .taken)) (c .look-up2 .ensures)
 
 returns-3 : tie.Need-returns-3
 returns-3 c = λ a s b m. represents-nothing m (start (c .before .before .before) .pre .1 .0) (omega arith)

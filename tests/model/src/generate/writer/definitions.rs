@@ -7,6 +7,7 @@ use crate::generate::words;
 const OPEN: &[u8] = b"\x01";
 const CLOSE: &[u8] = b"\x02";
 
+const BAD_NAMES: [&str; 6] = ["", "1a", "a b", "-", "a\n", "\u{e9}"];
 const DOLLARS: [&str; 16] = [
     "$1", "$1", "$2", "$3", "$9", "$0", "$#", "$*", "$@", "$@", "$$1", "$", "$10", "$a", "$1$1",
     "${1}",
@@ -32,9 +33,7 @@ impl Writer<'_> {
     pub(super) fn definition(&mut self, depth: usize) -> Vec<u8> {
         let bad = self.random.chance(self.wild);
         let name = if bad {
-            self.random
-                .pick(&["", "1a", "a b", "-", "a\n", "\u{e9}"])
-                .into()
+            self.random.pick(&BAD_NAMES).into()
         } else {
             self.name()
         };
@@ -51,6 +50,30 @@ impl Writer<'_> {
             _ => {}
         }
         self.call(by, &arguments)
+    }
+
+    /// A call of copydef, mostly of a name that has a meaning.
+    pub(super) fn copy(&mut self) -> Vec<u8> {
+        let source = match self.random.below(10) {
+            0..=3 => self.name(),
+            4 if self.random.chance(self.wild) => words::odd(self.random),
+            _ => words::predefined(self.random).into(),
+        };
+        let bad = self.random.chance(self.wild);
+        let name = if bad {
+            self.random.pick(&BAD_NAMES).into()
+        } else {
+            self.name()
+        };
+        let mut arguments = vec![self.quoted(&source), self.quoted(&name)];
+        // what would end the run is not called on purpose
+        if !bad && source != b"m4exit" && source != b"include" {
+            self.known.push(name);
+        }
+        if self.random.chance(5) {
+            arguments.push(self.quoted(b"a"));
+        }
+        self.call(b"copydef", &arguments)
     }
 
     /// The text of a definition.

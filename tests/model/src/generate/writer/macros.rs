@@ -18,6 +18,7 @@ impl Writer<'_> {
             Predefined::Changecom => self.change_comment(),
             Predefined::Changequote => self.change_quote(),
             Predefined::Define | Predefined::Pushdef => self.definition(depth),
+            Predefined::Copydef => self.copy(),
             Predefined::M4exit if self.random.chance(90) => words::plain(self.random),
             // without items this is refused
             Predefined::Include if self.items.is_empty() && self.random.chance(90) => {

@@ -4,7 +4,7 @@ use Rattle.rules.specs.Table.{Definition}
 use Rattle.expander.specs.Limits.{tableEndsLength}
 use Rattle.expander.specs.Table.{DefinitionsIn}
 use Rattle.expander.specs.declared.packed.Packed.{Packed}
-use Rattle.expander.proofs.Sifting.{Sifting, sifting-begins, Facing, facing, sifting-on, sifting-ends, without-in}
+use Rattle.expander.proofs.Sifting.{Sifting, sifting-begins, put-both, sifting-put, Facing, facing, sifting-on, sifting-ends, without-in}
 use Rattle.expander.proofs.packed.Packed.drop_named.Statement.{statement}
 use Rattle.expander.proofs.packed.Packed.drop_named.Tie as tie
 
@@ -19,47 +19,70 @@ abbrev μ-loop : tie.MeasureT-loop
 abbrev entry : tie.In-loop Inv-loop μ-loop → tie.Start Inv-loop μ-loop
 entry c = c .before .before .before .before .before
 
+abbrev turn : tie.After-put Inv-loop μ-loop → tie.In-loop Inv-loop μ-loop
+turn c = c .before .before .before .before .before
+
 -- where the pass is, for the definitions that are known to be there
 now-at : (c : tie.In-loop Inv-loop μ-loop)
     → Sifting (entry c .args .name .now) (entry c .pre .definitions) (entry c .args .self .count) (c .before .loop .bytes) (c .before .loop .ends) (c .before .loop .kept) (c .before .loop .k) (c .before .loop .from)
 now-at c = c .before .loop .inv .2 (entry c .args .self) (entry c .pre .definitions) refl (entry c .pre .holds)
 
-faced : (c : tie.In-loop Inv-loop μ-loop)
-    → Facing (entry c .args .name .now) (entry c .pre .definitions) (entry c .args .self .count) (c .before .loop .bytes) (c .before .loop .ends) (c .before .loop .kept) (c .before .loop .k) (c .before .loop .from)
-    (getD (c .before .loop .ends) (c .before .loop .k) 0) (getD (c .before .loop .ends) (c .before .loop .k + 1) 0)
-faced c =
-    let l = c .before .loop in
-    facing (now-at c) (getD (l .ends) (l .k) 0) (getD (l .ends) (l .k + 1) 0) (c .loop-test .taken) refl refl
+ends-long : (c : tie.In-loop Inv-loop μ-loop) → length (c .before .loop .ends) ≡ tableEndsLength
+ends-long c = c .before .loop .inv .1 ∙ entry c .pre .holds .ends-are
+
+-- the same once the byte of the next one has been put behind those kept, for all definitions
+sifts : (c : tie.After-put Inv-loop μ-loop) (p : Packed) (ds : List Definition) → p .count ≡ entry (turn c) .args .self .count
+    → DefinitionsIn (entry (turn c) .args .bytes .now) (entry (turn c) .args .ends .now) p ds
+    → Sifting (entry (turn c) .args .name .now) ds (entry (turn c) .args .self .count) (turn c .before .loop .bytes) (c .put .last .0) (turn c .before .loop .kept) (turn c .before .loop .k) (turn c .before .loop .from)
+sifts c p ds e h = sifting-put (turn c .before .loop .inv .2 p ds e h) (c .before .before .before .number-at .ensures) (c .put .ensures) (c .put .kept .0)
+
+put-at : (c : tie.After-put Inv-loop μ-loop)
+    → Sifting (entry (turn c) .args .name .now) (entry (turn c) .pre .definitions) (entry (turn c) .args .self .count) (turn c .before .loop .bytes) (c .put .last .0) (turn c .before .loop .kept) (turn c .before .loop .k) (turn c .before .loop .from)
+put-at c = sifts c (entry (turn c) .args .self) (entry (turn c) .pre .definitions) refl (entry (turn c) .pre .holds)
+
+faced : (c : tie.After-put Inv-loop μ-loop)
+    → Facing (entry (turn c) .args .name .now) (entry (turn c) .pre .definitions) (entry (turn c) .args .self .count) (turn c .before .loop .bytes) (c .put .last .0) (turn c .before .loop .kept) (turn c .before .loop .k) (turn c .before .loop .from)
+    (getD (c .put .last .0) (turn c .before .loop .k) 0) (getD (c .put .last .0) (turn c .before .loop .k + 1) 0)
+faced c = facing (put-at c) (getD (c .put .last .0) (turn c .before .loop .k) 0) (getD (c .put .last .0) (turn c .before .loop .k + 1) 0) (turn c .loop-test .taken) refl refl
 
 -- both ends of the definition that the pass comes to are there
-room : (c : tie.In-loop Inv-loop μ-loop) → (c .before .loop .k + 2 ≤ length (c .before .loop .ends)) × (length (c .before .loop .ends) ≡ tableEndsLength)
-room c = (omega (arith, faced c .left, now-at c .count-in), c .before .loop .inv .1 ∙ entry c .pre .holds .ends-are)
+room : (c : tie.After-put Inv-loop μ-loop) → (turn c .before .loop .k + 2 ≤ length (c .put .last .0)) × (length (c .put .last .0) ≡ tableEndsLength)
+room c = (omega (arith, faced c .left, put-at c .count-in), c .put .kept .0 ∙ ends-long (turn c))
+
+put-requires : tie.Need-put-requires Inv-loop μ-loop
+put-requires c κs =
+    let t = c .before .before .before .before in
+    (ends-long t, omega (arith, now-at t .count-few, now-at t .count-behind, t .loop-test .taken))
 
 sift-requires : tie.Need-sift-requires Inv-loop μ-loop
 sift-requires c κs =
-    let l = c .before .before .before .before in
-    let f = faced l in
-    let r = room l in (
-      (now-at l .used-behind, f .from-middle, f .middle-end, f .end-in),
-      (omega (arith, now-at l .count-behind), omega (arith, entry l .pre .holds .bytes-most, l .before .loop .inv .0)),
+    let p = c .before .before .before .before .before .before in
+    let f = faced p in
+    let r = room p in (
+      (put-at p .used-behind, f .from-middle, f .middle-end, f .end-in),
+      (omega (arith, put-at p .count-behind), omega (arith, entry (turn p) .pre .holds .bytes-most, turn p .before .loop .inv .0)),
     )
 
 loop-again : tie.Need-loop-again Inv-loop μ-loop
 loop-again c =
-    let l = c .before .before .before .before .before .before .before .before .before in
-    let i = l .before .loop in
+    let p = c .before .before .before .before .before .before .before .before .before .before .before in
+    let t = turn p in
+    let i = t .before .loop in
     let s = c .before .before .before .before .sift in (
       s .kept .1 .0 ∙ i .inv .0,
-      s .kept .1 .1 .0 ∙ i .inv .1,
-      λ p ds e h.
-          sifting-on (facing (i .inv .2 p ds e h) (getD (i .ends) (i .k) 0) (getD (i .ends) (i .k + 1) 0) (l .loop-test .taken) refl refl) (s .ensures) (s .kept .1 .0) (s .kept .1 .1 .0),
+      s .kept .1 .1 .0 ∙ p .put .kept .0 ∙ i .inv .1,
+      λ q ds e h.
+          sifting-on (facing (sifts p q ds e h) (getD (p .put .last .0) (i .k) 0) (getD (p .put .last .0) (i .k + 1) 0) (t .loop-test .taken) refl refl) (s .ensures)
+          (put-both _ _ (p .before .before .before .number-at .ensures) (p .put .ensures)) (s .kept .1 .0) (s .kept .1 .1 .0),
     )
 
 returns : tie.Need-returns Inv-loop μ-loop
 returns c =
     let s = c .before .before .before .before .before in
     let i = c .before .loop in
-    λ ds h. without-in (s .args .name .now) h (i .inv .0) (i .inv .1) (sifting-ends (i .inv .2 (s .args .self) ds refl h) (c .loop-test .left))
+    λ ds h.
+    let e = sifting-ends (i .inv .2 (s .args .self) ds refl h) (c .loop-test .left) in
+    without-in (s .args .name .now) h (i .inv .0) (i .inv .1) (e .0) (e .1)
 
 pub drop-named-spec : {M : Type 1} → statement M
 drop-named-spec =
@@ -68,16 +91,18 @@ drop-named-spec =
     Inv-loop
     μ-loop
     (λ c. (refl, refl, λ p ds e h. sifting-begins (c .before .before .before .args .name .now) e h))
-    (λ c. omega (arith, room c))
-    (λ c. omega (arith, room c))
-    (λ c. omega (arith, room (c .before)))
-    (λ c. omega (arith, c .slice-known3 .given (c .before .before .loop .k)))
-    (λ c. omega (arith, room (c .before)))
+    (λ c κs. let t = c .before in (ends-long t, omega (arith, now-at t .count-few, t .loop-test .taken)))
+    put-requires
     (λ c. omega (arith, room (c .before .before)))
-    (λ c. omega (arith, c .slice-known4 .given (c .before .before .before .loop .k + 1)))
+    (λ c. omega (arith, room (c .before .before)))
+    (λ c. omega (arith, room (c .before .before .before)))
+    (λ c. omega (arith, c .slice-known4 .given (turn (c .before .before .before) .before .loop .k)))
+    (λ c. omega (arith, room (c .before .before .before)))
+    (λ c. omega (arith, room (c .before .before .before .before)))
+    (λ c. omega (arith, c .slice-known5 .given (turn (c .before .before .before .before) .before .loop .k + 1)))
     sift-requires
-    (λ c. omega (arith, room (c .before .before .before .before .before .before .before .before .before)))
-    (λ c. omega (arith, c .before .before .before .before .before .before .before .before .before .loop-test .taken))
+    (λ c. omega (arith, room (c .before .before .before .before .before .before .before .before .before .before .before)))
+    (λ c. omega (arith, turn (c .before .before .before .before .before .before .before .before .before .before .before) .loop-test .taken))
     loop-again
     (λ c. search needs)
     (λ c. search needs)

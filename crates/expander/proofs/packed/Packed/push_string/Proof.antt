@@ -1,6 +1,6 @@
 -- `expander::packed::Packed::push_string` meets its contract: an empty string, filled. Assumes nothing.
 use Rattle.rules.proofs.Base.{[], _++_, _∷_, arith, needs}
-use Rattle.expander.proofs.Packing.{filled-last}
+use Rattle.expander.proofs.Packing.{filled-last, kept-behind}
 use Rattle.expander.proofs.packed.Packed.push_string.Statement.{statement}
 use Rattle.expander.proofs.packed.Packed.push_string.Tie as tie
 
@@ -16,7 +16,7 @@ returns c =
     let g = c .before .before .before .before .push-slice in
     let e = c .before .before .before .before .before .before .before .before .before .push-empty in (
       λ ss h. rw (filled-last ss (a .s .now)) at (g .ensures .0 (ss ++ ([] ∷ [])) (e .ensures .0 (a .bytes .now) ss h)),
-      (omega arith, omega arith),
+      (omega arith, omega arith, kept-behind (a .ends .now) (e .last .1 .0) (g .last .1 .1 .0) (e .ensures .1 .0) (g .ensures .1 .2) (e .ensures .1 .2)),
     )
 
 pub push-string-spec : {M : Type 1} → statement M

@@ -1,6 +1,7 @@
 -- `expander::packed::Packed::remove_two` meets its contract: the law `removed-two`, with what `start` returned for a and e. Assumes nothing.
-use Rattle.rules.proofs.Base.{_+_, arith, needs}
-use Rattle.expander.proofs.Splicing.{Spans, spans, rebasable, removed-two}
+use Rattle.rules.proofs.Base.{_+_, _-_, arith, needs}
+use Rattle.expander.specs.Packed.{rebased}
+use Rattle.expander.proofs.Splicing.{Spans, spans, rebasable, removed-two, ends-behind}
 use Rattle.expander.proofs.packed.Packed.remove_two.Statement.{statement}
 use Rattle.expander.proofs.packed.Packed.remove_two.Tie as tie
 
@@ -33,9 +34,14 @@ returns : tie.Need-returns
 returns c =
     let s2 = c .before .before .before .before .before .before .before .before in
     let s = entry s2 in
-    λ ss h.
-    removed-two h (s .args .k) (s2 .before .before .start .result) (s2 .start2 .result) (omega (arith, s .pre)) (s2 .before .before .start .ensures) (s2 .start2 .ensures)
-    (c .before .before .rebase .ensures) (c .before .before .before .before .before .before .move-bytes .ensures)
+    let a = s .args in
+    let rebasing = c .before .before .rebase .ensures in (
+      λ ss h.
+          removed-two h (a .k) (s2 .before .before .start .result) (s2 .start2 .result) (omega (arith, s .pre)) (s2 .before .before .start .ensures) (s2 .start2 .ensures)
+          rebasing (c .before .before .before .before .before .before .move-bytes .ensures),
+      ends-behind (rebased (s2 .start2 .result - s2 .before .before .start .result) 0) (a .ends .now) (a .k) (a .k + 2) (a .self .count) (omega arith) (omega (arith, s .pre))
+          (s .pre .0 .packs .count-in) rebasing,
+    )
 
 pub remove-two-spec : {M : Type 1} → statement M
 remove-two-spec =

@@ -24,8 +24,10 @@ returns c =
     let begun = at-start .before .before .before .before .before in
     let a = at-start .start in
     let r = at-resize .resize in
-    let x = begun .args .s .now in
-    λ ss h. written-at (begun .args .ends .now) (begun .args .k) (a .result) x (r .last .1 .0) (r .ensures ss x h refl) (a .ensures) (c .before .before .fill-slice .ensures .is)
+    let x = begun .args .s .now in (
+      λ ss h. written-at (begun .args .ends .now) (begun .args .k) (a .result) x (r .last .1 .0) (r .ensures .0 ss x h refl) (a .ensures) (c .before .before .fill-slice .ensures .is),
+      r .ensures .1,
+    )
 
 pub replace-spec : {M : Type 1} → statement M
 replace-spec =

@@ -1,7 +1,8 @@
 -- `expander::packed::Packed::resize` meets its contract: the laws `resized-same` and `resized-moved`, with what `start` returned for a and e. Assumes nothing.
-use Rattle.rules.proofs.Base.{_≤_, _+_, [], arith, length, getD, needs}
+use Rattle.rules.proofs.Base.{_≤_, _+_, _-_, refl, [], arith, length, getD, needs}
+use Rattle.expander.specs.Packed.{rebased}
 use Rattle.expander.proofs.Packing.{Lies, lies}
-use Rattle.expander.proofs.Splicing.{rebasable, resized-same, resized-moved}
+use Rattle.expander.proofs.Splicing.{rebasable, resized-same, resized-moved, ends-behind}
 use Rattle.expander.proofs.packed.Packed.resize.Statement.{statement}
 use Rattle.expander.proofs.packed.Packed.resize.Tie as tie
 
@@ -23,10 +24,12 @@ room c =
 returns : tie.Need-returns
 returns c =
     let s2 = c .before in
-    let s = entry s2 in
-    λ ss x h ex.
-    resized-same h (s .args .k) (s2 .before .before .start .result) (s2 .start2 .result) (s .args .n) x (omega (arith, s .pre)) (s2 .before .before .start .ensures)
-    (s2 .start2 .ensures) (c .if1 .taken) ex
+    let s = entry s2 in (
+      λ ss x h ex.
+          resized-same h (s .args .k) (s2 .before .before .start .result) (s2 .start2 .result) (s .args .n) x (omega (arith, s .pre)) (s2 .before .before .start .ensures)
+          (s2 .start2 .ensures) (c .if1 .taken) ex,
+      refl,
+    )
 
 move-bytes-requires : tie.Need-move-bytes-requires
 move-bytes-requires c κs =
@@ -49,9 +52,14 @@ returns-2 : tie.Need-returns-2
 returns-2 c =
     let s2 = c .before .before .before .before .before .before .before .before .before in
     let s = entry s2 in
-    λ ss x h ex.
-    resized-moved h (s .args .k) (s2 .before .before .start .result) (s2 .start2 .result) (s .args .n) x (omega (arith, s .pre)) (s2 .before .before .start .ensures)
-    (s2 .start2 .ensures) (omega (arith, room s2, at s2)) ex (c .before .before .rebase .ensures) (c .before .before .before .before .before .before .move-bytes .ensures)
+    let a = s .args in
+    let rebasing = c .before .before .rebase .ensures in (
+      λ ss x h ex.
+          resized-moved h (a .k) (s2 .before .before .start .result) (s2 .start2 .result) (a .n) x (omega (arith, s .pre)) (s2 .before .before .start .ensures)
+          (s2 .start2 .ensures) (omega (arith, room s2, at s2)) ex rebasing (c .before .before .before .before .before .before .move-bytes .ensures),
+      ends-behind (rebased (s2 .start2 .result - s2 .before .before .start .result) (a .n)) (a .ends .now) (a .k) (a .k) (a .self .count) (omega arith) (omega (arith, s .pre))
+          (s .pre .0 .packs .count-in) rebasing,
+    )
 
 pub resize-spec : {M : Type 1} → statement M
 resize-spec =

@@ -37,6 +37,12 @@ replace-requires c κs =
       ),
     )
 
+put-requires : tie.Need-put-requires
+put-requires c κs =
+    let k = c .before .before .before .before .before .before .before .before in
+    let d = entry k .pre .0 in
+    (c .before .before .before .before .before .replace .kept .1 .1 .0 ∙ d .holds .ends-are, omega (arith, within-for k, few-strings (d .holds)))
+
 push-requires : tie.Need-push-requires
 push-requires c κs =
     let s = c .before .before .before .before .before .before .before .before .before .before in
@@ -55,22 +61,23 @@ push-requires c κs =
 
 returns : tie.Need-returns
 returns c =
-    let k = c .before .before .before .before .before .before .before in
+    let k = c .before .before .before .before .before .before .before .before .before .before .before in
     let s = entry k in
-    let r = c .before .before .before .before .replace in
+    let r = c .before .before .before .before .before .before .before .before .replace in
+    let p = c .before .before .put in
     let i = k .before .place .given in
-    λ t h.
-    replaced-in h (s .args .name .now) (r .kept .1 .0) (r .kept .1 .1 .0) (i .0 .0) (s .args .body .now) (s .pre .1 .1 .0) (s .pre .1 .0 (t .definitions) (h .holds) ∙ ap placeOf (i .1))
-    (r .ensures (rows (t .definitions)) (h .holds .packs))
+    λ t m means h.
+    replaced-in h (s .args .name .now) (r .kept .1 .0) (r .kept .1 .1 .0) (p .kept .0) (s .args .self .packed .count) (few-strings (h .holds)) (r .ensures .1) (i .0 .0) m means (s .pre .1 .1 .0)
+    (s .pre .1 .0 (t .definitions) (h .holds) ∙ ap placeOf (i .1)) (r .ensures .0 (rows (t .definitions)) (h .holds .packs)) (p .ensures)
 
 returns-2 : tie.Need-returns-2
 returns-2 c =
     let o = c .before .before .before .before .before .before .before in
-    let s = o .before .before .before .before .before .before .before .before in
+    let s = c .before .before .before .before .before .before .before .before .before .before .before .before .before .before .before in
     let e = o .before .before .enum-told .given .1 in
-    λ t h.
-    defined-own h (s .args .name .now) (s .args .body .now) (s .pre .1 .0 (t .definitions) (h .holds) ∙ ap placeOf e) (o .own-lost .ensures)
-    (c .before .before .before .before .push .ensures)
+    λ t m means h.
+    defined-own h (s .args .name .now) m (s .pre .1 .0 (t .definitions) (h .holds) ∙ ap placeOf e) (o .own-lost .ensures)
+    (λ u _ k. c .before .before .before .before .push .ensures u m means k)
 
 pub define-at-spec : {M : Type 1} → statement M
 define-at-spec =
@@ -80,6 +87,7 @@ define-at-spec =
     (λ c. omega (arith, within-for c, few-strings (entry c .pre .0 .holds)))
     (λ c. omega (arith, within-for c, few-strings (entry c .pre .0 .holds)))
     replace-requires
+    put-requires
     (λ c. search needs)
     (λ c κs. search needs)
     push-requires

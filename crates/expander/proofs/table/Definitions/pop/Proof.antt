@@ -1,5 +1,5 @@
--- `expander::table::Definitions::pop` meets its contract: the newest definition is taken out, else the name's own meaning is lost. Assumes nothing.
-use Rattle.rules.proofs.Base.{_≤_, _+_, _*_, _∙_, ap, arith, needs}
+-- `expander::table::Definitions::pop` meets its contract: the newest definition is taken out, with its byte, else the name's own meaning is lost. Assumes nothing.
+use Rattle.rules.proofs.Base.{_≤_, _+_, _*_, _∙_, refl, ap, arith, needs}
 use Rattle.expander.specs.Table.{rows, placeOf}
 use Rattle.expander.proofs.Packing.{formed}
 use Rattle.expander.proofs.Changing.{found-strings, popped-in, popped-own, few-strings}
@@ -18,18 +18,26 @@ within-for c =
 
 remove-two-requires : tie.Need-remove-two-requires
 remove-two-requires c κs =
-    let k = c .before .before in
+    let k = c .before .before .before in
     let s = entry k in
     (formed (s .pre .holds .packs), (within-for k, omega (arith, s .pre .holds .bytes-most)))
 
+close-up-requires : tie.Need-close-up-requires
+close-up-requires c κs =
+    let k = c .before .before .before .before .before .before .before .before .before in
+    let d = entry k .pre in
+    (c .before .before .before .before .before .remove-two .kept .1 .1 .0 ∙ d .holds .ends-are, omega (arith, within-for k), omega (arith, few-strings (d .holds)))
+
 returns : tie.Need-returns
 returns c =
-    let k = c .before .before .before .before .before .before .before in
+    let k = c .before .before .before .before .before .before .before .before .before .before .before .before in
     let s = entry k in
-    let r = c .before .before .before .before .remove-two in
+    let r = c .before .before .before .before .before .before .before .before .remove-two in
+    let u = c .before .before .close-up in
+    let i = k .before .place .given in
     λ t h.
-    popped-in h (s .args .name .now) (r .kept .1 .0) (r .kept .1 .1 .0) (k .before .place .given .0 .0)
-    (k .before .before .before .newest .ensures (t .definitions) (h .holds) ∙ ap placeOf (k .before .place .given .1)) (r .ensures (rows (t .definitions)) (h .holds .packs))
+    popped-in h (s .args .name .now) (r .kept .1 .0) (r .kept .1 .1 .0) (u .kept .0) (s .args .self .packed .count) (few-strings (h .holds)) (r .ensures .1) (i .0 .0)
+    (k .before .before .before .newest .ensures (t .definitions) (h .holds) ∙ ap placeOf (i .1)) refl (r .ensures .0 (rows (t .definitions)) (h .holds .packs)) (u .ensures)
 
 returns-2 : tie.Need-returns-2
 returns-2 c =
@@ -45,6 +53,7 @@ pop-spec =
     (λ c. search needs)
     (λ c. omega (arith, within-for c, few-strings (entry c .pre .holds)))
     remove-two-requires
+    close-up-requires
     (λ c. search needs)
     (λ c κs. search needs)
     (λ c. search needs)

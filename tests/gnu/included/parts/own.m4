@@ -1,0 +1,1 @@
+copydef(`define',`rig')copydef(`len',`size')dnl
