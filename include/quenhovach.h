@@ -123,7 +123,7 @@ enum {
  *     is not null.
  *   - The seven buffers and the report do not overlap each other, nor the text or the set, and nothing else writes to any of these during
  *     the call. Text and set may overlap.
- *   - The calling thread has 1 MiB of stack left. (Less was needed in every test; tests/costs/stack.py holds the expander to it.)
+ *   - The calling thread has 1.25 MiB of stack left. (Less was needed in every test; tests/costs/stack.py holds the expander to it.)
  *
  * The function keeps no state between calls and uses no heap. It may run in several threads at once, each with its own buffers.
  */

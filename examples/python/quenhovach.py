@@ -8,7 +8,7 @@
 `expand` returns a text only where the run is done. A refusal raises `Refused`, and m4exit raises `Exited`, whatever its number: what a template wrote
 before it ended itself can't be taken for its sheet by a caller who did not think of that.
 
-A call needs 1 MiB of stack. The main thread has what `ulimit -s` says, mostly 8 MiB; so has a thread, unless `threading.stack_size` was set to less.
+A call needs 1.25 MiB of stack. The main thread has what `ulimit -s` says, mostly 8 MiB; so has a thread, unless `threading.stack_size` was set to less.
 Before each call the stack that is left is measured, and RuntimeError raised where it is too little: the process would end by a signal otherwise.
 """
 from __future__ import annotations
@@ -27,7 +27,7 @@ NO_ITEMS = b"\0"  # the set where nothing may be included
 CHUNK = 128  # bytes of a set that stand together at most
 LINES_WORDS = MAX_LENGTH // 64 + 1  # and as many totals: the index of the longest text's lines
 BUDGET = 16777216  # steps, where the caller names no other number
-STACK = 1024 * 1024 + 16 * 1024  # 1 MiB for the expander, the rest for the way there
+STACK = 1280 * 1024 + 16 * 1024  # 1.25 MiB for the expander, the rest for the way there
 LIBRARY = "libquenhovach.so.0"  # as the loader finds it; a path has a slash
 
 Text = Union[bytes, bytearray, memoryview]

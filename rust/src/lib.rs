@@ -30,7 +30,7 @@
 //! calls each, measured on one machine (AMD EPYC, Linux): `cargo run --release --example small_call` measures it on yours.
 //!
 //! The work is done by a library written in Rattle and proved to meet its rules; this crate only calls it. A call needs up
-//! to 1 MiB of stack, and calls in several threads don't know of each other.
+//! to 1.25 MiB of stack, and calls in several threads don't know of each other.
 #![no_std]
 #![warn(missing_docs)]
 

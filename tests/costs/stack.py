@@ -1,7 +1,7 @@
 #!/usr/bin/env python3
-"""A whole call of `expand` needs at most 1 MiB of stack, and so does one with a set.
+"""A whole call of `expand` needs at most 1.25 MiB of stack, and so does one with a set.
 
-The program lends its own buffers from the stack, 524,289 bytes; it is run with a stack limit of that, 1 MiB and 16 KB for the start of a process, on the worst
+The program lends its own buffers from the stack, 524,289 bytes; it is run with a stack limit of that, 1.25 MiB and 16 KB for the start of a process, on the worst
 texts of each macro (worst_texts.py) and on those here, and must give what is written there. Nothing of the expander calls itself but the readers of an
 expression, so these have the deepest stack: 32 nestings, with an operator of each level open in every one of them and inside the last.
 Runs with a set are made by set_runs.c, which lends nothing from the stack, with the same limit less the buffers.
@@ -22,7 +22,7 @@ from worst_texts import END, WORST, Piece, joined, made, opened, run  # noqa: E4
 
 PROGRAM = program("expand")
 BUFFERS = 65537 + 7 * 65536
-WITH_SET = 1024 * 1024 + 16 * 1024
+WITH_SET = 1280 * 1024 + 16 * 1024
 ENOUGH = BUFFERS + WITH_SET
 TOO_LITTLE = 400 * 1024  # less than that
 LEVELS = b"0||1&&0|0^1&1==1<1<<0+1*"  # before an operand of 1 it comes to 1, and every side is worked out
@@ -86,7 +86,7 @@ def limited(words, text, limit):
 def hold(name, done, output, errors):
     """A run in enough stack, and what it has to write."""
     judge(name, (done.returncode, done.stdout, done.stderr) == (0, output, errors),
-          "exit status %d in 1 MiB of stack, %.40r and %r instead of %.40r and %r" % (done.returncode, done.stdout, done.stderr[-80:], output, errors[-80:]))
+          "exit status %d in 1.25 MiB of stack, %.40r and %r instead of %.40r and %r" % (done.returncode, done.stdout, done.stderr[-80:], output, errors[-80:]))
 
 
 def hold_smaller(name, done):

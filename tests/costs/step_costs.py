@@ -4,7 +4,8 @@
 For each of the texts of worst_texts.py two runs are counted that differ by the step in question, with about 16 KB and with about 64 KB of argument,
 definitions, streams or text before it. Where the step costs a fixed number of passes over that, the second is four times the first; it may be at most
 five times, and less than twice would say that the text is not the macro's worst. A step that passes over nothing must cost the same. Each run must give what is
-written there. Names are beginnings of those of the texts. Ends with 'N passed, M failed'; exit status 0 only if M is 0.
+written there. Names are beginnings of those of the texts. Last comes what one use of a name costs among 200 and among 2,000 definitions, as templates have them:
+by buckets, the second is at most twice the first. Ends with 'N passed, M failed'; exit status 0 only if M is 0.
 """
 import os
 import sys
@@ -15,12 +16,15 @@ sys.path[:0] = [os.path.join(HERE, "..", "shared"), os.path.join(HERE, "..", "..
 from counted import Counter  # noqa: E402
 from places import program  # noqa: E402
 from tally import fail, finish, judge  # noqa: E402
-from worst_texts import WORST, without_text  # noqa: E402
+from worst_texts import WORST, names_used, without_text  # noqa: E402
 
 PROGRAM = program("expand")
 SMALL, LARGE = 15000, 60000
 LEAST, MOST = 2.0, 5.0
 SAME = 1.01
+FEW, MANY, USES = 200, 2000, 500
+AMONG_MANY = "a use of a name among many"
+MOST_AMONG_MANY = 2.0
 
 
 def instructions(counter, run):
@@ -50,6 +54,14 @@ def fault_of(small, large, grows):
     return "this is not the worst: the cost does not grow with what it passes over" if ratio < LEAST else None
 
 
+def judge_uses(counter):
+    """What a use costs among few and among many definitions."""
+    (few, first), (many, second) = (cost(counter, names_used(count, USES)) for count in (FEW, MANY))
+    print("%s: %d instructions among %d, %d among %d, ratio %.2f" % (AMONG_MANY, few / USES, FEW, many / USES, MANY, many / few))
+    good = first and second and 0 < many <= MOST_AMONG_MANY * few
+    judge(AMONG_MANY, good, "it costs more than %.1f times as much as among few, or gives another answer" % MOST_AMONG_MANY)
+
+
 def main():
     chosen = {name: make for name, make in WORST.items() if not sys.argv[1:] or any(name.startswith(word) for word in sys.argv[1:])}
     counter = Counter()
@@ -61,6 +73,8 @@ def main():
         fault = fault_of(small, large, make(SMALL).grows) if first and second else "another answer than it should be"
         print("%-25s %12d %12d %7.2f" % (name, small, large, large / small if small else 0), flush=True)
         judge(name, fault is None, fault)
+    if not sys.argv[1:] or any(AMONG_MANY.startswith(word) for word in sys.argv[1:]):
+        judge_uses(counter)
     finish()
 
 

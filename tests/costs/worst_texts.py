@@ -1,9 +1,12 @@
 """For each macro, for a defined text and for the end of a run: texts of a given size on which one step of it costs most, with what they come to.
 
 A text that lacks its last parenthesis is refused at its end; with it, the call is closed, which is the step in question. Steps, place, output and
-error text of both runs are counted by hand from the way in which the text is made; document 01 is the only source.
+error text of both runs are counted by hand from the way in which the text is made; document 01 is the only source. Which names share a bucket, so that a search
+has to pass all of them, is the expander's choice (tests/shared/same_bucket.py).
 """
 import collections
+
+from same_bucket import bucket_of, family
 
 # a text and the steps that it takes
 Piece = collections.namedtuple("Piece", "text steps")
@@ -18,6 +21,8 @@ MACROS = ("changecom changequote decr define defn divert divnum dnl errprint eva
 MOST_ARGUMENTS = 256
 LENT = 65536  # bytes of each buffer
 MANY = 64  # arguments, where each is long beside what it costs for itself
+NAMES = family(bucket_of(b"k"), 3000)
+UNKNOWN = NAMES[-1]  # of their bucket, and defined nowhere
 SIGNS = b"`'" + bytes(b for b in range(256) if b not in b"`'")  # every byte, in an order that is balanced in quotes
 
 
@@ -47,8 +52,14 @@ def closed(before, after=Piece(b"", 0), given=0, grows=True, steps=END, **told):
 
 
 def words(n):
-    """Definitions in n bytes of text: names that differ in their last bytes only, each with a text of two bytes."""
-    return joined(*(made(b"define", b"name%05d" % k, b"ab") for k in range(n // 24)))
+    """Definitions in n bytes of text: names that differ in their last bytes only and are in one bucket, that of k, each with a text of two bytes."""
+    return joined(*(made(b"define", name, b"ab") for name in NAMES[: n // 24]))
+
+
+def pushed(n, name=b"k"):
+    """n definitions of a name of one byte, without texts. A turn is a call, ten times pushdef with its argument, and an empty quote."""
+    turns = n // 10
+    return joined(made(b"define", b"u", b"pushdef(`%s')" % name * 10), Piece(b"u`'" * turns, (1 + 10 * 3 + 1) * turns))
 
 
 def nine_streams(n):
@@ -81,7 +92,7 @@ def decr(n):
 
 def define_shifts(n):
     """The oldest definition becomes longer, and all others move."""
-    return closed(joined(made(b"define", b"a", b"b"), words(n), opened(b"define", b"a", b"bb")), Piece(b"a", 2), output=b"bb")
+    return closed(joined(made(b"define", b"k", b"b"), words(n), opened(b"define", b"k", b"bb")), Piece(b"k", 2), output=b"bb")
 
 
 def define_copies(n):
@@ -95,7 +106,7 @@ def defn_copies(n):
 def defn_searches(n):
     """Each argument is the oldest definition."""
     many = MOST_ARGUMENTS - 1
-    return closed(joined(made(b"define", b"a", b"b"), words(n), opened(b"defn", *[b"a"] * many)), given=many, output=b"b" * many)
+    return closed(joined(made(b"define", b"k", b"b"), words(n), opened(b"defn", *[b"k"] * many)), given=many, output=b"b" * many)
 
 
 def divert(n):
@@ -127,7 +138,13 @@ def evaluate_wide(n):
 
 
 def ifdef_searches(n):
-    return closed(joined(words(n), opened(b"ifdef", b"name99999", b"a", b"b")), given=1, output=b"b")
+    return closed(joined(words(n), opened(b"ifdef", UNKNOWN, b"a", b"b")), given=1, output=b"b")
+
+
+def ifdef_in_full_bucket(n):
+    """The bucket of ifdef, which is that of a, is full of other definitions, and so is that of its argument, which is the same."""
+    unknown = family(bucket_of(b"ifdef"), 1)[0]
+    return closed(joined(pushed(n, b"a"), opened(b"ifdef", unknown, b"1", b"2")), given=1, output=b"2")
 
 
 def ifdef_copies(n):
@@ -169,12 +186,27 @@ def m4wrap(n):
 
 def popdef(n):
     """Each argument uncovers one of 200 definitions below all others, which move each time."""
-    hidden = joined(*[made(b"pushdef", b"a", b"b")] * 200)
-    return closed(joined(hidden, words(n), opened(b"popdef", *[b"a"] * 200)), Piece(b"a", 1), output=b"a")
+    hidden = joined(*[made(b"pushdef", b"k", b"b")] * 200)
+    return closed(joined(hidden, words(n), opened(b"popdef", *[b"k"] * 200)), Piece(b"k", 1), output=b"k")
+
+
+def popdef_oldest(n):
+    """All other definitions get another number, and all buckets are filled again."""
+    return closed(joined(made(b"define", NAMES[0], b"1"), pushed(n), opened(b"popdef", NAMES[0])), Piece(NAMES[0], 1), output=NAMES[0])
+
+
+def popdef_newest(n):
+    """Nothing moves."""
+    return closed(joined(pushed(n), opened(b"popdef", b"k")), grows=False)
 
 
 def pushdef(n):
     return closed(opened(b"pushdef", b"a", b"b" * n), Piece(b"a", 2), output=b"b" * n)
+
+
+def pushdef_among(n):
+    """Nothing is sought, and nothing moves."""
+    return closed(joined(pushed(n), opened(b"pushdef", b"k")), grows=False)
 
 
 def shift(n):
@@ -200,8 +232,12 @@ def undefine_moves(n):
 
 
 def undefine_searches(n):
-    unknown = [b"name99999"] * (MOST_ARGUMENTS - 1)
-    return closed(joined(words(n), opened(b"undefine", *unknown)), Piece(b"name00000", 2), output=b"ab")
+    unknown = [UNKNOWN] * (MOST_ARGUMENTS - 1)
+    return closed(joined(words(n), opened(b"undefine", *unknown)), Piece(NAMES[0], 2), output=b"ab")
+
+
+def undefine_oldest(n):
+    return closed(joined(made(b"define", NAMES[0], b"1"), pushed(n), opened(b"undefine", NAMES[0])), Piece(NAMES[0], 1), output=NAMES[0])
 
 
 def undivert_to_output(n):
@@ -251,8 +287,8 @@ def sinclude(n):
 def copydef_shifts(n):
     """The oldest definition gets the text of the newest, and all between move, with that text."""
     text = b"b" * (n // 4)
-    before = joined(made(b"define", b"a", b""), words(n // 2), made(b"define", b"c", text))
-    return closed(joined(before, opened(b"copydef", b"c", b"a")), Piece(b"a", 2), output=text)
+    before = joined(made(b"define", b"k", b""), words(n // 2), made(b"define", b"c", text))
+    return closed(joined(before, opened(b"copydef", b"c", b"k")), Piece(b"k", 2), output=text)
 
 
 def copydef_appends(n):
@@ -263,13 +299,13 @@ def copydef_appends(n):
 
 def copydef_drops(n):
     """The oldest definition loses a long text for a predefined meaning, and all others move. The call of it then takes four steps."""
-    before = joined(made(b"define", b"a", b"b" * (n // 2)), words(n // 2))
-    return closed(joined(before, opened(b"copydef", b"len", b"a")), Piece(b"a(xyz)", 4), output=b"3")
+    before = joined(made(b"define", b"k", b"b" * (n // 2)), words(n // 2))
+    return closed(joined(before, opened(b"copydef", b"len", b"k")), Piece(b"k(xyz)", 4), output=b"3")
 
 
 def copydef_searches(n):
     """The oldest definition is copied onto a name that has none."""
-    return closed(joined(words(n), opened(b"copydef", b"name00000", b"name99999")), Piece(b"name99999", 2), output=b"ab")
+    return closed(joined(words(n), opened(b"copydef", NAMES[0], UNKNOWN)), Piece(UNKNOWN, 2), output=b"ab")
 
 
 # not of one macro
@@ -305,6 +341,30 @@ def name_across_the_border(n):
     return closed(before, Piece(b"b" * (n // 2), 0), given=1, output=b"a" * (n // 2) + b"b" * (n // 2))
 
 
+def used(before, name, steps, output):
+    """A name is used, beside a run that does not use it."""
+    return Worst(run(before.text, before.steps + END), run(before.text + name, before.steps + steps + END, output=output), True)
+
+
+def oldest_used(n):
+    """Below all others of its bucket. What it gives is a byte, and a step."""
+    return used(joined(made(b"define", NAMES[0], b"1"), pushed(n)), NAMES[0], 2, b"1")
+
+
+def unknown_used(n):
+    return used(pushed(n), UNKNOWN, 1, UNKNOWN)
+
+
+def names_used(count, uses):
+    """Names of a template, so many, as they fall into the buckets, and uses of them, from the oldest to the newest. A use gives a byte; it, that byte and a newline
+    are a step each."""
+    names = [b"sway_x_%d" % k for k in range(count)]
+    before = joined(*(made(b"define", name, b"1") for name in names))
+    lines = Piece(b"".join(names[k * count // uses] + b"\n" for k in range(uses)), 3 * uses)
+    whole = joined(before, lines)
+    return Worst(run(before.text, before.steps + END), run(whole.text, whole.steps + END, output=b"1\n" * uses), True)
+
+
 WORST = {
     "changecom": changecom,
     "changequote": changequote,
@@ -320,6 +380,7 @@ WORST = {
     "eval, a long chain": evaluate,
     "eval, many digits": evaluate_wide,
     "ifdef, a search": ifdef_searches,
+    "ifdef, a full bucket": ifdef_in_full_bucket,
     "ifdef, a long text": ifdef_copies,
     "ifelse, 85 comparisons": ifelse_compares,
     "ifelse, a long text": ifelse_copies,
@@ -329,12 +390,16 @@ WORST = {
     "m4exit": m4exit,
     "m4wrap": m4wrap,
     "popdef, 200 arguments": popdef,
+    "popdef, the oldest": popdef_oldest,
+    "popdef, the newest of all": popdef_newest,
     "pushdef": pushdef,
+    "pushdef, among many": pushdef_among,
     "shift, 64 arguments": shift,
     "substr": substr,
     "translit, every byte": translit,
     "undefine, pushed often": undefine_moves,
     "undefine, 255 arguments": undefine_searches,
+    "undefine, the oldest": undefine_oldest,
     "undivert to the output": undivert_to_output,
     "undivert to a stream": undivert_to_stream,
     "undivert to nowhere": undivert_to_nowhere,
@@ -351,6 +416,8 @@ WORST = {
     "a text of 64 arguments": text_of_lists,
     "a text called at once": text_at_once,
     "a name across the border": name_across_the_border,
+    "a name, oldest of many": oldest_used,
+    "a name, none among many": unknown_used,
 }
 
 

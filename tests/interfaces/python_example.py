@@ -279,17 +279,17 @@ thread = threading.Thread(target=work)
 thread.start()
 thread.join()
 """ % DEEPEST
-TOO_LITTLE = r"a call needs 1064960 bytes of stack, and this thread has \d+ left; threading.stack_size gives new threads more\n"
+TOO_LITTLE = r"a call needs 1327104 bytes of stack, and this thread has \d+ left; threading.stack_size gives new threads more\n"
 
 
 def stacks(library):
     """The deepest run there is, in threads with little stack: it is made or refused, and never ends the process."""
     for name, size, spare, said in [
         ("64 KiB", 1 << 16, 0, TOO_LITTLE),
-        ("1 MiB", 1 << 20, 0, TOO_LITTLE),
-        ("1 MiB and 64 KiB", (1 << 20) + (1 << 16), 1 << 20, r"1\n"),
-        ("1.125 MiB, used up until it is just enough", 9 << 17, 2048, r"1\n"),
-        ("1.125 MiB, used up until it is too little", 9 << 17, 0, TOO_LITTLE),
+        ("1.25 MiB", 5 << 18, 0, TOO_LITTLE),
+        ("1.25 MiB and 64 KiB", (5 << 18) + (1 << 16), 1 << 20, r"1\n"),
+        ("1.375 MiB, used up until it is just enough", 11 << 17, 2048, r"1\n"),
+        ("1.375 MiB, used up until it is too little", 11 << 17, 0, TOO_LITTLE),
     ]:
         status, out, err = python(THREAD, EXAMPLE, library, str(size), str(spare))
         check("a thread's stack of " + name, (status, re.fullmatch(said, out) is not None, err), (0, True, ""))

@@ -52,6 +52,8 @@ PARTS = [
     ("each predefined name", "", "each name"),
     ("open comments", "", "open comments"),
     ("copies of each meaning", "", "copies"),
+    ("names of one bucket", "", "one bucket"),
+    ("tables of many names", "", "tables"),
     ("sets of every form", "", "sets"),
     ("lines.tsv", "", "lines.tsv"),
     ("against counting", "", "counting"),
@@ -82,7 +84,8 @@ First the source as it stands was built in the same way each time, and passed al
 FOOT = """
 Of `differential` (tests/differential/run) the table names what showed the fault: `vectors`, the lines of tests/vectors.tsv through the archive; `each byte` wherever
 its class is asked for, `each name` that is predefined wherever it may stand, `open comments` wherever one may begin, `copies` of each meaning onto names of every kind,
-`sets` that are good, damaged, cut and as long as may be, and `random cases`, on which archive and model differ; `lines.tsv`, the vectors of the index of lines,
+names of `one bucket` changed in every order, `tables` of hundreds of names, many of them in one bucket, `sets` that are good, damaged, cut and as long as may be,
+and `random cases`, on which archive and model differ; `lines.tsv`, the vectors of the index of lines,
 `counting` through the text, which gives another line, start or index, and `random indexes`, on which archive and model differ; `third demand`, two settings that break
 the letter's third demand; `huge lengths`, above 4,294,967,295; `trap`, a read or write outside of what is lent, between inaccessible pages; `valgrind`, the same or the
 use of what was there before.

@@ -2,8 +2,8 @@
 """contracts.py [CRATE..]: nothing that a public function of the leaves promises can be dropped unseen.
 
 Not part of the gate: it takes minutes. For each public function, in a copy of the tree, its `ensures` lines are removed and its proof is made to fit (each
-`returns` answered by search). Then one of its must-fail edits has to be proved, which makes incremental_edits.py fail. The callers in the crate whose
-proofs break besides are listed. Ends with 'N passed, M failed'; exit status 0 only if M is 0.
+`returns` answered by search, and so each answer in place that cites the law of one). Then one of its must-fail edits has to be proved, which makes
+incremental_edits.py fail. The callers in the crate whose proofs break besides are listed. Ends with 'N passed, M failed'; exit status 0 only if M is 0.
 """
 import glob
 import os
@@ -18,9 +18,9 @@ import refused  # noqa: E402
 from places import ROOT  # noqa: E402
 from tally import count, fail, finish  # noqa: E402
 
-LEAVES = ["answers", "ascii", "builtins", "container", "numerals", "matching", "expression", "lines"]
+LEAVES = ["answers", "ascii", "hashing", "builtins", "container", "numerals", "matching", "expression", "lines"]
 ENSURES = re.compile(r"^    ensures .*\n", re.M)
-RETURNS = re.compile(r"^(returns(?:-\d+)?)( : tie\.Need-.*\n)(?:.+\n)+", re.M)
+RETURNS = re.compile(r"^(returns(?:-\d+)?)( : tie\.Need-.*\n)(?:.+\n)*?\1 c =(.*)\n(?:.+\n)*", re.M)
 
 
 def without_promise(function, folder):
@@ -29,7 +29,10 @@ def without_promise(function, folder):
     head = text.rindex("pub fn ", 0, function.start)
     code = text[:head] + ENSURES.sub("", text[head : function.start]) + text[function.start :]
     path = os.path.join(folder, "proofs", function.name, "Proof.antt")
-    proof = RETURNS.sub(lambda m: "%s%s%s c = search needs\n" % (m.group(1), m.group(2), m.group(1)), open(path, encoding="utf-8").read())
+    proof = open(path, encoding="utf-8").read()
+    for law in filter(re.compile(r"\w+-\S+").fullmatch, {m.group(3).strip().partition(" ")[0] for m in RETURNS.finditer(proof)}):
+        proof = re.sub(r"\(λ c\. %s .*\)(\)*)$" % re.escape(law), r"(λ c. search needs)\1", proof, flags=re.M)
+    proof = RETURNS.sub(lambda m: "%s%s%s c = search needs\n" % (m.group(1), m.group(2), m.group(1)), proof)
     if "use borrow.Author.Needs." not in proof:
         proof = "use borrow.Author.Needs.{needs}\n" + proof
     if code == text:

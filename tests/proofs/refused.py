@@ -10,7 +10,7 @@ import glob
 import os
 import re
 
-ITEM = re.compile(r'^impl (\w+) |^\}$|^( *)(pub |pub\(crate\) )?(?:extern "C" )?fn (\w+)\(', re.M)
+ITEM = re.compile(r'^impl (\w+) |^\}$|^( *)(pub |pub\(crate\) )?(?:extern "C" )?fn (\w+)(?:<[^>]*>)?\(', re.M)
 TYPE = re.compile(r"^(?:pub |pub\(crate\) )?(?:struct|enum) (\w+)", re.M)
 CALL = re.compile(r"(?:\b(\w+)::)?\b(\w+)\(")
 ERROR = re.compile(r"^\S+/proofs/((\S+)\.antt:\d+:\d+): (?:error: (?:`([^`\n]+)`: )?|(?=`([^`\n]+)` is not admitted: ))(.*)$", re.M)

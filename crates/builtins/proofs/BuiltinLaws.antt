@@ -9,7 +9,7 @@ use Rattle.builtins.specs.declared.ResultMacro.the-variants as result-ma
 use Rattle.builtins.specs.declared.ChangeMacro.the-variants as change-macro
 use Rattle.builtins.specs.Numbers.{macroCount}
 use Rattle.builtins.specs.Builtins.{Builtin, result, index, change, builtins, builtinAt, kindOf, resultOf, changeOf, resultCall, changeCall, callOf}
-use Rattle.builtins.proofs.Arms.{Avoids, listed, unlisted}
+use Rattle.builtins.proofs.Arms.{Avoids, last-arm, marked, listed}
 use Rattle.builtins.proofs.ResultMacro.{the-type}
 
 -- ---- the book's macro of each number
@@ -67,9 +67,9 @@ module _ {A : Type 0} (f : Builtin → A) (d : A) (xs : List ℕ) where
       go (no q) g = g q
 
   -- where all others have the answer d, so has a number that is not on the list
-  pub others : answers (suc macroCount) ≡ replicate (suc macroCount) d → d ≡ f (change change-macro.None) → (k : ℕ) → Avoids k xs → d ≡ f (builtinAt k)
+  pub others : answers (suc macroCount) ≡ replicate (suc macroCount) d → d ≡ f (change change-macro.None) → (k : ℕ) → Avoids (Unit {0}) k (marked xs) → d ≡ f (builtinAt k)
   unfolding builtinAt builtins
-  others o e k a = go k (decLt k (suc macroCount)) (unlisted k xs a)
+  others o e k a = go k (decLt k (suc macroCount)) (sym (last-arm k (marked xs) a))
     where
       go : (k : ℕ) → Dec (k < suc macroCount) → listed k xs ≡ false → d ≡ f (builtinAt k)
       go k (yes h) q = other-at (suc macroCount) k o h q

@@ -1,109 +1,150 @@
--- Laws of the predefined names and of their numbers. Assumes nothing.
-use Rattle.rules.proofs.Base.{_≤_, ℕ, _<_, suc, zero, _∙_, refl, sym, ap, _≡_, true, Bool, false, true≢false, _&&_, and-eq-true-iff, some, none, Option, List, [], _++_, _∷_, not-suc-le-zero, arith, eqb, length, getD, eqb-true, eqb-false}
-use Rattle.rules.specs.Bytes.{Bytes, sameBytes}
+-- Laws of the predefined names, of their numbers and of their buckets. Assumes nothing.
+use Rattle.rules.proofs.Base.{_≤_, _+_, ℕ, _<_, suc, zero, _∙_, refl, sym, ap, _≡_, true, Bool, false, true≢false, cond, _&&_, and-eq-true-iff, some, none, List, [], _∷_, map, not-suc-le-zero, arith, eqb, length, eq-eqb, ne-eqb, eqb-true, eqb-false}
+use Rattle.rules.specs.Bytes.{Bytes, bytesOf, sameBytes}
 use Rattle.rules.specs.Table.{predefinedNames, numberFrom, predefinedNumber}
-use Rattle.builtins.specs.Numbers.{macroCount, numbered, beginning, predefinedWith, numberIn, NumberAmong, HasNumber}
-use Rattle.builtins.proofs.Arms.{Avoids, listed, unlisted}
+use Rattle.rules.proofs.SameBytes.{same-is}
+use Rattle.hashing.specs.Hashing.{hashOn, hashed, bucketAt, bucketOf}
+use Rattle.builtins.specs.Numbers.{macroCount, numbered, firstIn, candidateIn, hasNumber, HasNumber}
+use Rattle.builtins.proofs.Arms.{armOf, Avoids, last-arm}
 
 pub numbered-some : (k : ℕ) → 0 < k → numbered k ≡ some k
 unfolding numbered
 numbered-some zero h = absurd (not-suc-le-zero h)
 numbered-some (suc k) h = refl
 
--- the first name is the one, or not; or there is no more
-pub number-hit : {k : ℕ} {w n : Bytes} {ns : List (ℕ × Bytes)} → 0 < k → k ≤ macroCount → sameBytes w n ≡ true → NumberAmong w ((k, n) ∷ ns) k
-unfolding numberIn
-number-hit {k} h m e = record { is = rw (e, numberIn) (sym (numbered-some k h)); most = m }
+pub zero-either : (b : Bool) {k : ℕ} → k ≡ 0 → 0 ≡ cond b k 0
+zero-either true e = sym e
+zero-either false e = refl
 
-pub number-miss : {k : ℕ} {w n : Bytes} {ns : List (ℕ × Bytes)} {r : ℕ} → sameBytes w n ≡ false → NumberAmong w ns r → NumberAmong w ((k, n) ∷ ns) r
-unfolding numberIn
-number-miss e h = record { is = rw (e, numberIn) (h .is); most = h .most }
+-- ---- the buckets of the predefined names, in their order
 
-pub number-none : {w : Bytes} → NumberAmong w [] 0
-unfolding numberIn numbered
-number-none = record { is = refl; most = omega arith }
+abbrev pub buckets : List ℕ
+buckets = 33 ∷ 149 ∷ 95 ∷ 24 ∷ 100 ∷ 92 ∷ 119 ∷ 137 ∷ 140 ∷ 31 ∷ 188 ∷ 8 ∷ 182 ∷ 45 ∷ 124 ∷ 180 ∷ 47 ∷ 21 ∷ 161 ∷ 78 ∷ 98 ∷ 73 ∷ 102 ∷ 170 ∷ 62 ∷ 65 ∷ 152 ∷ []
 
--- names in front of others
-module _ (w : Bytes) (ms : List (ℕ × Bytes)) where
-  found-left : (ns : List (ℕ × Bytes)) (j : ℕ) → numberIn w ns ≡ some j → numberIn w (ns ++ ms) ≡ some j
-  unfolding numberIn
-  found-left [] j e = absurd (let z : _≡_ {A = ℕ} 0 1 = cc in omega arith)
-  found-left (n ∷ ns) j e = go (sameBytes w (n .1)) e (found-left ns j)
+buckets-are : map bucketOf predefinedNames ≡ buckets
+unfolding predefinedNames bytesOf bucketOf bucketAt hashed hashOn
+buckets-are = refl
+
+-- the arms of `candidate`: buckets with their numbers, from j
+abbrev pub numbersFrom : ℕ → List ℕ → List (ℕ × ℕ)
+numbersFrom j [] = []
+numbersFrom j (b ∷ bs) = (b, j) ∷ numbersFrom (suc j) bs
+
+abbrev pub numbers : List (ℕ × ℕ)
+numbers = numbersFrom 1 buckets
+
+abbrev place : ℕ → ℕ
+place b = armOf 0 b numbers
+
+first-place : (b j : ℕ) (ns : List Bytes) → firstIn b j ns ≡ armOf 0 b (numbersFrom j (map bucketOf ns))
+unfolding firstIn
+first-place b j [] = refl
+first-place b j (n ∷ ns) = ap (λ r. elim (eqb b (bucketOf n)) [ true ↦ j | false ↦ r ]) (first-place b (suc j) ns)
+
+candidate-place : (b : ℕ) → candidateIn b ≡ place b
+unfolding candidateIn
+candidate-place b = first-place b 1 predefinedNames ∙ ap (λ (bs : List ℕ). armOf 0 b (numbersFrom 1 bs)) buckets-are
+
+-- an arm, and the last
+pub in-bucket : {b x k : ℕ} → b ≡ x → k ≡ armOf 0 x numbers → k ≡ candidateIn b
+in-bucket {b} e h = h ∙ ap place (sym e) ∙ sym (candidate-place b)
+
+pub in-none : {b : ℕ} → Avoids (Unit {0}) b numbers → 0 ≡ candidateIn b
+in-none {b} a = last-arm b numbers a ∙ sym (candidate-place b)
+
+-- each bucket of a list, counted from j, has its own place among all: so no two predefined names share a bucket
+abbrev ownPlaces : ℕ → List ℕ → Bool
+ownPlaces j [] = true
+ownPlaces j (x ∷ xs) = eqb (place x) j && ownPlaces (suc j) xs
+
+alone : ownPlaces 1 (map bucketOf predefinedNames) ≡ true
+alone = rw buckets-are
+
+-- ---- the name of a number
+
+count : length predefinedNames ≡ macroCount
+unfolding predefinedNames
+count = refl
+
+-- the arms of `is_named`: whether w is one of some names that are numbered from j
+abbrev pub testsFrom : Bytes → ℕ → List Bytes → List (ℕ × Bool)
+testsFrom w j [] = []
+testsFrom w j (n ∷ ns) = (j, sameBytes w n) ∷ testsFrom w (suc j) ns
+
+abbrev isNth : Bytes → ℕ → ℕ → List Bytes → Bool
+isNth w k j ns = armOf false k (testsFrom w j ns)
+
+module _ (w : Bytes) where
+  -- the number of w, if it is predefined
+  abbrev own : ℕ
+  own = place (bucketOf w)
+
+  -- what is known of the k-th
+  record Nth (k j : ℕ) (ns : List Bytes) : Type 0 where
+    at : own ≡ k
+    least : j ≤ k
+    most : k < j + length ns
+
+  module _ (n : Bytes) (j : ℕ) (ns : List Bytes) (a : ownPlaces j (map bucketOf (n ∷ ns)) ≡ true) where
+    both : (eqb (place (bucketOf n)) j ≡ true) × (ownPlaces (suc j) (map bucketOf ns) ≡ true)
+    both = and-eq-true-iff (eqb (place (bucketOf n)) j) (ownPlaces (suc j) (map bucketOf ns)) .0 a
+
+    first : sameBytes w n ≡ true → own ≡ j
+    first e = ap (λ (v : Bytes). place (bucketOf v)) (same-is w n e) ∙ eqb-true (place (bucketOf n)) j (both .0)
+
+  nth : (k j : ℕ) (ns : List Bytes) → ownPlaces j (map bucketOf ns) ≡ true → isNth w k j ns ≡ true → Nth k j ns
+  nth k j [] a e = absurd (true≢false (sym e))
+  nth k j (n ∷ ns) a e = go (eqb k j) refl e (nth k (suc j) ns (both n j ns a .1))
     where
-      go : (t : Bool) → elim t [ true ↦ some (n .0) | false ↦ numberIn w ns ] ≡ some j → (numberIn w ns ≡ some j → numberIn w (ns ++ ms) ≡ some j)
-          → elim t [ true ↦ some (n .0) | false ↦ numberIn w (ns ++ ms) ] ≡ some j
-      go true e f = e
-      go false e f = f e
+      go : (t : Bool) → eqb k j ≡ t → elim t [ true ↦ sameBytes w n | false ↦ isNth w k (suc j) ns ] ≡ true → (isNth w k (suc j) ns ≡ true → Nth k (suc j) ns) → Nth k j (n ∷ ns)
+      go true q e f = let z = eqb-true k j q in record { at = first n j ns a e ∙ sym z; least = omega arith; most = omega arith }
+      go false q e f = record { at = f e .at; least = omega (arith, f e .least); most = omega (arith, f e .most) }
 
-  found-right : (ns : List (ℕ × Bytes)) → numberIn w ns ≡ none → numberIn w (ns ++ ms) ≡ numberIn w ms
-  unfolding numberIn
-  found-right [] e = refl
-  found-right (n ∷ ns) e = go (sameBytes w (n .1)) e (found-right ns)
+  number-nth : (j : ℕ) (ns : List Bytes) → ownPlaces j (map bucketOf ns) ≡ true → numberFrom j w ns ≡ cond (isNth w own j ns) (some own) none
+  unfolding numberFrom
+  number-nth j [] a = refl
+  number-nth j (n ∷ ns) a = go (sameBytes w n) (eqb own j) (isNth w own (suc j) ns) refl refl refl (number-nth (suc j) ns (both n j ns a .1))
     where
-      go : (t : Bool) → _≡_ {A = Option ℕ} (elim t [ true ↦ some (n .0) | false ↦ numberIn w ns ]) none → (numberIn w ns ≡ none → numberIn w (ns ++ ms) ≡ numberIn w ms)
-          → elim t [ true ↦ some (n .0) | false ↦ numberIn w (ns ++ ms) ] ≡ numberIn w ms
-      go true e f = absurd (let z : _≡_ {A = ℕ} 0 1 = cc in omega arith)
-      go false e f = f e
+      go : (t u v : Bool) → sameBytes w n ≡ t → eqb own j ≡ u → isNth w own (suc j) ns ≡ v → numberFrom (suc j) w ns ≡ cond v (some own) none
+          → elim t [ true ↦ some j | false ↦ numberFrom (suc j) w ns ] ≡ cond (elim u [ true ↦ t | false ↦ v ]) (some own) none
+      go true true v p q r h = ap some (sym (eqb-true own j q))
+      go true false v p q r h = absurd (eqb-false own j q (first n j ns a p))
+      go false true true p q r h = absurd (let e = nth own (suc j) ns (both n j ns a .1) r in omega (arith, eqb-true own j q, e .least))
+      go false true false p q r h = h
+      go false false v p q r h = h
 
-pub number-left : {w : Bytes} {ns : List (ℕ × Bytes)} {r : ℕ} (ms : List (ℕ × Bytes)) → NumberAmong w ns r → (r ≡ 0 → ⊥) → NumberAmong w (ns ++ ms) r
-number-left {w} {ns} {r} ms h ne =
-    let e = numbered-some r (omega arith) in
-    record { is = found-left w ms ns r (h .is ∙ e) ∙ sym e; most = h .most }
-
-pub number-right : {w : Bytes} {ns : List (ℕ × Bytes)} {r q : ℕ} (ms : List (ℕ × Bytes)) → NumberAmong w ns r → r ≡ 0 → NumberAmong w ms q → NumberAmong w (ns ++ ms) q
-unfolding numbered
-number-right {w} {ns} ms h z g = record { is = found-right w ms ns (h .is ∙ ap numbered z) ∙ g .is; most = g .most }
-
--- ---- by the first byte
-
-module _ {b : ℕ} where
-  other-first : (w n : Bytes) → getD w 0 0 ≡ b → eqb b (getD n 0 0) ≡ false → sameBytes w n ≡ false
-  unfolding sameBytes
-  other-first [] [] f e = absurd (eqb-false b 0 e (sym f))
-  other-first [] (y ∷ ys) f e = refl
-  other-first (x ∷ xs) [] f e = refl
-  other-first (x ∷ xs) (y ∷ ys) f e = rw (f, e, sameBytes)
-
-  number-beginning : (w : Bytes) → getD w 0 0 ≡ b → (ns : List Bytes) (k : ℕ) → numberFrom k w ns ≡ numberIn w (beginning b k ns)
-  unfolding numberFrom numberIn beginning
-  number-beginning w first [] k = refl
-  number-beginning w first (n ∷ ns) k = go (eqb b (getD n 0 0)) refl (number-beginning w first ns (suc k))
+  -- the name has the number k just where it is the k-th
+  has-nth : (k : ℕ) → hasNumber w k ≡ isNth w k 1 predefinedNames
+  unfolding hasNumber predefinedNumber
+  has-nth k = rw (number-nth 1 predefinedNames alone, hasNumber) (go (isNth w own 1 predefinedNames) (isNth w k 1 predefinedNames) refl refl)
     where
-      go : (t : Bool) → eqb b (getD n 0 0) ≡ t → numberFrom (suc k) w ns ≡ numberIn w (beginning b (suc k) ns)
-          → numberFrom k w (n ∷ ns) ≡ numberIn w (elim t [ true ↦ (k, n) ∷ beginning b (suc k) ns | false ↦ beginning b (suc k) ns ])
-      go true q e = ap (λ o. elim (sameBytes w n) [ true ↦ some k | false ↦ o ]) e
-      go false q e = rw (other-first w n first q, numberFrom) e
+      to : own ≡ k → isNth w own 1 predefinedNames ≡ isNth w k 1 predefinedNames
+      to e = ap (λ (i : ℕ). isNth w i 1 predefinedNames) e
 
-  -- a name that begins with b is looked for among those that do, wherever these stand
-  pub letter : (w : Bytes) {r : ℕ} → getD w 0 0 ≡ b → NumberAmong w (predefinedWith b) r → HasNumber w r
-  unfolding predefinedNumber predefinedWith
-  letter w first h = record { is = number-beginning w first predefinedNames 1 ∙ h .is; most = h .most }
+      go : (t u : Bool) → isNth w own 1 predefinedNames ≡ t → isNth w k 1 predefinedNames ≡ u
+          → _≡_ {A = Bool} (elim (cond t (some own) none) [ none ↦ false | some j ↦ eqb j k ]) u
+      go true true p q = eq-eqb own k (nth k 1 predefinedNames alone q .at)
+      go true false p q = ne-eqb own k (λ e. true≢false (sym p ∙ to e ∙ q))
+      go false true p q = absurd (true≢false (sym q ∙ sym (to (nth k 1 predefinedNames alone q .at)) ∙ p))
+      go false false p q = refl
 
-module _ (bs : List ℕ) where
-  -- each name of a list begins with one of bs
-  abbrev pub allBegin : List Bytes → Bool
-  allBegin [] = true
-  allBegin (n ∷ ns) = listed (getD n 0 0) bs && allBegin ns
+  -- the candidate of a name's bucket is its number, or it has none
+  pub confirmed-number : (k : ℕ) → k ≡ candidateIn (bucketOf w) → HasNumber w (cond (hasNumber w k) k 0)
+  unfolding predefinedNumber numbered
+  confirmed-number k e = rw (has-nth k) (go (isNth w k 1 predefinedNames) refl)
+    where
+      number : predefinedNumber w ≡ cond (isNth w k 1 predefinedNames) (some k) none
+      number = rw (e, candidate-place) (number-nth 1 predefinedNames alone)
 
-  module _ (b : ℕ) (other : listed b bs ≡ false) where
-    none-beginning : (ns : List Bytes) (k : ℕ) → allBegin ns ≡ true → beginning b k ns ≡ []
-    unfolding beginning
-    none-beginning [] k e = refl
-    none-beginning (n ∷ ns) k e = go (eqb b (getD n 0 0)) refl (none-beginning ns (suc k) (both .1))
-      where
-        both : (listed (getD n 0 0) bs ≡ true) × (allBegin ns ≡ true)
-        both = and-eq-true-iff (listed (getD n 0 0) bs) (allBegin ns) .0 e
+      go : (t : Bool) → isNth w k 1 predefinedNames ≡ t → HasNumber w (cond t k 0)
+      go true p =
+          let n = nth k 1 predefinedNames alone p in
+          record { is = number ∙ rw p (sym (numbered-some k (n .least))); most = omega (arith, n .most, count) }
+      go false p = record { is = number ∙ rw p; most = omega arith }
 
-        go : (t : Bool) → eqb b (getD n 0 0) ≡ t → beginning b (suc k) ns ≡ []
-            → _≡_ {A = List (ℕ × Bytes)} (elim t [ true ↦ (k, n) ∷ beginning b (suc k) ns | false ↦ beginning b (suc k) ns ]) []
-        go true q h = absurd (true≢false (sym (both .0) ∙ ap (λ x. listed x bs) (sym (eqb-true b (getD n 0 0) q)) ∙ other))
-        go false q h = h
+-- an arm, and the last
+pub named : (w : Bytes) {k x : ℕ} {r : Bool} → k ≡ x → r ≡ armOf false x (testsFrom w 1 predefinedNames) → r ≡ hasNumber w k
+named w {k} e h = h ∙ ap (λ (i : ℕ). isNth w i 1 predefinedNames) (sym e) ∙ sym (has-nth w k)
 
-  -- where bs are the first bytes of the predefined names, a name that begins with none of them is not predefined
-  pub no-letter : allBegin predefinedNames ≡ true → (w : Bytes) {b : ℕ} → getD w 0 0 ≡ b → Avoids b bs → HasNumber w 0
-  unfolding predefinedWith
-  no-letter all w {b} first a = letter w first (rw (none-beginning b (unlisted b bs a) predefinedNames 1 all) number-none)
-
-pub first-none : (s : Bytes) → length s ≡ 0 → 0 ≡ getD s 0 0
-first-none [] e = refl
-first-none (x ∷ xs) e = absurd (omega arith)
+pub named-none : (w : Bytes) (k : ℕ) → Avoids (Unit {0}) k (testsFrom w 1 predefinedNames) → false ≡ hasNumber w k
+named-none w k a = last-arm k (testsFrom w 1 predefinedNames) a ∙ sym (has-nth w k)

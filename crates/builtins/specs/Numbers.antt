@@ -1,13 +1,13 @@
 -- The number of a predefined name, as a byte: 0 where it has none.
 use Prim.Native.Nat.{ℕ, zero, suc, _≤_}
 use mathlib.Core.Path.{_≡_}
-use mathlib.Core.Bool.{true, false}
+use mathlib.Core.Bool.{Bool, true, false}
 use mathlib.Core.List.{List, [], _∷_}
 use mathlib.Core.Option.{Option, none, some}
 use lib.Dec.{eqb}
-use lib.ListN.{getD}
-use Rattle.rules.specs.Bytes.{Bytes, sameBytes}
+use Rattle.rules.specs.Bytes.{Bytes}
 use Rattle.rules.specs.Table.{predefinedNames, predefinedNumber}
+use Rattle.hashing.specs.Hashing.{bucketOf}
 
 -- how many there are, as many as the book names
 abbrev pub macroCount : ℕ
@@ -17,24 +17,18 @@ unfoldable pub numbered : ℕ → Option ℕ
 numbered zero = none
 numbered (suc k) = some (suc k)
 
--- of names that are numbered from k, those that begin with b, wherever they stand, with their numbers
-unfoldable pub beginning : ℕ → ℕ → List Bytes → List (ℕ × Bytes)
-beginning b k [] = []
-beginning b k (n ∷ ns) = elim (eqb b (getD n 0 0)) [ true ↦ (k, n) ∷ beginning b (suc k) ns | false ↦ beginning b (suc k) ns ]
+-- of names that are numbered from k, the number of the first that has a bucket, else 0
+unfoldable pub firstIn : ℕ → ℕ → List Bytes → ℕ
+firstIn bucket k [] = 0
+firstIn bucket k (n ∷ ns) = elim (eqb bucket (bucketOf n)) [ true ↦ k | false ↦ firstIn bucket (suc k) ns ]
 
--- the predefined names that begin with b
-unfoldable pub predefinedWith : ℕ → List (ℕ × Bytes)
-predefinedWith b = beginning b 1 predefinedNames
+-- the number of the predefined name that has a bucket, of which there is one at most (law `alone` of Naming), else 0
+unfoldable pub candidateIn : ℕ → ℕ
+candidateIn bucket = firstIn bucket 1 predefinedNames
 
--- the number that goes with a name
-unfoldable pub numberIn : Bytes → List (ℕ × Bytes) → Option ℕ
-numberIn w [] = none
-numberIn w (x ∷ xs) = elim (sameBytes w (x .1)) [ true ↦ some (x .0) | false ↦ numberIn w xs ]
-
--- r is the number of a name among some names with their numbers
-pub record NumberAmong (w : Bytes) (names : List (ℕ × Bytes)) (r : ℕ) : Type 0 where
-  pub is : numberIn w names ≡ numbered r
-  pub most : r ≤ macroCount
+-- the name has the number k
+unfoldable pub hasNumber : Bytes → ℕ → Bool
+hasNumber w k = elim (predefinedNumber w) [ none ↦ false | some j ↦ eqb j k ]
 
 -- r is the number of a name among the predefined ones
 pub record HasNumber (w : Bytes) (r : ℕ) : Type 0 where

@@ -2,11 +2,9 @@
 // it here, by its number.
 use ascii::same;
 ghost use mathlib.Core.Path.{_≡_};
-ghost use mathlib.Core.List.{[], _∷_};
-ghost use Prim.Native.Nat.{_≤_, _<_, _+_};
-ghost use lib.ListN.{getD};
+ghost use mathlib.Core.Bool.{cond};
 ghost use Rattle.rules.specs.Table.{needsParenthesis};
-ghost use Rattle.builtins.specs.Numbers.{macroCount, predefinedWith, NumberAmong, HasNumber};
+ghost use Rattle.builtins.specs.Numbers.{candidateIn, hasNumber, HasNumber};
 ghost use Rattle.builtins.specs.Builtins.{builtinAt, kindOf, resultOf, changeOf};
 
 // What a predefined macro does: it only gives a result; it is index, which gives one by a search that takes much stack; or it changes other
@@ -54,108 +52,94 @@ pub enum ChangeMacro {
     None,
 }
 
-// The first byte, or 0.
-fn first_byte(s: &[u8]) -> u8
-    ensures { λ r. ⌜ r ≡ getD (now (s .entry)) 0 0 ⌝ }
+// The number of the one predefined name that has a bucket, else 0. (The arms go by number.)
+pub fn candidate(bucket: usize) -> u8
+    ensures { λ r. ⌜ r ≡ candidateIn bucket ⌝ }
 {
-    if s.len() == 0 {
+    match bucket {
+        33 => 1,
+        149 => 2,
+        95 => 3,
+        24 => 4,
+        100 => 5,
+        92 => 6,
+        119 => 7,
+        137 => 8,
+        140 => 9,
+        31 => 10,
+        188 => 11,
+        8 => 12,
+        182 => 13,
+        45 => 14,
+        124 => 15,
+        180 => 16,
+        47 => 17,
+        21 => 18,
+        161 => 19,
+        78 => 20,
+        98 => 21,
+        73 => 22,
+        102 => 23,
+        170 => 24,
+        62 => 25,
+        65 => 26,
+        152 => 27,
+        _ => 0,
+    }
+}
+
+// The name is the predefined one of a number.
+fn is_named(name: &[u8], k: u8) -> bool
+    ensures { λ r. ⌜ r ≡ hasNumber (now (name .entry)) k ⌝ }
+{
+    match k {
+        1 => same(name, b"changecom"),
+        2 => same(name, b"changequote"),
+        3 => same(name, b"decr"),
+        4 => same(name, b"define"),
+        5 => same(name, b"defn"),
+        6 => same(name, b"divert"),
+        7 => same(name, b"divnum"),
+        8 => same(name, b"dnl"),
+        9 => same(name, b"errprint"),
+        10 => same(name, b"eval"),
+        11 => same(name, b"ifdef"),
+        12 => same(name, b"ifelse"),
+        13 => same(name, b"incr"),
+        14 => same(name, b"index"),
+        15 => same(name, b"len"),
+        16 => same(name, b"m4exit"),
+        17 => same(name, b"m4wrap"),
+        18 => same(name, b"popdef"),
+        19 => same(name, b"pushdef"),
+        20 => same(name, b"shift"),
+        21 => same(name, b"substr"),
+        22 => same(name, b"translit"),
+        23 => same(name, b"undefine"),
+        24 => same(name, b"undivert"),
+        25 => same(name, b"include"),
+        26 => same(name, b"sinclude"),
+        27 => same(name, b"copydef"),
+        _ => false,
+    }
+}
+
+// k where the name is the predefined one of this number, else 0. Where k is the candidate of the name's bucket, this is the number of the name
+// (law `confirmed-number`): it is compared with one predefined name, or with none.
+pub fn confirmed(name: &[u8], k: u8) -> u8
+    ensures { λ r. ⌜ r ≡ cond (hasNumber (now (name .entry)) k) k 0 ⌝ }
+{
+    if k == 0 {
         return 0;
     }
-    s[0]
+    if is_named(name, k) { k } else { 0 }
 }
 
-// The number k for `known`, else 0.
-fn number_of_one(name: &[u8], known: &[u8], k: u8) -> u8
-    requires { ⌜ (0 < k) × (k ≤ macroCount) ⌝ }
-    ensures { λ r. ⌜ NumberAmong (now (name .entry)) ((k, now (known .entry)) ∷ []) r ⌝ }
-{
-    if same(name, known) { k } else { 0 }
-}
-
-// The number k for `first`, k + 1 for `second`, else 0.
-fn number_of_two(name: &[u8], first: &[u8], second: &[u8], k: u8) -> u8
-    requires { ⌜ (0 < k) × (k < macroCount) ⌝ }
-    ensures { λ r. ⌜ NumberAmong (now (name .entry)) ((k, now (first .entry)) ∷ (k + 1, now (second .entry)) ∷ []) r ⌝ }
-{
-    if same(name, first) {
-        return k;
-    }
-    if same(name, second) {
-        return k + 1;
-    }
-    0
-}
-
-// The number of a name that begins with c.
-fn number_c(name: &[u8]) -> u8
-    ensures { λ r. ⌜ NumberAmong (now (name .entry)) (predefinedWith 99) r ⌝ }
-{
-    let first = number_of_two(name, b"changecom", b"changequote", 1);
-    if first != 0 {
-        return first;
-    }
-    number_of_one(name, b"copydef", 27)
-}
-
-// The number of a name that begins with d.
-fn number_d(name: &[u8]) -> u8
-    ensures { λ r. ⌜ NumberAmong (now (name .entry)) (predefinedWith 100) r ⌝ }
-{
-    let first = number_of_two(name, b"decr", b"define", 3);
-    if first != 0 {
-        return first;
-    }
-    let second = number_of_two(name, b"defn", b"divert", 5);
-    if second != 0 {
-        return second;
-    }
-    number_of_two(name, b"divnum", b"dnl", 7)
-}
-
-// The number of a name that begins with i.
-fn number_i(name: &[u8]) -> u8
-    ensures { λ r. ⌜ NumberAmong (now (name .entry)) (predefinedWith 105) r ⌝ }
-{
-    let first = number_of_two(name, b"ifdef", b"ifelse", 11);
-    if first != 0 {
-        return first;
-    }
-    let second = number_of_two(name, b"incr", b"index", 13);
-    if second != 0 {
-        return second;
-    }
-    number_of_one(name, b"include", 25)
-}
-
-// The number of a name that begins with s.
-fn number_s(name: &[u8]) -> u8
-    ensures { λ r. ⌜ NumberAmong (now (name .entry)) (predefinedWith 115) r ⌝ }
-{
-    let first = number_of_two(name, b"shift", b"substr", 20);
-    if first != 0 {
-        return first;
-    }
-    number_of_one(name, b"sinclude", 26)
-}
-
-// The number of a predefined name, else 0. It is compared with those names alone that begin like it.
+// The number of a predefined name, else 0.
 pub fn number_of(name: &[u8]) -> u8
     ensures { λ r. ⌜ HasNumber (now (name .entry)) r ⌝ }
 {
-    let first = first_byte(name);
-    match first {
-        b'c' => number_c(name),
-        b'd' => number_d(name),
-        b'e' => number_of_two(name, b"errprint", b"eval", 9),
-        b'i' => number_i(name),
-        b'l' => number_of_one(name, b"len", 15),
-        b'm' => number_of_two(name, b"m4exit", b"m4wrap", 16),
-        b'p' => number_of_two(name, b"popdef", b"pushdef", 18),
-        b's' => number_s(name),
-        b't' => number_of_one(name, b"translit", 22),
-        b'u' => number_of_two(name, b"undefine", b"undivert", 23),
-        _ => 0,
-    }
+    confirmed(name, candidate(hashing::bucket_of(name)))
 }
 
 // Whether the macro of a number is called only with a parenthesis behind its name: such a number has one in the table, from 0 on. (Macros to

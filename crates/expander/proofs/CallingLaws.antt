@@ -11,6 +11,7 @@ use Rattle.rules.specs.State.{Call, State, Outcome, withCalls, withSource, taki
 use Rattle.rules.specs.Macros.{giving, perform, performed, called}
 use Rattle.rules.specs.Step.{closed}
 use Rattle.rules.specs.Run.{Setting}
+use Rattle.hashing.specs.Hashing.{bucketOf}
 use Rattle.expander.specs.declared.arguments.Arguments.{Arguments}
 use Rattle.expander.specs.declared.calls.Calls.{Calls}
 use Rattle.expander.specs.declared.giving.Pushed.{Pushed}
@@ -25,7 +26,7 @@ use Rattle.expander.specs.Limits.{mostLent, callEndsLength}
 use Rattle.expander.specs.Arguments.{ArgumentsIn}
 use Rattle.expander.specs.Calls.{openStrings, CallsIn}
 use Rattle.expander.specs.Giving.{pushedStep}
-use Rattle.expander.specs.Machine.{Memory, Represents, Refines, Reach, callsSet, sourceSet, stepped}
+use Rattle.expander.specs.Machine.{Memory, Represents, Refines, Reach, bytesAhead, callsSet, sourceSet, stepped}
 use Rattle.expander.specs.Packed.{Packs}
 use Rattle.expander.specs.Source.{SourceIn}
 use Rattle.expander.specs.Table.{rows, meaningFor, textEnd, TableIn, Finds}
@@ -252,6 +253,12 @@ name-copied input pending d taken from n {y} k h e =
     ap length f ∙ length-take-le n l (omega (arith, length-append (drop from pending) (drop taken input), length-drop from pending, length-drop taken input)) in
     take-at y (drop n d) n (omega (arith, g)) ∙ f
 
+-- a part of so many bytes
+pub part-long : (l : Bytes) (at n : ℕ) → at + n ≤ length l → length (take (at + n - at) (drop at l)) ≡ n
+part-long l at n h =
+    let e : at + n - at ≡ n = omega arith in
+    rw e (length-take-le n (drop at l) (omega (arith, length-drop at l)))
+
 -- where it lies in one buffer
 module _ (input pending : Bytes) (taken from n : ℕ) where
   pub name-pending : n ≤ length pending - from → take (from + n - from) (drop from pending) ≡ take n (drop from pending ++ drop taken input)
@@ -286,6 +293,18 @@ module _ {a : Setting} {b : Memory} {m : Machine} {s : State} (h : Represents a 
 
   pub represents-nothing : mostLent < n → Finds (s .table .definitions) (meaningOf (take n (ahead (s .source))) (s .table)) looked.Undefined
   represents-nothing l = unknown-long (h .table) (take n (ahead (s .source))) (omega (arith, name-long))
+
+  -- its bucket has nothing
+  pub represents-none :
+      {bucket : ℕ} → bucket ≡ bucketOf (take n (bytesAhead (b .text) (b .pending) (m .source)))
+      → ((bytes : Bytes) (p : Packed) (own : ℕ) (t : Table) (w : Bytes) → TableIn bytes (b .tableEnds) p own t → bucketOf w ≡ bucket → meaningOf w t ≡ none)
+      → Finds (s .table .definitions) (meaningOf (take n (ahead (s .source))) (s .table)) looked.Undefined
+  unfolding meaningFor textEnd
+  represents-none e f =
+      record {
+        is = f (b .definitions) (m .table .packed) (m .table .own) (s .table) (take n (ahead (s .source))) (h .table) (sym (e ∙ ap bucketOf (name-is refl)));
+        within = omega arith;
+      }
 
   -- and called without arguments
   pub ready-bare :

@@ -6,6 +6,7 @@ use Rattle.rules.specs.Run.{callsCost}
 use Rattle.rules.specs.Step.{openCall, collecting, nextArgument, argumentCount}
 use Rattle.expander.specs.declared.calls.Calls.{Calls}
 use Rattle.rules.specs.Streams.{joined, totalLength}
+use Rattle.hashing.specs.Hashing.{bucketOf}
 use Rattle.expander.specs.Limits.{mostCalls, mostArguments, callEndsLength, stackLength}
 use Rattle.expander.specs.Packed.{Packs, endsFrom, lastMore, startOf}
 use Rattle.expander.specs.Calls.{callStrings, openStrings, bit, Stacked, CallsIn}
@@ -51,53 +52,63 @@ some-strings m = omega (arith, calls-counted m)
 -- ---- the words of the stack
 
 -- a store above the words of some calls
-stacked-set : (st : List ℕ) (i v : ℕ) (cs : List Call) → 3 * length cs ≤ i → Stacked st cs → Stacked (set st i v) cs
+stacked-set : (st : List ℕ) (i v : ℕ) (cs : List Call) → 4 * length cs ≤ i → Stacked st cs → Stacked (set st i v) cs
 unfolding Stacked
 stacked-set st i v [] h k = tt
 stacked-set st i v (c ∷ cs) h k = (
-  getD-set-other st i (3 * length cs) v 0 (λ e. omega arith) ∙ k .0,
-  getD-set-other st i (3 * length cs + 1) v 0 (λ e. omega arith) ∙ k .1,
-  getD-set-other st i (3 * length cs + 2) v 0 (λ e. omega arith) ∙ k .2,
-  k .3,
-  stacked-set st i v cs (omega arith) (k .4),
+  getD-set-other st i (4 * length cs) v 0 (λ e. omega arith) ∙ k .0,
+  getD-set-other st i (4 * length cs + 1) v 0 (λ e. omega arith) ∙ k .1,
+  getD-set-other st i (4 * length cs + 2) v 0 (λ e. omega arith) ∙ k .2,
+  getD-set-other st i (4 * length cs + 3) v 0 (λ e. omega arith) ∙ k .3,
+  k .4,
+  stacked-set st i v cs (omega arith) (k .5),
 )
 
 -- depth and mark of the innermost call, stored anew
 stacked-top :
-    (st : List ℕ) (d : ℕ) (b : Bool) (c c′ : Call) (cs : List Call) (n : ℕ) → length cs ≡ n → 3 * n + 2 < length st → c′ .depth ≡ d → c′ .collected ≡ b
-    → d ≤ length (c′ .current) → Stacked st (c ∷ cs) → Stacked (set (set st (3 * n + 1) d) (3 * n + 2) (bit b)) (c′ ∷ cs)
+    (st : List ℕ) (d : ℕ) (b : Bool) (c c′ : Call) (cs : List Call) (n : ℕ) → length cs ≡ n → 4 * n + 2 < length st → c′ .name ≡ c .name → c′ .depth ≡ d
+    → c′ .collected ≡ b → d ≤ length (c′ .current) → Stacked st (c ∷ cs) → Stacked (set (set st (4 * n + 1) d) (4 * n + 2) (bit b)) (c′ ∷ cs)
 unfolding Stacked
-stacked-top st d b c c′ cs n e l ed eb h k =
-    let s1 = set st (3 * n + 1) d in
-    let ls = length-set st (3 * n + 1) d in
-    let f0 : getD (set s1 (3 * n + 2) (bit b)) (3 * n) 0 ≡ length (openStrings cs) =
-    getD-set-other s1 (3 * n + 2) (3 * n) (bit b) 0 (λ q. omega arith) ∙ getD-set-other st (3 * n + 1) (3 * n) d 0 (λ q. omega arith) ∙ (rw e at (k .0)) in
-    let f1 : getD (set s1 (3 * n + 2) (bit b)) (3 * n + 1) 0 ≡ c′ .depth =
-    getD-set-other s1 (3 * n + 2) (3 * n + 1) (bit b) 0 (λ q. omega arith) ∙ getD-set-same st (3 * n + 1) d 0 (omega arith) ∙ sym ed in
-    let f2 : getD (set s1 (3 * n + 2) (bit b)) (3 * n + 2) 0 ≡ bit (c′ .collected) = getD-set-same s1 (3 * n + 2) (bit b) 0 (omega (arith, ls)) ∙ ap bit (sym eb) in
-    (rw e f0, rw e f1, rw e f2, omega (arith, ed), stacked-set s1 (3 * n + 2) (bit b) cs (omega (arith, e)) (stacked-set st (3 * n + 1) d cs (omega (arith, e)) (k .4)))
+stacked-top st d b c c′ cs n e l en ed eb h k =
+    let s1 = set st (4 * n + 1) d in
+    let ls = length-set st (4 * n + 1) d in
+    let f0 : getD (set s1 (4 * n + 2) (bit b)) (4 * n) 0 ≡ length (openStrings cs) =
+    getD-set-other s1 (4 * n + 2) (4 * n) (bit b) 0 (λ q. omega arith) ∙ getD-set-other st (4 * n + 1) (4 * n) d 0 (λ q. omega arith) ∙ (rw e at (k .0)) in
+    let f1 : getD (set s1 (4 * n + 2) (bit b)) (4 * n + 1) 0 ≡ c′ .depth =
+    getD-set-other s1 (4 * n + 2) (4 * n + 1) (bit b) 0 (λ q. omega arith) ∙ getD-set-same st (4 * n + 1) d 0 (omega arith) ∙ sym ed in
+    let f2 : getD (set s1 (4 * n + 2) (bit b)) (4 * n + 2) 0 ≡ bit (c′ .collected) = getD-set-same s1 (4 * n + 2) (bit b) 0 (omega (arith, ls)) ∙ ap bit (sym eb) in
+    let f3 : getD (set s1 (4 * n + 2) (bit b)) (4 * n + 3) 0 ≡ bucketOf (c′ .name) =
+    getD-set-other s1 (4 * n + 2) (4 * n + 3) (bit b) 0 (λ q. omega arith) ∙ getD-set-other st (4 * n + 1) (4 * n + 3) d 0 (λ q. omega arith) ∙ (rw e at (k .3)) ∙ ap bucketOf (sym en) in
+    (rw e f0, rw e f1, rw e f2, rw e f3, omega (arith, ed), stacked-set s1 (4 * n + 2) (bit b) cs (omega (arith, e)) (stacked-set st (4 * n + 1) d cs (omega (arith, e)) (k .5)))
 
 -- the words of a new call
 stacked-new :
-    (st : List ℕ) (v n : ℕ) (name : Bytes) (cs : List Call) → length cs ≡ n → 3 * n + 2 < length st → v ≡ length (openStrings cs) → Stacked st cs
-    → Stacked (set (set (set st (3 * n) v) (3 * n + 1) 0) (3 * n + 2) 0) (openCall name ∷ cs)
+    (st : List ℕ) (v u n : ℕ) (name : Bytes) (cs : List Call) → length cs ≡ n → 4 * n + 3 < length st → v ≡ length (openStrings cs) → u ≡ bucketOf name → Stacked st cs
+    → Stacked (set (set (set (set st (4 * n) v) (4 * n + 1) 0) (4 * n + 2) 0) (4 * n + 3) u) (openCall name ∷ cs)
 unfolding Stacked openCall bit
-stacked-new st v n name cs e l ev k =
-    let s0 = set st (3 * n) v in
-    let s1 = set s0 (3 * n + 1) 0 in
-    let l0 = length-set st (3 * n) v in
-    let l1 = length-set s0 (3 * n + 1) 0 in
-    let f0 : getD (set s1 (3 * n + 2) 0) (3 * n) 0 ≡ length (openStrings cs) =
-    getD-set-other s1 (3 * n + 2) (3 * n) 0 0 (λ q. omega arith) ∙ getD-set-other s0 (3 * n + 1) (3 * n) 0 0 (λ q. omega arith)
-    ∙ getD-set-same st (3 * n) v 0 (omega arith) ∙ ev in
-    let f1 : getD (set s1 (3 * n + 2) 0) (3 * n + 1) 0 ≡ 0 =
-    getD-set-other s1 (3 * n + 2) (3 * n + 1) 0 0 (λ q. omega arith) ∙ getD-set-same s0 (3 * n + 1) 0 0 (omega (arith, l0)) in
-    let f2 : getD (set s1 (3 * n + 2) 0) (3 * n + 2) 0 ≡ 0 = getD-set-same s1 (3 * n + 2) 0 0 (omega (arith, l0, l1)) in (
+stacked-new st v u n name cs e l ev eu k =
+    let s0 = set st (4 * n) v in
+    let s1 = set s0 (4 * n + 1) 0 in
+    let s2 = set s1 (4 * n + 2) 0 in
+    let l0 = length-set st (4 * n) v in
+    let l1 = length-set s0 (4 * n + 1) 0 in
+    let l2 = length-set s1 (4 * n + 2) 0 in
+    let f0 : getD (set s2 (4 * n + 3) u) (4 * n) 0 ≡ length (openStrings cs) =
+    getD-set-other s2 (4 * n + 3) (4 * n) u 0 (λ q. omega arith) ∙ getD-set-other s1 (4 * n + 2) (4 * n) 0 0 (λ q. omega arith)
+    ∙ getD-set-other s0 (4 * n + 1) (4 * n) 0 0 (λ q. omega arith) ∙ getD-set-same st (4 * n) v 0 (omega arith) ∙ ev in
+    let f1 : getD (set s2 (4 * n + 3) u) (4 * n + 1) 0 ≡ 0 =
+    getD-set-other s2 (4 * n + 3) (4 * n + 1) u 0 (λ q. omega arith) ∙ getD-set-other s1 (4 * n + 2) (4 * n + 1) 0 0 (λ q. omega arith)
+    ∙ getD-set-same s0 (4 * n + 1) 0 0 (omega (arith, l0)) in
+    let f2 : getD (set s2 (4 * n + 3) u) (4 * n + 2) 0 ≡ 0 =
+    getD-set-other s2 (4 * n + 3) (4 * n + 2) u 0 (λ q. omega arith) ∙ getD-set-same s1 (4 * n + 2) 0 0 (omega (arith, l0, l1)) in
+    let f3 : getD (set s2 (4 * n + 3) u) (4 * n + 3) 0 ≡ bucketOf name = getD-set-same s2 (4 * n + 3) u 0 (omega (arith, l0, l1, l2)) ∙ eu in (
       rw e f0,
       rw e f1,
       rw e f2,
+      rw e f3,
       omega arith,
-      stacked-set s1 (3 * n + 2) 0 cs (omega (arith, e)) (stacked-set s0 (3 * n + 1) 0 cs (omega (arith, e)) (stacked-set st (3 * n) v cs (omega (arith, e)) k)),
+      stacked-set s2 (4 * n + 3) u cs (omega (arith, e))
+          (stacked-set s1 (4 * n + 2) 0 cs (omega (arith, e)) (stacked-set s0 (4 * n + 1) 0 cs (omega (arith, e)) (stacked-set st (4 * n) v cs (omega (arith, e)) k))),
     )
 
 -- ---- opening
@@ -130,18 +141,18 @@ two-more {ends} {count} {bytes} {used} {ps} {w} {after} h room f =
 
 module _ {bytes : Bytes} {ends stack : List ℕ} {x : Calls} (e-long : length ends ≡ callEndsLength) (s-long : length stack ≡ stackLength) where
   pub calls-opened :
-      {cs : List Call} (name after : Bytes) (n : ℕ) → CallsIn bytes ends stack x cs → length name ≡ n → Filled bytes (x .strings .used) name after
-      → x .opens < mostCalls → x .strings .count < x .opens + mostArguments
+      {cs : List Call} (name after : Bytes) (n bucket : ℕ) → CallsIn bytes ends stack x cs → length name ≡ n → bucket ≡ bucketOf name
+      → Filled bytes (x .strings .used) name after → x .opens < mostCalls → x .strings .count < x .opens + mostArguments
       → CallsIn after (set (set ends (x .strings .count) (x .strings .used + n)) (x .strings .count + 1) (x .strings .used + n))
-      (set (set (set stack (3 * x .opens) (x .strings .count)) (3 * x .opens + 1) 0) (3 * x .opens + 2) 0)
+      (set (set (set (set stack (4 * x .opens) (x .strings .count)) (4 * x .opens + 1) 0) (4 * x .opens + 2) 0) (4 * x .opens + 3) bucket)
       (record { strings = record { count = x .strings .count + 2; used = x .strings .used + n }; opens = x .opens + 1 }) (openCall name ∷ cs)
   unfolding openStrings callStrings openCall
-  calls-opened {cs} name after n m en f few args =
+  calls-opened {cs} name after n bucket m en eb f few args =
       rw (sym en)
       (record {
         strings = two-more (m .strings) (omega (arith, e-long)) f;
         open-is = omega (arith, m .open-is);
-        stacked = stacked-new stack (x .strings .count) (x .opens) name cs (m .open-is) (omega (arith, s-long)) (sym (count-is (m .strings))) (m .stacked);
+        stacked = stacked-new stack (x .strings .count) bucket (x .opens) name cs (m .open-is) (omega (arith, s-long)) (sym (count-is (m .strings))) eb (m .stacked);
         open-few = omega arith;
         args-few = omega arith;
       })
@@ -168,7 +179,7 @@ module _ {bytes : Bytes} {ends stack : List ℕ} {x : Calls} {c : Call} {cs : Li
 
   pub calls-collected :
       (w after : Bytes) (n d : ℕ) → length w ≡ n → Filled bytes (x .strings .used) w after → d ≤ length (c .current) + n
-      → CallsIn after (set ends (x .strings .count - 1) (x .strings .used + n)) (set (set stack (3 * (x .opens - 1) + 1) d) (3 * (x .opens - 1) + 2) 1)
+      → CallsIn after (set ends (x .strings .count - 1) (x .strings .used + n)) (set (set stack (4 * (x .opens - 1) + 1) d) (4 * (x .opens - 1) + 2) 1)
       (record { strings = record { count = x .strings .count; used = x .strings .used + n }; opens = x .opens }) (collecting w d c ∷ cs)
   unfolding bit collecting
   calls-collected w after n d en f h =
@@ -179,7 +190,7 @@ module _ {bytes : Bytes} {ends stack : List ℕ} {x : Calls} {c : Call} {cs : Li
         strings = rw (collecting-strings c cs w d) g;
         open-is = m .open-is;
         stacked =
-            stacked-top stack d true c (collecting w d c) cs (x .opens - 1) below (omega (arith, s-long, m .open-few, m .open-is)) refl refl
+            stacked-top stack d true c (collecting w d c) cs (x .opens - 1) below (omega (arith, s-long, m .open-few, m .open-is)) refl refl refl
             (omega (arith, length-append (c .current) w)) (m .stacked);
         open-few = m .open-few;
         args-few = m .args-few;
@@ -193,14 +204,14 @@ module _ {bytes : Bytes} {ends stack : List ℕ} {x : Calls} {c : Call} {cs : Li
 
   pub calls-separated :
       length ends ≡ callEndsLength → x .strings .count < x .opens + mostArguments
-      → CallsIn bytes (set ends (x .strings .count) (x .strings .used)) (set (set stack (3 * (x .opens - 1) + 1) 0) (3 * (x .opens - 1) + 2) 0)
+      → CallsIn bytes (set ends (x .strings .count) (x .strings .used)) (set (set stack (4 * (x .opens - 1) + 1) 0) (4 * (x .opens - 1) + 2) 0)
       (record { strings = record { count = x .strings .count + 1; used = x .strings .used }; opens = x .opens }) (nextArgument c ∷ cs)
   unfolding bit nextArgument
   calls-separated e-long few =
       record {
         strings = rw next-strings (pushed-empty (m .strings) (omega (arith, e-long, m .open-few)));
         open-is = m .open-is;
-        stacked = stacked-top stack 0 false c (nextArgument c) cs (x .opens - 1) below (omega (arith, s-long, m .open-few, m .open-is)) refl refl (omega arith) (m .stacked);
+        stacked = stacked-top stack 0 false c (nextArgument c) cs (x .opens - 1) below (omega (arith, s-long, m .open-few, m .open-is)) refl refl refl (omega arith) (m .stacked);
         open-few = m .open-few;
         args-few = omega arith;
       }
@@ -211,21 +222,25 @@ module _ {bytes : Bytes} {ends stack : List ℕ} {x : Calls} {c : Call} {cs : Li
   under : length cs ≡ x .opens - 1
   under = omega (arith, m .open-is)
 
-  pub top-first : getD stack (3 * (x .opens - 1)) 0 ≡ length (openStrings cs)
+  pub top-first : getD stack (4 * (x .opens - 1)) 0 ≡ length (openStrings cs)
   unfolding Stacked
   top-first = rw (sym under) (m .stacked .0)
 
-  pub top-depth : getD stack (3 * (x .opens - 1) + 1) 0 ≡ c .depth
+  pub top-depth : getD stack (4 * (x .opens - 1) + 1) 0 ≡ c .depth
   unfolding Stacked
   top-depth = rw (sym under) (m .stacked .1)
 
-  pub top-collected : getD stack (3 * (x .opens - 1) + 2) 0 ≡ bit (c .collected)
+  pub top-collected : getD stack (4 * (x .opens - 1) + 2) 0 ≡ bit (c .collected)
   unfolding Stacked
   top-collected = rw (sym under) (m .stacked .2)
 
+  pub top-bucket : getD stack (4 * (x .opens - 1) + 3) 0 ≡ bucketOf (c .name)
+  unfolding Stacked
+  top-bucket = rw (sym under) (m .stacked .3)
+
   pub depth-in : c .depth ≤ length (c .current)
   unfolding Stacked
-  depth-in = m .stacked .3
+  depth-in = m .stacked .4
 
   -- its strings stand from the first on, and are a name and an argument at least
   pub first-in : length (openStrings cs) + 1 < x .strings .count
@@ -254,7 +269,7 @@ module _ {bytes : Bytes} {ends stack : List ℕ} {x : Calls} {c : Call} {cs : Li
       record {
         strings = rw s at k;
         open-is = under;
-        stacked = m .stacked .4;
+        stacked = m .stacked .5;
         open-few = omega (arith, m .open-few);
         args-few = omega (arith, e, arguments-counted cs, arguments-counted (c ∷ cs), calls-counted m, under, m .args-few, some-more c cs);
       }

@@ -4,8 +4,10 @@ use Rattle.rules.specs.Bytes.{Bytes, sameBytes}
 use Rattle.rules.specs.Streams.{joined}
 use Rattle.rules.proofs.SameBytes.{same-is}
 use Rattle.rules.specs.Table.{Meaning, text, predefined, Definition, Table, ownLost, newestPlace, pushed, defined, popped, meaningCost, tableCost}
-use Rattle.expander.specs.Limits.{mostLent, meaningsStart}
+use Rattle.hashing.specs.Hashing.{bucketOf}
+use Rattle.expander.specs.Limits.{mostLent, bucketCount, meaningsStart, linksStart}
 use Rattle.expander.specs.Meanings.{numberAt, Put, ClosedUp}
+use Rattle.expander.specs.Buckets.{headAt, Chained}
 use Rattle.expander.specs.Packed.{Packs}
 use Rattle.expander.specs.Table.{meaningText, rows, meaningNumber, Numbered, Means, Sound, blank, DefinitionsIn, TableIn, placeOf}
 use Rattle.expander.specs.declared.packed.Packed.{Packed}
@@ -13,7 +15,9 @@ use Rattle.expander.specs.declared.table.Found.{Found}
 use Rattle.expander.specs.declared.table.Found.the-variants as found
 use Rattle.expander.proofs.Packing.{joined-append, count-is, used-is, length-replaced}
 use Rattle.expander.proofs.MaskLaws.{lost-less}
-use Rattle.expander.proofs.MeaningLaws.{numbers-kept, packs-kept}
+use Rattle.expander.proofs.MeaningLaws.{numbers-kept, numbers-before, packs-kept, packs-before}
+use Rattle.expander.proofs.Chains.{chained-kept, chained-set, head-small}
+use Rattle.expander.proofs.Parts.{drop-later}
 use Rattle.expander.proofs.Rows.{length-rows, string-count, newest-in}
 
 -- the strings of a changed list
@@ -85,6 +89,16 @@ unfolding Sound
 sound-set [] i w m h n p = tt
 sound-set (d ∷ ds) zero w m h n p = (h, n, p .2)
 sound-set (d ∷ ds) (suc i) w m h n p = (p .0, p .1, sound-set ds i w m h n (p .2))
+
+sound-removed : (i : ℕ) (ds : List Definition) → Sound ds → Sound (take i ds ++ drop (suc i) ds)
+sound-removed i ds p = sound-append (take i ds) (drop (suc i) ds) (sound-take i ds p) (sound-drop (suc i) ds p)
+
+-- one definition taken out, as its strings
+pub removed-rows : {bytes : Bytes} {ends₁ : List ℕ} {r : Packed} (ds : List Definition) (i : ℕ) → Packs ends₁ (r .count) bytes (r .used) (take (2 * i) (rows ds) ++ drop (2 * i + 2) (rows ds))
+    → Packs ends₁ (r .count) bytes (r .used) (rows (take i ds ++ drop (suc i) ds))
+removed-rows ds i k =
+    let n : 2 * i + 2 ≡ 2 * suc i = omega arith in
+    rw (rows-append (take i ds) (drop (suc i) ds), ← rows-take i ds, ← rows-drop (suc i) ds, sym n) k
 
 -- a text, and a predefined meaning, by text and byte
 pub text-means : (x : Bytes) → Means (text x) x 0
@@ -207,18 +221,38 @@ module _ {bytes : Bytes} {ends : List ℕ} {p : Packed} {ds : List Definition} (
   pub room-for-two : (n : ℕ) → 0 < n → p .used + n ≤ length bytes → p .count + 2 ≤ meaningsStart
   room-for-two n pos fits = omega (arith, string-count h, cost-least ds (h .sound), cost-used, h .bytes-most)
 
-  -- its strings have changed, and then bytes of meanings: it holds others
-  pub holds-others : {bytes′ : Bytes} {ends₁ ends′ : List ℕ} {r : Packed} {es : List Definition} → Packs ends₁ (r .count) bytes′ (r .used) (rows es) → Sound es
-      → take meaningsStart ends′ ≡ take meaningsStart ends₁ → Told ends′ es → length bytes′ ≡ length bytes → length ends₁ ≡ length ends → length ends′ ≡ length ends₁
-      → DefinitionsIn bytes′ ends′ r es
-  holds-others {es = es} k q e f lb l₁ le =
-      record {
-        packs = packs-kept e le (omega (arith, length-rows es, count-is k, used-is k, cost-is es, cost-least es q, k .used-in, h .bytes-most)) k;
-        sound = q;
-        numbers = f;
-        bytes-most = omega (arith, h .bytes-most);
-        ends-are = le ∙ l₁ ∙ h .ends-are;
-      }
+  -- its strings have changed, then bytes of meanings, and then chains: it holds others
+  module _ {bytes′ : Bytes} (lb : length bytes′ ≡ length bytes) where
+    pub others-few : {ends₁ : List ℕ} {r : Packed} (es : List Definition) → Packs ends₁ (r .count) bytes′ (r .used) (rows es) → Sound es → length es ≤ mostLent
+    others-few es k q = omega (arith, used-is k, cost-is es, cost-least es q, k .used-in, h .bytes-most, lb)
+
+    pub removed-few : (i : ℕ) {ends₁ : List ℕ} {r : Packed} → Packs ends₁ (r .count) bytes′ (r .used) (rows (take i ds ++ drop (suc i) ds)) → r .count ≤ meaningsStart
+    removed-few i {r = r} k =
+        let es = take i ds ++ drop (suc i) ds in
+        omega (arith, length-rows es, count-is k, others-few {r = r} es k (sound-removed i ds (h .sound)))
+
+    pub holds-others : {ends₁ : List ℕ} (ends₂ : List ℕ) {ends′ : List ℕ} {r : Packed} {es : List Definition} → Packs ends₁ (r .count) bytes′ (r .used) (rows es) → Sound es
+        → take meaningsStart ends₂ ≡ take meaningsStart ends₁ → Told ends₂ es → take linksStart ends′ ≡ take linksStart ends₂ → Chained ends′ es
+        → length ends₁ ≡ length ends → length ends₂ ≡ length ends₁ → length ends′ ≡ length ends₂ → DefinitionsIn bytes′ ends′ r es
+    holds-others {ends₁} ends₂ {ends′} {r} {es} k q e f c ch l₁ l₂ l′ =
+        let few = others-few {r = r} es k q in
+        let count : r .count ≤ meaningsStart = omega (arith, length-rows es, count-is k, few) in
+        record {
+          packs = packs-before {before = ends₂} c l′ count (packs-kept e l₂ count k);
+          sound = q;
+          numbers = λ i l. numbers-before ends₂ ends′ c i (omega (arith, l, few)) ∙ f i l;
+          chained = ch;
+          bytes-most = omega (arith, h .bytes-most, lb);
+          ends-are = l′ ∙ l₂ ∙ l₁ ∙ h .ends-are;
+        }
+
+  -- the chains are as they were where only strings have changed, and then bytes of meanings
+  pub chains-stay : (ends₁ : List ℕ) {ends₂ : List ℕ} (c : ℕ) → c ≤ meaningsStart → drop c ends₁ ≡ drop c ends → drop linksStart ends₂ ≡ drop linksStart ends₁ → Chained ends₂ ds
+  chains-stay ends₁ c few kept e = chained-kept (h .chained) (e ∙ drop-later c linksStart ends₁ ends (omega (arith, few)) kept)
+
+  -- and every head is one of the definitions
+  pub heads-stay : (ends₁ ends₂ : List ℕ) (c : ℕ) → c ≤ meaningsStart → drop c ends₁ ≡ drop c ends → drop linksStart ends₂ ≡ drop linksStart ends₁ → (b : ℕ) → b < bucketCount → headAt ends₂ b ≤ p .count / 2
+  heads-stay ends₁ ends₂ c few kept e b l = omega (arith, head-small (chains-stay ends₁ {ends₂ = ends₂} c few kept e) b l, string-count h)
 
   pub place-in : (w : Bytes) (i : ℕ) → newestPlace w ds ≡ placeOf (found.At i) → i < length ds
   unfolding placeOf
@@ -233,48 +267,13 @@ module _ {bytes : Bytes} {ends : List ℕ} {p : Packed} {own : ℕ} {t : Table} 
   own-less : TableIn bytes ends p (ownLost w own) (record { definitions = t .definitions; own = ownLost w (t .own) })
   own-less = record { holds = h .holds; own-is = ap (ownLost w) (h .own-is); own-few = omega (arith, lost-less w own, h .own-few) }
 
-  -- the strings have changed, to ends₁, and then a byte
+  -- the strings have changed, to ends₁, then a byte
   module _
-      {bytes′ : Bytes} {ends₁ ends′ : List ℕ} {r : Packed} (lb : length bytes′ ≡ length bytes) (l₁ : length ends₁ ≡ length ends) (le : length ends′ ≡ length ends₁)
+      {bytes′ : Bytes} {ends₁ ends₂ : List ℕ} {r : Packed} (lb : length bytes′ ≡ length bytes) (l₁ : length ends₁ ≡ length ends) (l₂ : length ends₂ ≡ length ends₁)
       (c : ℕ) (few : c ≤ meaningsStart) (kept : drop c ends₁ ≡ drop c ends)
     where
-      pub pushed-in : (m : Meaning) {x : Bytes} {i k : ℕ} → Means m x k → 0 < length w → i ≡ p .count / 2
-          → Packs ends₁ (r .count) bytes′ (r .used) ((rows (t .definitions) ++ (w ∷ [])) ++ (x ∷ [])) → Put ends₁ i k ends′ → TableIn bytes′ ends′ r own (pushed w m t)
-      unfolding pushed
-      pushed-in m {x} means pos e k put =
-          let ds = t .definitions in
-          let d : Definition = record { name = w; meaning = m } in
-          let told = told-kept c ends ends₁ ds kept few (h .holds .numbers) in
-          let one : rows (d ∷ []) ≡ w ∷ x ∷ [] = strings-of-one w m ∙ ap (λ (y : Bytes). w ∷ y ∷ []) (means .text-is) in
-          record {
-            holds =
-                holds-others (h .holds) {ends₁ = ends₁} (rw (rows-append ds (d ∷ []), one) (rw (append-assoc (rows ds) (w ∷ []) (x ∷ [])) at k))
-                (sound-append ds (d ∷ []) (h .holds .sound) (sound-one w m pos (means .numbered))) (put .ends)
-                (told-pushed ds told d put (e ∙ omega (arith, string-count (h .holds))) (means .number-is)) lb l₁ le;
-            own-is = h .own-is;
-            own-few = h .own-few;
-          }
-
-      pub popped-in : (i : ℕ) {n : ℕ} → newestPlace w (t .definitions) ≡ placeOf (found.At i) → n ≡ p .count / 2
-          → Packs ends₁ (r .count) bytes′ (r .used) (take (2 * i) (rows (t .definitions)) ++ drop (2 * i + 2) (rows (t .definitions))) → ClosedUp ends₁ i n ends′
-          → TableIn bytes′ ends′ r own (popped w t)
-      unfolding popped placeOf
-      popped-in i e en k closed =
-          let ds = t .definitions in
-          let n : 2 * i + 2 ≡ 2 * suc i = omega arith in
-          let told = told-kept c ends ends₁ ds kept few (h .holds .numbers) in
-          rw (e, popped)
-          (record {
-            holds =
-                holds-others (h .holds) {ends₁ = ends₁} (rw (rows-append (take i ds) (drop (suc i) ds), ← rows-take i ds, ← rows-drop (suc i) ds, sym n) k)
-                (sound-append (take i ds) (drop (suc i) ds) (sound-take i ds (h .holds .sound)) (sound-drop (suc i) ds (h .holds .sound))) (closed .ends)
-                (told-removed ds told i closed (en ∙ omega (arith, string-count (h .holds))) (newest-in w ds i e)) lb l₁ le;
-            own-is = h .own-is;
-            own-few = h .own-few;
-          })
-
       pub replaced-in : (i : ℕ) (m : Meaning) {x : Bytes} {k : ℕ} → Means m x k → 0 < length w → newestPlace w (t .definitions) ≡ placeOf (found.At i)
-          → Packs ends₁ (r .count) bytes′ (r .used) (set (rows (t .definitions)) (2 * i + 1) x) → Put ends₁ i k ends′ → TableIn bytes′ ends′ r own (defined w m t)
+          → Packs ends₁ (r .count) bytes′ (r .used) (set (rows (t .definitions)) (2 * i + 1) x) → Put ends₁ i k ends₂ → TableIn bytes′ ends₂ r own (defined w m t)
       unfolding defined placeOf
       replaced-in i m {x} means pos e k put =
           let ds = t .definitions in
@@ -285,10 +284,55 @@ module _ {bytes : Bytes} {ends : List ℕ} {p : Packed} {own : ℕ} {t : Table} 
           rw (e, defined)
           (record {
             holds =
-                holds-others (h .holds) {ends₁ = ends₁} (rw same at k) (sound-set ds i w m pos (means .numbered) (h .holds .sound)) (put .ends) (told-set ds told d i put (means .number-is)) lb l₁ le;
+                holds-others (h .holds) lb {ends₁ = ends₁} ends₂ (rw same at k) (sound-set ds i w m pos (means .numbered) (h .holds .sound)) (put .ends)
+                (told-set ds told d i put (means .number-is)) refl
+                (chained-set {before = ends₂} ds i d (chains-stay (h .holds) ends₁ c few kept (put .chains)) refl (newest-name w ds i e)) l₁ l₂ refl;
             own-is = h .own-is;
             own-few = h .own-few;
           })
+
+      -- and then chains
+      module _ {ends′ : List ℕ} (l′ : length ends′ ≡ length ends₂) (before : take linksStart ends′ ≡ take linksStart ends₂) where
+        pub pushed-in : (m : Meaning) {x : Bytes} {i k : ℕ} → Means m x k → 0 < length w → i ≡ p .count / 2
+            → Packs ends₁ (r .count) bytes′ (r .used) ((rows (t .definitions) ++ (w ∷ [])) ++ (x ∷ [])) → Put ends₁ i k ends₂
+            → ((ds : List Definition) (d : Definition) → i ≡ length ds → bucketOf w ≡ bucketOf (d .name) → Chained ends₂ ds → Chained ends′ (ds ++ (d ∷ [])))
+            → TableIn bytes′ ends′ r own (pushed w m t)
+        unfolding pushed
+        pushed-in m {x} means pos e k put join =
+            let ds = t .definitions in
+            let d : Definition = record { name = w; meaning = m } in
+            let told = told-kept c ends ends₁ ds kept few (h .holds .numbers) in
+            let at-last : _ ≡ length ds = e ∙ omega (arith, string-count (h .holds)) in
+            let one : rows (d ∷ []) ≡ w ∷ x ∷ [] = strings-of-one w m ∙ ap (λ (y : Bytes). w ∷ y ∷ []) (means .text-is) in
+            record {
+              holds =
+                  holds-others (h .holds) lb {ends₁ = ends₁} ends₂ (rw (rows-append ds (d ∷ []), one) (rw (append-assoc (rows ds) (w ∷ []) (x ∷ [])) at k))
+                  (sound-append ds (d ∷ []) (h .holds .sound) (sound-one w m pos (means .numbered))) (put .ends) (told-pushed ds told d put at-last (means .number-is)) before
+                  (join ds d at-last refl (chains-stay (h .holds) ends₁ c few kept (put .chains))) l₁ l₂ l′;
+              own-is = h .own-is;
+              own-few = h .own-few;
+            }
+
+        pub popped-in : (i : ℕ) {n : ℕ} → newestPlace w (t .definitions) ≡ placeOf (found.At i) → n ≡ p .count / 2
+            → Packs ends₁ (r .count) bytes′ (r .used) (take (2 * i) (rows (t .definitions)) ++ drop (2 * i + 2) (rows (t .definitions))) → ClosedUp ends₁ i n ends₂
+            → ((ds : List Definition) → i < length ds → bucketOf w ≡ bucketOf ((getD ds i blank) .name) → Chained ends₂ ds
+            → Packs ends₂ (r .count) bytes′ (r .used) (rows (take i ds ++ drop (suc i) ds)) → Chained ends′ (take i ds ++ drop (suc i) ds))
+            → TableIn bytes′ ends′ r own (popped w t)
+        unfolding popped placeOf
+        popped-in i e en k closed leave =
+            let ds = t .definitions in
+            let told = told-kept c ends ends₁ ds kept few (h .holds .numbers) in
+            let k′ = removed-rows {ends₁ = ends₁} {r = r} ds i k in
+            let count = removed-few (h .holds) lb i {ends₁ = ends₁} {r = r} k′ in
+            rw (e, popped)
+            (record {
+              holds =
+                  holds-others (h .holds) lb {ends₁ = ends₁} ends₂ k′ (sound-removed i ds (h .holds .sound)) (closed .ends)
+                  (told-removed ds told i closed (en ∙ omega (arith, string-count (h .holds))) (newest-in w ds i e)) before
+                  (leave ds (newest-in w ds i e) (ap bucketOf (newest-name w ds i e)) (chains-stay (h .holds) ends₁ c few kept (closed .chains)) (packs-kept {before = ends₁} (closed .ends) l₂ count k′)) l₁ l₂ l′;
+              own-is = h .own-is;
+              own-few = h .own-few;
+            })
 
   pub popped-own : newestPlace w (t .definitions) ≡ placeOf found.Nowhere → {lost : ℕ} → lost ≡ ownLost w own → TableIn bytes ends p lost (popped w t)
   unfolding popped placeOf

@@ -97,9 +97,9 @@ module _ (s : State) (n : ℕ) (e : step s ≡ act (token.Name n) s) {g : Looked
   undefined-is q = plain-is (used-undefined f _ q)
 
   module _ (d : g ≡ looked.Undefined → ⊥) {t : Bool} (p : t ≡ eqb (getD (ahead (s .source)) n 0) 40) where
-    pub open-is : t ≡ true → EventIs s (event.Plain (plain.Open n))
+    pub open-is : (bucket : ℕ) → t ≡ true → EventIs s (event.Plain (plain.Open n bucket))
     unfolding EventIs PlainIs nameUse named
-    open-is q = used (used-opening f _ (known f d) (sym p ∙ q))
+    open-is bucket q = used (used-opening f _ (known f d) (sym p ∙ q))
 
     pub unopened-is : t ≡ false → plainUnopened g ≡ true → EventIs s (event.Plain (plain.Deliver 0 n n))
     unfolding nameUse

@@ -1,7 +1,9 @@
 pub mod ArgumentLaws
 pub mod Border
+pub mod BucketSearch
 pub mod CallingLaws
 pub mod CallsLaws
+pub mod Chains
 pub mod ChangeMarksLaws
 pub mod Changing
 pub mod Comments
@@ -18,8 +20,8 @@ pub mod IncludingLaws
 pub mod ListLaws
 pub mod MachineLaws
 pub mod MacroLaws
-pub mod MarkTests
 pub mod MarkPlaces
+pub mod MarkTests
 pub mod MaskLaws
 pub mod MeaningLaws
 pub mod NumberResultLaws
@@ -37,6 +39,7 @@ pub mod Quotes
 pub mod Reading
 pub mod Rows
 pub mod RunLaws
+pub mod Scanning
 pub mod Sifting
 pub mod SinksLaws
 pub mod SourceLaws

@@ -1,8 +1,8 @@
 -- Laws of the bytes that say what each definition means. Assumes nothing.
-use Rattle.rules.proofs.Base.{_≤_, _+_, ℕ, _-_, _<_, suc, zero, _*_, _/_, _%_, _^_, _∙_, refl, sym, ap, _≡_, List, one-mul, ℕ-discrete, arith, length, drop, take, getD, set, getD-drop, getD-set-same, getD-set-other, take-set-le, take-take}
+use Rattle.rules.proofs.Base.{_≤_, _+_, ℕ, _-_, _<_, suc, zero, _*_, _/_, _%_, _^_, _∙_, refl, sym, ap, _≡_, List, one-mul, ℕ-discrete, arith, length, drop, take, getD, set, getD-drop, getD-set-same, getD-set-other, getD-take, take-set-le, drop-set-lt, take-take}
 use lib.Pow.{shl-exact}
 use Rattle.rules.specs.Bytes.{Bytes}
-use Rattle.expander.specs.Limits.{meaningsStart}
+use Rattle.expander.specs.Limits.{mostLent, meaningsStart, linksStart}
 use Rattle.expander.specs.Meanings.{byteOf, numberAt, Put, ClosedUp}
 use Rattle.expander.specs.Packed.{Packs}
 
@@ -64,10 +64,10 @@ fits word x i h b = rw (unit-is i) (fits-four word x (i % 4) h (omega arith) b)
 -- ---- the byte of a definition
 
 -- one word written, in which byte i is exchanged
-exchanged-at : (ends : List ℕ) (i x : ℕ) → x < 256 → meaningsStart + i / 4 < length ends
+exchanged-at : (ends : List ℕ) (i x : ℕ) → x < 256 → i < mostLent → meaningsStart + i / 4 < length ends
     → Put ends i x (set ends (meaningsStart + i / 4) (exchanged (2 ^ (8 * (i % 4))) (getD ends (meaningsStart + i / 4) 0) x))
 unfolding numberAt
-exchanged-at ends i x h l =
+exchanged-at ends i x h m l =
     let at = meaningsStart + i / 4 in
     let old = getD ends at 0 in
     let new = exchanged (2 ^ (8 * (i % 4))) old x in
@@ -75,6 +75,7 @@ exchanged-at ends i x h l =
       same = ap (byteOf (i % 4)) (getD-set-same ends at new 0 l) ∙ byte-same old x h (i % 4) (omega arith);
       others = λ j ne. go j ne (ℕ-discrete (j / 4) (i / 4));
       ends = take-set-le meaningsStart ends at new (omega arith);
+      chains = drop-set-lt linksStart ends at new (omega (arith, m));
     }
   where
     go : (j : ℕ) → (j ≡ i → ⊥) → Dec (j / 4 ≡ i / 4)
@@ -89,18 +90,30 @@ exchanged-at ends i x h l =
         ∙ byte-other old x h (i % 4) (omega arith) (j % 4) (omega arith) (λ q. ne (omega (arith, e, q))))
     go j ne (no d) = ap (byteOf (j % 4)) (getD-set-other ends (meaningsStart + i / 4) (meaningsStart + j / 4) _ 0 (λ q. d (omega arith)))
 
-pub put-at : (ends : List ℕ) (i x : ℕ) → x < 256 → meaningsStart + i / 4 < length ends
+pub put-at : (ends : List ℕ) (i x : ℕ) → x < 256 → i < mostLent → meaningsStart + i / 4 < length ends
     → Put ends i x (set ends (meaningsStart + i / 4) (exchangedAs (2 ^ (8 * (i % 4))) (unitOf i) (getD ends (meaningsStart + i / 4) 0) x))
-put-at ends i x h l = rw (unit-is i) (exchanged-at ends i x h l)
+put-at ends i x h m l = rw (unit-is i) (exchanged-at ends i x h m l)
+
+-- what stands behind a place is as it was: so is each word
+pub word-behind : (c : ℕ) (before after : List ℕ) → drop c after ≡ drop c before → (k : ℕ) → c ≤ k → getD after k 0 ≡ getD before k 0
+word-behind c before after e k l =
+    let n : c + (k - c) ≡ k = omega arith in
+    let read : (l : List ℕ) → getD (drop c l) (k - c) 0 ≡ getD l k 0 = λ l. getD-drop c l (k - c) 0 ∙ ap (λ (j : ℕ). getD l j 0) n in
+    sym (read after) ∙ ap (λ (l : List ℕ). getD l (k - c) 0) e ∙ read before
+
+-- and what stands before it
+pub word-before : (c : ℕ) (before after : List ℕ) → take c after ≡ take c before → (k : ℕ) → k < c → getD after k 0 ≡ getD before k 0
+word-before c before after e k l = sym (getD-take c after k 0 l) ∙ ap (λ (l : List ℕ). getD l k 0) e ∙ getD-take c before k 0 l
 
 -- what stands behind some of the ends is as it was: so are the bytes
 pub numbers-kept : (c : ℕ) (before after : List ℕ) → drop c after ≡ drop c before → c ≤ meaningsStart → (i : ℕ) → numberAt after i ≡ numberAt before i
 unfolding numberAt
-numbers-kept c before after e l i =
-    let n : c + (meaningsStart + i / 4 - c) ≡ meaningsStart + i / 4 = omega arith in
-    let read : (l : List ℕ) → getD (drop c l) (meaningsStart + i / 4 - c) 0 ≡ getD l (meaningsStart + i / 4) 0 =
-    λ l. getD-drop c l (meaningsStart + i / 4 - c) 0 ∙ ap (λ (k : ℕ). getD l k 0) n in
-    ap (byteOf (i % 4)) (sym (read after) ∙ ap (λ (l : List ℕ). getD l (meaningsStart + i / 4 - c) 0) e ∙ read before)
+numbers-kept c before after e l i = ap (byteOf (i % 4)) (word-behind c before after e (meaningsStart + i / 4) (omega arith))
+
+-- and where only the chains behind them have changed
+pub numbers-before : (before after : List ℕ) → take linksStart after ≡ take linksStart before → (i : ℕ) → i < mostLent → numberAt after i ≡ numberAt before i
+unfolding numberAt
+numbers-before before after e i l = ap (byteOf (i % 4)) (word-before linksStart before after e (meaningsStart + i / 4) (omega (arith, l)))
 
 -- and where only bytes have changed, the strings are as they were
 pub packs-kept : {before after : List ℕ} → take meaningsStart after ≡ take meaningsStart before → length after ≡ length before
@@ -112,6 +125,11 @@ packs-kept {before} {after} e l {count} le h = record {
   used-in = h .used-in;
 }
 
+-- and where only the chains have changed
+pub packs-before : {before after : List ℕ} → take linksStart after ≡ take linksStart before → length after ≡ length before
+    → {count : ℕ} {bytes : Bytes} {used : ℕ} {ss : List Bytes} → count ≤ meaningsStart → Packs before count bytes used ss → Packs after count bytes used ss
+packs-before {before} {after} e = packs-kept (sym (take-take meaningsStart linksStart after (omega arith)) ∙ ap (take meaningsStart) e ∙ take-take meaningsStart linksStart before (omega arith))
+
 -- ---- one byte gone
 
 -- those up to j have moved down, of those from i on; the others are as they were
@@ -120,9 +138,10 @@ pub record Closing (before : List ℕ) (i j : ℕ) (now : List ℕ) : Type 0 whe
   pub moved : (k : ℕ) → i ≤ k → k < j → numberAt now k ≡ numberAt before (k + 1)
   pub behind : (k : ℕ) → j ≤ k → numberAt now k ≡ numberAt before k
   pub ends : take meaningsStart now ≡ take meaningsStart before
+  pub chains : drop linksStart now ≡ drop linksStart before
 
 pub closing-begins : (ends : List ℕ) (i : ℕ) → Closing ends i i ends
-closing-begins ends i = record { front = λ k l. refl; moved = λ k l m. absurd (omega (arith, l, m)); behind = λ k l. refl; ends = refl }
+closing-begins ends i = record { front = λ k l. refl; moved = λ k l m. absurd (omega (arith, l, m)); behind = λ k l. refl; ends = refl; chains = refl }
 
 module _ {before : List ℕ} {i j : ℕ} {now : List ℕ} (h : Closing before i j now) (le : i ≤ j) where
   pub closing-on : {after : List ℕ} {x : ℕ} → x ≡ numberAt now (j + 1) → Put now j x after → Closing before i (j + 1) after
@@ -131,6 +150,7 @@ module _ {before : List ℕ} {i j : ℕ} {now : List ℕ} (h : Closing before i 
     moved = λ k l m. go k l m (ℕ-discrete k j);
     behind = λ k l. p .others k (λ q. omega (arith, q, l)) ∙ h .behind k (omega (arith, l));
     ends = p .ends ∙ h .ends;
+    chains = p .chains ∙ h .chains;
   }
     where
       go : (k : ℕ) → i ≤ k → k < j + 1 → Dec (k ≡ j) → numberAt after k ≡ numberAt before (k + 1)
@@ -138,4 +158,4 @@ module _ {before : List ℕ} {i j : ℕ} {now : List ℕ} (h : Closing before i 
       go k l m (no d) = p .others k d ∙ h .moved k l (omega (arith, m, d))
 
   pub closing-ends : {n : ℕ} → n - 1 ≤ j → ClosedUp before i n now
-  closing-ends l = record { front = h .front; moved = λ k a b. h .moved k a (omega (arith, l, b)); ends = h .ends }
+  closing-ends l = record { front = h .front; moved = λ k a b. h .moved k a (omega (arith, l, b)); ends = h .ends; chains = h .chains }

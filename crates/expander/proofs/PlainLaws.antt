@@ -90,7 +90,7 @@ module _ {a : Setting} {b : Memory} {m : Machine} {s : State} (r : Represents a 
   plain-goes plain.Separate w h =
       let i = some-calls r (w .1) in
       goes-as (h (i .top) (i .rest) (i .is)) (chosen-goes (leb 256 (argumentCount (i .top ∷ i .rest))) _)
-  plain-goes (plain.Open n) w h = goes-as h (chosen-goes (leb 64 (length (taking _ s .calls)) || leb 256 (argumentCount (taking _ s .calls))) _)
+  plain-goes (plain.Open n bucket) w h = goes-as h (chosen-goes (leb 64 (length (taking _ s .calls)) || leb 256 (argumentCount (taking _ s .calls))) _)
 
 unfoldable Not-over : Verdict → Type 0
 Not-over (going s) = Unit {0}

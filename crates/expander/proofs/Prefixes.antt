@@ -113,7 +113,7 @@ module _ (f r : Bytes) (n : ℕ) (e : n ≡ nameLength f) where
       omega (arith, name-count (f ++ r), name-count r, name-within f)
 
 -- what begins a name goes on with one
-begins-continues : (x : ℕ) → beginsName x ≡ true → continuesName x ≡ true
+pub begins-continues : (x : ℕ) → beginsName x ≡ true → continuesName x ≡ true
 unfolding continuesName
 begins-continues x e = rw e
 

@@ -6,6 +6,7 @@ use Rattle.rules.specs.Table.{Meaning, text, predefined, Definition, Table, pre
 use Rattle.expander.specs.Limits.{mostLent, allOwn, tableEndsLength}
 use Rattle.expander.specs.Packed.{endsFrom}
 use Rattle.expander.specs.Meanings.{numberAt}
+use Rattle.expander.specs.Buckets.{Chained}
 use Rattle.expander.specs.Table.{meaningText, rows, meaningNumber, Numbered, Sound, blank, DefinitionsIn, ValidDefinitions, TableIn, placeOf, meaningFor, textEnd, Finds}
 use Rattle.expander.specs.declared.packed.Packed.{Packed}
 use Rattle.expander.specs.declared.table.Found.the-variants as found
@@ -89,7 +90,7 @@ module _ (w : Bytes) where
       go none f false e = absurd (let z : _≡_ {A = ℕ} 0 1 = cc in omega arith)
 
   -- the definition at place i is of the name, or not
-  newest-turn : (ds : List Definition) (i : ℕ) → i < length ds
+  pub newest-turn : (ds : List Definition) (i : ℕ) → i < length ds
       → newestPlace w (take (suc i) ds) ≡ elim (sameBytes w ((getD ds i blank) .name)) [ true ↦ some i | false ↦ newestPlace w (take i ds) ]
   newest-turn ds i h =
       ap (newestPlace w) (take-suc ds i blank h)
@@ -223,13 +224,14 @@ unfolding textEnd
 finds-within {ds = ds} d h = omega (arith, h .within, length-rows ds, string-count d)
 
 -- a run begins with no definition and with every predefined name's own meaning
-pub fresh-in : (bytes : Bytes) (ends : List ℕ) → length bytes ≤ mostLent → length ends ≡ tableEndsLength → TableIn bytes ends (record { count = 0; used = 0 }) allOwn freshTable
+pub fresh-in : (bytes : Bytes) (ends : List ℕ) → length bytes ≤ mostLent → length ends ≡ tableEndsLength → Chained ends [] → TableIn bytes ends (record { count = 0; used = 0 }) allOwn freshTable
 unfolding freshTable predefinedNames rows Sound endsFrom joined
-fresh-in bytes ends hb he = record {
+fresh-in bytes ends hb he hc = record {
   holds = record {
     packs = record { ends-are = refl; bytes-are = refl; count-in = omega arith; used-in = omega arith };
     sound = tt;
     numbers = λ i l. absurd (not-suc-le-zero l);
+    chained = hc;
     bytes-most = hb;
     ends-are = he;
   };

@@ -31,6 +31,7 @@ use Rattle.expander.specs.declared.plain_steps.Stop.the-variants as stop
 use Rattle.expander.specs.declared.plain_steps.PlainSteps.{PlainSteps}
 use Rattle.expander.specs.Front.{Front}
 use Rattle.expander.specs.Limits.{allOwn, mostLent}
+use Rattle.expander.specs.Buckets.{Chained}
 use Rattle.expander.specs.Machine.{Memory, Limits, Represents, Valid, Follows, Refines}
 use Rattle.expander.specs.Verdict.{Verdict, going, over, denied, verdict, followed}
 use Rattle.expander.specs.Run.{Running, Leaves, halted, finishedReport, stoppedReport, haltedReport, Ran, SpecialNext, Reached, AfterPlainSteps}
@@ -108,7 +109,7 @@ nothing-front : (buffer : Bytes) → Front buffer 0 []
 nothing-front buffer = record { text-is = refl; inside = omega arith }
 
 pub started :
-    (a : Setting) (b : Memory) (is : List Item) (marks : Marks) (from : ℕ) → markTexts marks ≡ defaultMarks → GoodMarks marks → Limits a b → setItems (b .set) ≡ some is → length (b .pending) ≡ from
+    (a : Setting) (b : Memory) (is : List Item) (marks : Marks) (from : ℕ) → markTexts marks ≡ defaultMarks → GoodMarks marks → Limits a b → Chained (b .tableEnds) [] → setItems (b .set) ≡ some is → length (b .pending) ≡ from
     → Represents a b (record {
       marks = marks;
       source = record { from = from; taken = 0 };
@@ -119,7 +120,7 @@ pub started :
       errors = 0;
     }) (startState is (freshStart (b .text) (b .set)))
 unfolding startState freshStart sourceOf emptyStreams openStrings endsFrom joined Stacked signedValue
-started a b is marks from e g l i q =
+started a b is marks from e g l k i q =
     let h : length (b .pending) ≤ from = omega arith in
     record {
       set = i;
@@ -141,7 +142,7 @@ started a b is marks from e g l i q =
             open-few = omega arith;
             args-few = omega arith;
           };
-      table = fresh-in (b .definitions) (b .tableEnds) (l .definitions-most) (l .table-ends);
+      table = fresh-in (b .definitions) (b .tableEnds) (l .definitions-most) (l .table-ends) k;
       sinks = record { waiting = none-held (b .streams) (b .owners); written = nothing-front (b .output); current = refl };
       wrap = nothing-front (b .wrap);
       errors = nothing-front (b .errors);

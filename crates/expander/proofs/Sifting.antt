@@ -4,7 +4,8 @@ use Rattle.rules.specs.Bytes.{Bytes, sameBytes}
 use Rattle.rules.specs.Streams.{joined}
 use Rattle.rules.specs.Table.{Definition, Table, ownLost, without, undefined}
 use Rattle.expander.specs.Packed.{endsFrom, Packs, overlaid}
-use Rattle.expander.specs.Limits.{meaningsStart}
+use Rattle.expander.specs.Limits.{meaningsStart, linksStart}
+use Rattle.expander.specs.Buckets.{Chained}
 use Rattle.expander.specs.Meanings.{numberAt, Put}
 use Rattle.expander.specs.Table.{meaningText, rows, meaningNumber, Sound, blank, DefinitionsIn, TableIn, unlessNamed, Sifted}
 use Rattle.expander.specs.declared.packed.Packed.{Packed}
@@ -12,7 +13,7 @@ use Rattle.expander.proofs.Packing.{joined-append, ends-append, length-
 use Rattle.expander.proofs.Overwriting.{part-length, length-overlaid, take-overlaid, drop-overlaid}
 use Rattle.expander.proofs.Rows.{string-count, length-rows}
 use Rattle.expander.proofs.MeaningLaws.{numbers-kept, packs-kept}
-use Rattle.expander.proofs.Changing.{Told, told-last, rows-append, few-strings, holds-others}
+use Rattle.expander.proofs.Changing.{Told, told-last, rows-append, few-strings, others-few, holds-others}
 use Rattle.expander.proofs.MaskLaws.{lost-less}
 use Rattle.expander.proofs.Parts.{drop-take, drop-later, part-long}
 
@@ -341,10 +342,15 @@ sound-without w (d ∷ ds) p = go (sameBytes w (d .name)) (sound-without w ds (p
     go true q = q
     go false q = (p .0, p .1, q)
 
--- the definitions that are left, and the table that they are
-pub without-in : (w : Bytes) {bytes : Bytes} {ends : List ℕ} {p : Packed} {ds : List Definition} → DefinitionsIn bytes ends p ds → {bytes′ : Bytes} {ends′ : List ℕ} {r : Packed}
-    → length bytes′ ≡ length bytes → length ends′ ≡ length ends → Packs ends′ (r .count) bytes′ (r .used) (rows (without w ds)) → Told ends′ (without w ds) → DefinitionsIn bytes′ ends′ r (without w ds)
-without-in w {ds = ds} h lb le k f = holds-others h k (sound-without w ds (h .sound)) refl f lb le refl
+-- the definitions that are left are as few, and they are a table
+pub without-few : (w : Bytes) {bytes : Bytes} {ends : List ℕ} {p : Packed} {ds : List Definition} → DefinitionsIn bytes ends p ds → {bytes′ : Bytes} → length bytes′ ≡ length bytes → {ends₁ : List ℕ} {r : Packed}
+    → Packs ends₁ (r .count) bytes′ (r .used) (rows (without w ds)) → r .count ≤ meaningsStart
+without-few w {ds = ds} h lb {r = r} k = omega (arith, length-rows (without w ds), count-is k, others-few h lb {r = r} (without w ds) k (sound-without w ds (h .sound)))
+
+pub without-in : (w : Bytes) {bytes : Bytes} {ends : List ℕ} {p : Packed} {ds : List Definition} → DefinitionsIn bytes ends p ds → {bytes′ : Bytes} {ends₁ ends′ : List ℕ} {r : Packed}
+    → length bytes′ ≡ length bytes → length ends₁ ≡ length ends → Packs ends₁ (r .count) bytes′ (r .used) (rows (without w ds)) → Told ends₁ (without w ds)
+    → length ends′ ≡ length ends₁ → take linksStart ends′ ≡ take linksStart ends₁ → Chained ends′ (without w ds) → DefinitionsIn bytes′ ends′ r (without w ds)
+without-in w {ds = ds} h {ends₁ = ends₁} lb l₁ k f l′ c ch = holds-others h lb {ends₁ = ends₁} ends₁ k (sound-without w ds (h .sound)) refl f c ch l₁ refl l′
 
 pub undefined-in : (w : Bytes) {bytes : Bytes} {ends : List ℕ} {p : Packed} {own : ℕ} {t : Table} → TableIn bytes ends p own t → {bytes′ : Bytes} {ends′ : List ℕ} {r : Packed} {lost : ℕ}
     → DefinitionsIn bytes′ ends′ r (without w (t .definitions)) → lost ≡ ownLost w own → TableIn bytes′ ends′ r lost (undefined w t)

@@ -13,6 +13,7 @@ use Rattle.rules.specs.Streams.{finishedStreams, changed, changedInTurn}
 use Rattle.rules.specs.Table.{Meaning, Definition}
 use Rattle.rules.specs.State.{Call, State, next, stop, refused, withCalls, withSource, withStreams, withWrap, resulting, changing, emitting}
 use Rattle.rules.specs.Tokens.{readToken}
+use Rattle.hashing.specs.Hashing.{hashed}
 use Rattle.rules.specs.Run.{Setting, callsCost}
 use Rattle.rules.specs.Step.{plain, opening, bare, unopened, usedWith, atEnd, collecting, commaAtDepth, rightMet, otherMet, inCall, singleByte, act, reacted, step}
 use Rattle.expander.specs.declared.machine.Machine.{Machine}
@@ -24,11 +25,11 @@ use Rattle.expander.specs.declared.table.Meaning.{Meaning as Looked}
 use Rattle.expander.specs.declared.table.Meaning.the-variants as looked
 use Rattle.expander.specs.Calls.{CallsIn, bit}
 use Rattle.expander.specs.Front.{Front}
-use Rattle.expander.specs.Machine.{Memory, Represents, Valid, Refines, Reach, aheadOf, pendingAt, sourceSet, wrapSet, stepped}
+use Rattle.expander.specs.Machine.{Memory, Represents, Valid, Refines, Reach, aheadOf, bytesAhead, pendingAt, sourceSet, wrapSet, stepped}
 use Rattle.expander.specs.Source.{SourceIn}
 use Rattle.expander.specs.Step.{byRole, deepAt, HasRole, TokenWithin}
 use Rattle.expander.specs.Table.{Finds, meaningFor, plainUnopened}
-use Rattle.expander.specs.Tokens.{Within}
+use Rattle.expander.specs.Tokens.{Within, NameHashed}
 use Rattle.expander.proofs.Parts.{part-all}
 use Rattle.expander.proofs.CallsLaws.{calls-held, depth-in}
 use Rattle.expander.proofs.MachineLaws.{front-long, over-pending, refines-next, refines-refused, refines-room}
@@ -179,13 +180,17 @@ module _ (x : ℕ) (s : State) where
 -- ---- a name
 
 -- the text ahead as the parts of the two buffers that the code reads
+pub bytes-parts :
+    (text pending : Bytes) (p : Position)
+    → take (length pending - p .from) (drop (p .from) pending) ++ take (length text - p .taken) (drop (p .taken) text) ≡ bytesAhead text pending p
+bytes-parts text pending p =
+    ap (λ (l : Bytes). l ++ take (length text - p .taken) (drop (p .taken) text)) (part-all pending (p .from))
+    ∙ ap (λ (l : Bytes). drop (p .from) pending ++ l) (part-all text (p .taken))
+
 pub ahead-parts :
     {text pending : Bytes} {p : Position} {x : Source} → SourceIn text pending p x
     → take (length pending - p .from) (drop (p .from) pending) ++ take (length text - p .taken) (drop (p .taken) text) ≡ ahead x
-ahead-parts {text} {pending} {p} m =
-    ap (λ (l : Bytes). l ++ take (length text - p .taken) (drop (p .taken) text)) (part-all pending (p .from))
-    ∙ ap (λ (l : Bytes). drop (p .from) pending ++ l) (part-all text (p .taken))
-    ∙ sym (ahead-is m)
+ahead-parts {text} {pending} {p} m = bytes-parts text pending p ∙ sym (ahead-is m)
 
 at-within : (xs : Bytes) (n : ℕ) → getD xs n 0 ≡ 40 → n < length xs
 at-within [] n e = absurd (omega arith)
@@ -365,3 +370,9 @@ module _ {a : Setting} {b : Memory} {m : Machine} {s : State} (r : Represents a 
       go (token.Quoted i j n) q l = (w .quoted i j n q .0, w .quoted i j n q .1, subst (λ (k : ℕ). n ≤ k) l (w .quoted i j n q .2))
       go (token.Name n) q l = (w .name n q .0, subst (λ (k : ℕ). n ≤ k) l (w .name n q .1))
       go (token.Byte x) q l = subst (λ (k : ℕ). 1 ≤ k) l (w .byte x q .0)
+
+  -- and of a name the hash
+  pub token-hashed :
+      {g : Reading} {hash : ℕ} → NameHashed parts g hash → {t : Token} → g ≡ Is t → NameHashed (bytesAhead (b .text) (b .pending) (m .source)) (Is t) hash
+  token-hashed h q =
+      record { name = λ n e. h .name n (q ∙ e) ∙ ap (λ (l : Bytes). hashed 0 (take n l)) (bytes-parts (b .text) (b .pending) (m .source)) }

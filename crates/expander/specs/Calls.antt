@@ -6,6 +6,7 @@ use mathlib.Core.List.{List, [], _∷_, _++_}
 use lib.ListN.{length, getD}
 use Rattle.rules.specs.Bytes.{Bytes}
 use Rattle.rules.specs.State.{Call}
+use Rattle.hashing.specs.Hashing.{bucketOf}
 use Rattle.expander.specs.declared.calls.Calls.{Calls}
 use Rattle.expander.specs.Limits.{mostLent, mostCalls, mostArguments, callEndsLength, stackLength}
 use Rattle.expander.specs.Packed.{Packs}
@@ -23,13 +24,14 @@ unfoldable pub bit : Bool → ℕ
 bit true = 1
 bit false = 0
 
--- three words for each open call: the number of its first string, its depth of parentheses, whether it collected a token
+-- four words for each open call: the number of its first string, its depth of parentheses, whether it collected a token, the bucket of its name
 unfoldable pub Stacked : List ℕ → List Call → Type 0
 Stacked st [] = Unit {0}
 Stacked st (c ∷ cs) =
-    (getD st (3 * length cs) 0 ≡ length (openStrings cs))
-    × (getD st (3 * length cs + 1) 0 ≡ c .depth)
-    × (getD st (3 * length cs + 2) 0 ≡ bit (c .collected))
+    (getD st (4 * length cs) 0 ≡ length (openStrings cs))
+    × (getD st (4 * length cs + 1) 0 ≡ c .depth)
+    × (getD st (4 * length cs + 2) 0 ≡ bit (c .collected))
+    × (getD st (4 * length cs + 3) 0 ≡ bucketOf (c .name))
     × (c .depth ≤ length (c .current))
     × Stacked st cs
 

@@ -10,6 +10,7 @@ use Rattle.rules.specs.Source.{ahead}
 use Rattle.rules.specs.State.{Call, State, next, refused, withCalls, taking, emitting}
 use Rattle.rules.specs.Step.{step, atEnd, collecting, delivered, opened, closed, commaMet}
 use Rattle.rules.specs.Table.{meaningOf}
+use Rattle.hashing.specs.Hashing.{bucketOf}
 use Rattle.expander.specs.declared.events.Event.{Event}
 use Rattle.expander.specs.declared.events.Event.the-variants as event
 use Rattle.expander.specs.declared.events.Plain.{Plain}
@@ -17,11 +18,11 @@ use Rattle.expander.specs.declared.events.Plain.the-variants as plain
 use Rattle.expander.specs.declared.events.Special.{Special}
 use Rattle.expander.specs.declared.events.Special.the-variants as special
 use Rattle.expander.specs.declared.machine.Machine.{Machine}
-use Rattle.expander.specs.Machine.{Memory, Valid, Reach, aheadOf}
+use Rattle.expander.specs.Machine.{Memory, Valid, Reach, aheadOf, bytesAhead}
 use Rattle.expander.specs.declared.table.Meaning.{Meaning}
 use Rattle.expander.specs.Table.{Finds}
 
--- ---- where the bytes of an event lie, and that a call is open where it speaks of one
+-- ---- where the bytes of an event lie, that a call is open where it speaks of one, and which bucket a name has
 
 unfoldable pub PlainWithin : Bytes → Bytes → Machine → Plain → Type 0
 PlainWithin text pending m (plain.Deliver start n width) = Reach text pending (m .source) start n width
@@ -29,7 +30,8 @@ PlainWithin text pending m (plain.Emit x) = 1 ≤ aheadOf text pending (m .sourc
 PlainWithin text pending m (plain.Collect x depth) = (1 ≤ aheadOf text pending (m .source)) × (0 < m .calls .opens)
 PlainWithin text pending m plain.Skip = 1 ≤ aheadOf text pending (m .source)
 PlainWithin text pending m plain.Separate = (1 ≤ aheadOf text pending (m .source)) × (0 < m .calls .opens)
-PlainWithin text pending m (plain.Open n) = Reach text pending (m .source) 0 n (suc n)
+PlainWithin text pending m (plain.Open n bucket) =
+    Reach text pending (m .source) 0 n (suc n) × (bucket ≡ bucketOf (take n (bytesAhead text pending (m .source))))
 
 unfoldable pub SpecialWithin : Bytes → Bytes → Machine → Special → Type 0
 SpecialWithin text pending m special.End = m .source .from ≡ length pending
@@ -52,7 +54,7 @@ PlainIs s (plain.Collect x depth) =
     → (depth ≤ length (c .current) + 1) × (step s ≡ next (withCalls (collecting (x ∷ []) depth c ∷ cs) (taking 1 s)))
 PlainIs s plain.Skip = step s ≡ next (taking 1 s)
 PlainIs s plain.Separate = (c : Call) (cs : List Call) → s .calls ≡ c ∷ cs → step s ≡ commaMet c cs (taking 1 s)
-PlainIs s (plain.Open n) = step s ≡ opened (take n (ahead (s .source))) (taking (suc n) s)
+PlainIs s (plain.Open n bucket) = step s ≡ opened (take n (ahead (s .source))) (taking (suc n) s)
 
 -- the name of n bytes ahead was looked up
 unfoldable pub NameFound : State → ℕ → Meaning → Type 0

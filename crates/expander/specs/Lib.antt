@@ -1,6 +1,7 @@
 -- What the buffers, the links and the by-value state represent.
 pub mod Ahead
 pub mod Arguments
+pub mod Buckets
 pub mod Calls
 pub mod Defn
 pub mod Diverting

@@ -4,6 +4,8 @@ use Prim.Native.Nat.{ℕ, _+_, _-_, _*_, _/_, _^_}
 pub use Rattle.rules.specs.Run.{mostLent}
 -- open calls, and arguments over all of them
 pub use Rattle.rules.specs.Step.{mostCalls, mostArguments}
+-- buckets of names
+pub use Rattle.hashing.specs.Hashing.{bucketCount}
 -- predefined macros, as many as the book names (law `fresh-in` of Rows)
 pub use Rattle.builtins.specs.Numbers.{macroCount}
 
@@ -11,16 +13,23 @@ pub use Rattle.builtins.specs.Numbers.{macroCount}
 abbrev pub allOwn : ℕ
 allOwn = 2 ^ macroCount - 1
 
--- the ends of an open call's strings, its name and its arguments; three words for each call
+-- the ends of an open call's strings, its name and its arguments; four words for each call
 abbrev pub callEndsLength : ℕ
 callEndsLength = mostCalls + mostArguments
 
 abbrev pub stackLength : ℕ
-stackLength = 3 * mostCalls
+stackLength = 4 * mostCalls
 
--- the ends of name and text for each definition, which has a byte at least, and behind them its meaning, of four definitions in a word
+-- the ends of name and text for each definition, which has a byte at least; behind them its meaning, of four definitions in a word; its link
+-- to the next older definition of its bucket, of two in a word; and a word for each bucket
 abbrev pub meaningsStart : ℕ
 meaningsStart = 2 * mostLent
 
+abbrev pub linksStart : ℕ
+linksStart = meaningsStart + mostLent / 4
+
+abbrev pub headsStart : ℕ
+headsStart = linksStart + mostLent / 2
+
 abbrev pub tableEndsLength : ℕ
-tableEndsLength = meaningsStart + mostLent / 4
+tableEndsLength = headsStart + bucketCount

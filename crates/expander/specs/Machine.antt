@@ -1,9 +1,9 @@
 -- Which state the buffers, the links and the by-value machine represent, and what a step has to give.
 use Prim.Native.Nat.{ℕ, _+_, _-_, _≤_}
 use mathlib.Core.Path.{_≡_}
-use mathlib.Core.List.{List}
+use mathlib.Core.List.{List, _++_}
 use mathlib.Core.Option.{some}
-use lib.ListN.{length}
+use lib.ListN.{length, drop}
 use Rattle.rules.specs.Bytes.{Bytes}
 use Rattle.rules.specs.Sets.{setItems}
 use Rattle.rules.specs.Marks.{markTexts}
@@ -191,6 +191,10 @@ pub record ValidAt (lent : Memory → Memory) (made : Machine → Machine) : Typ
 -- how many bytes are ahead of a position
 abbrev pub aheadOf : Bytes → Bytes → Position → ℕ
 aheadOf text pending p = (length pending - p .from) + (length text - p .taken)
+
+-- and these bytes
+abbrev pub bytesAhead : Bytes → Bytes → Position → Bytes
+bytesAhead text pending p = drop (p .from) pending ++ drop (p .taken) text
 
 -- n bytes from `start` on, and `width` bytes, are ahead
 pub record Reach (text pending : Bytes) (p : Position) (start n width : ℕ) : Type 0 where

@@ -1,5 +1,5 @@
 -- Packed byte strings: one after the other from the front of a buffer, their ends in a slice of numbers beside it.
-use Prim.Native.Nat.{ℕ, _+_, _-_, _≤_}
+use Prim.Native.Nat.{ℕ, _+_, _-_, _≤_, _<_}
 use mathlib.Core.Path.{_≡_}
 use mathlib.Core.List.{List, [], _∷_, _++_}
 use lib.ListN.{length, take, drop, getD}
@@ -22,6 +22,13 @@ pub record Packs (ends : List ℕ) (count : ℕ) (bytes : Bytes) (used : ℕ) (s
 pub record Formed (ends : List ℕ) (count : ℕ) (bytes : Bytes) (used : ℕ) : Type 0 where
   pub strings : List Bytes
   pub packs : Packs ends count bytes used strings
+
+-- and string k is one of them
+pub record HasString (ends : List ℕ) (bytes : Bytes) (k : ℕ) : Type 0 where
+  pub count : ℕ
+  pub used : ℕ
+  pub formed : Formed ends count bytes used
+  pub within : k < count
 
 -- where string k starts: where the one before it ends
 unfoldable pub startOf : List ℕ → ℕ → ℕ

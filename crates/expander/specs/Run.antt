@@ -2,7 +2,7 @@
 use Prim.Native.Nat.{ℕ, _+_, _-_, _≤_, _<_}
 use mathlib.Core.Path.{_≡_}
 use mathlib.Core.Bool.{true, false}
-use mathlib.Core.List.{List}
+use mathlib.Core.List.{List, []}
 use mathlib.Core.Option.{some}
 use lib.ListN.{length, replicate}
 use Rattle.rules.specs.declared.Answer.{Answer}
@@ -20,16 +20,18 @@ use Rattle.expander.specs.declared.plain_steps.Stop.{Stop}
 use Rattle.expander.specs.declared.plain_steps.Stop.the-variants as stop
 use Rattle.expander.specs.declared.plain_steps.PlainSteps.{PlainSteps}
 use Rattle.expander.specs.Limits.{mostLent, callEndsLength, stackLength, tableEndsLength}
+use Rattle.expander.specs.Buckets.{Chained}
 use Rattle.expander.specs.Events.{SpecialWithin, SpecialIs}
 use Rattle.expander.specs.Front.{Front}
 use Rattle.expander.specs.Machine.{Memory, Limits, Represents}
 
--- there are limits, and the set is good: what the run asks
+-- there are limits, the set is good, and no definition is chained: what the run asks
 pub record Roomy (b : Memory) : Type 0 where
   pub setting : Setting
   pub limits : Limits setting b
   pub items : List Item
   pub items-are : setItems (b .set) ≡ some items
+  pub chained : Chained (b .tableEnds) []
 
 -- what the loop has in hand after `count` steps, of which `left` more may follow: the whole run is the run from here
 pub record Running (a : Setting) (b : Memory) (m : Machine) (left count : ℕ) (whole : Ended) : Type 0 where

@@ -8,11 +8,17 @@ use lib.ListN.{length, take, drop, getD}
 use Rattle.rules.specs.Bytes.{Bytes, sameBytes}
 use Rattle.rules.specs.Table.{Meaning, text, predefined, needsParenthesis, Definition, Table}
 use Rattle.expander.specs.Limits.{mostLent, macroCount, tableEndsLength}
+use Rattle.hashing.specs.Hashing.{bucketOf}
 use Rattle.expander.specs.Meanings.{numberAt}
+use Rattle.expander.specs.Buckets.{newestIn, Chained}
+-- what stands past the last definition
+unfoldable pub use Rattle.expander.specs.Buckets.{blank}
 use Rattle.expander.specs.Packed.{Packs}
 use Rattle.expander.specs.declared.packed.Packed.{Packed}
 use Rattle.expander.specs.declared.table.Found.{Found}
 use Rattle.expander.specs.declared.table.Found.the-variants as found
+use Rattle.expander.specs.declared.table.Visited.{Visited}
+use Rattle.expander.specs.declared.table.Visited.the-variants as visited
 use Rattle.expander.specs.declared.table.Meaning.{Meaning as Looked}
 use Rattle.expander.specs.declared.table.Meaning.the-variants as looked
 
@@ -47,22 +53,29 @@ unfoldable pub Sound : List Definition → Type 0
 Sound [] = Unit {0}
 Sound (d ∷ ds) = (0 < length (d .name)) × Numbered (d .meaning) × Sound ds
 
--- what stands past the last definition
-unfoldable pub blank : Definition
-blank = record { name = []; meaning = text [] }
-
--- buffer 3, and beside it the ends and the bytes of the meanings, hold the definitions
+-- buffer 3, and beside it the ends, the bytes of the meanings and the chains of the buckets, hold the definitions
 pub record DefinitionsIn (bytes : Bytes) (ends : List ℕ) (p : Packed) (ds : List Definition) : Type 0 where
   pub packs : Packs ends (p .count) bytes (p .used) (rows ds)
   pub sound : Sound ds
   pub numbers : (i : ℕ) → i < length ds → numberAt ends i ≡ meaningNumber ((getD ds i blank) .meaning)
+  pub chained : Chained ends ds
   pub bytes-most : length bytes ≤ mostLent
   pub ends-are : length ends ≡ tableEndsLength
 
--- they hold some: what functions ask
+-- the strings are those of some definitions, whatever stands beside their ends
+pub record RowsIn (ends : List ℕ) (count : ℕ) (bytes : Bytes) (used : ℕ) : Type 0 where
+  pub definitions : List Definition
+  pub packs : Packs ends count bytes used (rows definitions)
+
+-- buffer 3 and what stands beside it hold some definitions: what functions ask
 pub record ValidDefinitions (bytes : Bytes) (ends : List ℕ) (p : Packed) : Type 0 where
   pub definitions : List Definition
   pub holds : DefinitionsIn bytes ends p definitions
+
+-- the same, of whatever count and length
+pub record SomeDefinitions (bytes : Bytes) (ends : List ℕ) : Type 0 where
+  pub packed : Packed
+  pub valid : ValidDefinitions bytes ends packed
 
 -- with the mask `own` they are a table
 pub record TableIn (bytes : Bytes) (ends : List ℕ) (p : Packed) (own : ℕ) (t : Table) : Type 0 where
@@ -74,6 +87,10 @@ pub record TableIn (bytes : Bytes) (ends : List ℕ) (p : Packed) (own : ℕ) (t
 unfoldable pub placeOf : Found → Option ℕ
 placeOf (found.At i) = some i
 placeOf found.Nowhere = none
+
+-- what a step of a search for w answers, which has come to the definition of place and one `left`
+unfoldable pub visitedAt : Bytes → List Definition → ℕ → Visited
+visitedAt w ds left = elim (sameBytes w ((getD ds (left - 1) blank) .name)) [ true ↦ visited.Named | false ↦ visited.Older (newestIn (bucketOf w) ds (left - 1)) ]
 
 -- the meaning that looking a name up answers, over the strings of the definitions
 unfoldable pub meaningFor : List Bytes → Looked → Option Meaning

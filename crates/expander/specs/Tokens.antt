@@ -3,7 +3,7 @@ use Prim.Native.Nat.{ℕ, zero, suc, _+_, _-_, _≤_, _<_}
 use mathlib.Core.Path.{_≡_}
 use mathlib.Core.Bool.{Bool, true, false}
 use lib.Dec.{ltb}
-use lib.ListN.{length, drop, getD}
+use lib.ListN.{length, take, drop, getD}
 use Rattle.rules.specs.declared.Mark.{Mark}
 use Rattle.rules.specs.declared.Marks.{Marks}
 use Rattle.rules.specs.declared.Token.the-variants as token
@@ -12,6 +12,7 @@ use Rattle.rules.specs.declared.Reading.the-variants.{Is, OpenQuote, OpenCommen
 use Rattle.rules.specs.Bytes.{Bytes, beginsName, nameLength}
 use Rattle.rules.specs.Marks.{markText}
 use Rattle.rules.specs.Tokens.{atMark, firstPlace, QuoteEnd, closesAt, leftOpen, quoteEnd, commentRead}
+use Rattle.hashing.specs.Hashing.{hashed}
 use Rattle.expander.specs.declared.tokens.Met.{Met}
 use Rattle.expander.specs.declared.tokens.Met.the-variants.{First, Second, Neither}
 use Rattle.expander.specs.declared.tokens.Open.{Open}
@@ -93,3 +94,7 @@ pub record Within (text : Bytes) (r : Reading) : Type 0 where
   pub quoted : (begins ends end : ℕ) → r ≡ Is (token.Quoted begins ends end) → (begins ≤ ends) × (ends ≤ end) × (end ≤ length text)
   pub name : (end : ℕ) → r ≡ Is (token.Name end) → (1 ≤ end) × (end ≤ length text)
   pub byte : (x : ℕ) → r ≡ Is (token.Byte x) → (1 ≤ length text) × (x ≡ getD text 0 0)
+
+-- the hash of a name, taken while it was read
+pub record NameHashed (text : Bytes) (r : Reading) (hash : ℕ) : Type 0 where
+  pub name : (end : ℕ) → r ≡ Is (token.Name end) → hash ≡ hashed 0 (take end text)

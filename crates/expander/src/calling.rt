@@ -156,7 +156,15 @@ pub(crate) fn close(
     let name = packed::string(calls, ends, strings, first);
     let left = m.calls.closed(ends, first);
     let to = m.source;
-    match table::look_up(definitions, table_ends, m.table.packed, m.table.own, name) {
+    let bucket = calls::bucket(stack, m.calls);
+    match table::meaning_of(
+        definitions,
+        table_ends,
+        m.table.packed,
+        m.table.own,
+        name,
+        bucket,
+    ) {
         Meaning::Text(i) => {
             let marks = m.marks;
             let table = m.table;

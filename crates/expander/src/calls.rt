@@ -1,5 +1,6 @@
 // The open calls: their names and arguments are packed strings of buffer 2, outermost call first; the last string is what is being
-// collected. `stack` has three words for each call: the number of its first string, its depth of parentheses, whether it collected.
+// collected. `stack` has four words for each call: the number of its first string, its depth of parentheses, whether it collected, and the
+// bucket of its name.
 // What a call collects is written behind the strings, and then belongs to the innermost call.
 use crate::packed;
 use crate::packed::Packed;
@@ -11,6 +12,7 @@ ghost use lib.ListN.{length, take, drop};
 ghost use Rattle.rules.specs.Bytes.{Bytes};
 ghost use Rattle.rules.specs.State.{Call};
 ghost use Rattle.rules.specs.Step.{openCall, collecting, nextArgument};
+ghost use Rattle.hashing.specs.Hashing.{bucketCount, bucketOf};
 ghost use Rattle.expander.specs.Calls.{CallsIn, SomeCalls, openStrings, bit, CallRoom};
 ghost use Rattle.expander.specs.Filled.{Filled};
 ghost use Rattle.expander.specs.Limits.{mostLent, mostCalls, mostArguments, stackLength};
@@ -21,20 +23,27 @@ pub(crate) struct Calls {
 }
 
 impl Calls {
-    // A call is opened whose name, n bytes, was written behind the strings.
-    pub(crate) fn opened(self, ends: &mut [u32], stack: &mut [u32], n: usize) -> Calls
-        requires { ⌜ SomeCalls (now ends) (now stack) self × (self .opens < mostCalls) × (self .strings .count < self .opens + mostArguments) × (n ≤ mostLent) ⌝ }
-        ensures { λ r. ⌜ ((bytes after name : Bytes) (cs : List Call) → CallsIn bytes (now (ends .entry)) (now (stack .entry)) self cs → length name ≡ n → Filled bytes (self .strings .used) name after → CallsIn after (now (ends .exit)) (now (stack .exit)) r (openCall name ∷ cs)) ⌝ }
+    // A call is opened whose name, n bytes of this bucket, was written behind the strings.
+    pub(crate) fn opened(
+        self,
+        ends: &mut [u32],
+        stack: &mut [u32],
+        n: usize,
+        bucket: usize,
+    ) -> Calls
+        requires { ⌜ SomeCalls (now ends) (now stack) self × (self .opens < mostCalls) × (self .strings .count < self .opens + mostArguments) × (n ≤ mostLent) × (bucket < bucketCount) ⌝ }
+        ensures { λ r. ⌜ ((bytes after name : Bytes) (cs : List Call) → CallsIn bytes (now (ends .entry)) (now (stack .entry)) self cs → length name ≡ n → bucket ≡ bucketOf name → Filled bytes (self .strings .used) name after → CallsIn after (now (ends .exit)) (now (stack .exit)) r (openCall name ∷ cs)) ⌝ }
     {
         let count = self.strings.count;
         let opens = self.opens;
         let used = self.strings.used + n;
         ends[count] = used as u32;
         ends[count + 1] = used as u32;
-        let top = 3 * opens;
+        let top = 4 * opens;
         stack[top] = count as u32;
         stack[top + 1] = 0;
         stack[top + 2] = 0;
+        stack[top + 3] = bucket as u32;
         let strings = Packed {
             count: count + 2,
             used,
@@ -60,7 +69,7 @@ impl Calls {
         let opens = self.opens;
         let used = self.strings.used + n;
         ends[count - 1] = used as u32;
-        let top = 3 * (opens - 1);
+        let top = 4 * (opens - 1);
         stack[top + 1] = depth;
         stack[top + 2] = 1;
         let strings = Packed { count, used };
@@ -76,7 +85,7 @@ impl Calls {
         let used = self.strings.used;
         let opens = self.opens;
         ends[count] = used as u32;
-        let top = 3 * (opens - 1);
+        let top = 4 * (opens - 1);
         stack[top + 1] = 0;
         stack[top + 2] = 0;
         let strings = Packed {
@@ -99,7 +108,7 @@ impl Calls {
         }
     }
 
-    // A call is opened whose name is the first n bytes ahead.
+    // A call is opened whose name is the first n bytes ahead, of this bucket.
     pub(crate) fn open_ahead(
         self,
         front: &[u8],
@@ -108,14 +117,16 @@ impl Calls {
         bytes: &mut [u8],
         ends: &mut [u32],
         stack: &mut [u32],
+        bucket: usize,
     ) -> Calls
         requires { ⌜ CallRoom (now bytes) (now ends) (now stack) self n × (n ≤ length (now front) + length (now rest)) ⌝ }
         requires { ⌜ (self .opens < mostCalls) × (self .strings .count < self .opens + mostArguments) ⌝ }
+        requires { ⌜ bucket ≡ bucketOf (take n (now front ++ now rest)) ⌝ }
         ensures { λ r. ⌜ ((cs : List Call) → CallsIn (now (bytes .entry)) (now (ends .entry)) (now (stack .entry)) self cs → CallsIn (now (bytes .exit)) (now (ends .exit)) (now (stack .exit)) r (openCall (take n (now (front .entry) ++ now (rest .entry))) ∷ cs)) ⌝ }
     {
         let at = self.strings.used;
         source::fill_ahead(front, rest, 0, n, bytes, at);
-        self.opened(ends, stack, n)
+        self.opened(ends, stack, n, bucket)
     }
 
     // n bytes ahead, from `start` on, are collected.
@@ -161,7 +172,7 @@ pub(crate) fn first_string(stack: &[u32], x: Calls) -> usize
     requires { ⌜ (0 < x .opens) × (x .opens ≤ mostCalls) × (length (now stack) ≡ stackLength) ⌝ }
     ensures { λ r. ⌜ ((bytes : Bytes) (ends : List ℕ) (c : Call) (cs : List Call) → CallsIn bytes ends (now (stack .entry)) x (c ∷ cs) → r ≡ length (openStrings cs)) ⌝ }
 {
-    let top = 3 * (x.opens - 1);
+    let top = 4 * (x.opens - 1);
     stack[top] as usize
 }
 
@@ -169,7 +180,7 @@ pub(crate) fn depth(stack: &[u32], x: Calls) -> u32
     requires { ⌜ (0 < x .opens) × (x .opens ≤ mostCalls) × (length (now stack) ≡ stackLength) ⌝ }
     ensures { λ r. ⌜ ((bytes : Bytes) (ends : List ℕ) (c : Call) (cs : List Call) → CallsIn bytes ends (now (stack .entry)) x (c ∷ cs) → r ≡ c .depth) ⌝ }
 {
-    let top = 3 * (x.opens - 1);
+    let top = 4 * (x.opens - 1);
     stack[top + 1]
 }
 
@@ -178,6 +189,15 @@ pub(crate) fn has_collected(stack: &[u32], x: Calls) -> u32
     requires { ⌜ (0 < x .opens) × (x .opens ≤ mostCalls) × (length (now stack) ≡ stackLength) ⌝ }
     ensures { λ r. ⌜ ((bytes : Bytes) (ends : List ℕ) (c : Call) (cs : List Call) → CallsIn bytes ends (now (stack .entry)) x (c ∷ cs) → r ≡ bit (c .collected)) ⌝ }
 {
-    let top = 3 * (x.opens - 1);
+    let top = 4 * (x.opens - 1);
     stack[top + 2]
+}
+
+// The bucket of the innermost call's name.
+pub(crate) fn bucket(stack: &[u32], x: Calls) -> usize
+    requires { ⌜ (0 < x .opens) × (x .opens ≤ mostCalls) × (length (now stack) ≡ stackLength) ⌝ }
+    ensures { λ r. ⌜ ((bytes : Bytes) (ends : List ℕ) (c : Call) (cs : List Call) → CallsIn bytes ends (now (stack .entry)) x (c ∷ cs) → r ≡ bucketOf (c .name)) ⌝ }
+{
+    let top = 4 * (x.opens - 1);
+    stack[top + 3] as usize
 }

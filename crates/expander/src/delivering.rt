@@ -12,7 +12,8 @@ ghost use lib.ListN.{length, take, drop};
 ghost use Rattle.rules.specs.State.{State, Call, next, taking, emitting, withCalls};
 ghost use Rattle.rules.specs.Run.{Setting};
 ghost use Rattle.rules.specs.Source.{ahead};
-ghost use Rattle.expander.specs.Machine.{Memory, Represents, Refines, Valid, Reach, textAt, pendingAt, callsAt, sinksAt};
+ghost use Rattle.expander.specs.Machine.{Memory, Represents, Refines, Valid, Reach, bytesAhead, textAt, pendingAt, callsAt, sinksAt};
+ghost use Rattle.hashing.specs.Hashing.{bucketOf};
 ghost use Rattle.rules.specs.Step.{delivered, opened, collecting, commaMet};
 
 // n bytes ahead from `start` on go to the current stream; `width` bytes are taken.
@@ -150,7 +151,7 @@ pub(crate) fn collect_byte(
     m.with_calls(k).on()
 }
 
-// A call is opened whose name is the first n bytes ahead; they and the parenthesis are taken.
+// A call is opened whose name is the first n bytes ahead, of this bucket; they and the parenthesis are taken.
 pub(crate) fn open_call(
     text: &[u8],
     pending: &[u8],
@@ -159,9 +160,11 @@ pub(crate) fn open_call(
     stack: &mut [u32],
     m: Machine,
     n: usize,
+    bucket: usize,
 ) -> Stepped
     requires { ⌜ Valid (λ b. textAt (now text) (pendingAt (now pending) (callsAt (now calls) (now ends) (now stack) b))) m ⌝ }
     requires { ⌜ Reach (now text) (now pending) (m .source) 0 n (suc n) ⌝ }
+    requires { ⌜ bucket ≡ bucketOf (take n (bytesAhead (now text) (now pending) (m .source))) ⌝ }
     ensures { λ t. ⌜ ((a : Setting) (s : State) (b : Memory) → Represents a (textAt (now (text .entry)) (pendingAt (now (pending .entry)) (callsAt (now (calls .entry)) (now (ends .entry)) (now (stack .entry)) b))) m s → Refines a (textAt (now (text .entry)) (pendingAt (now (pending .entry)) (callsAt (now (calls .entry)) (now (ends .entry)) (now (stack .entry)) b))) (opened (take n (ahead (s .source))) (taking (suc n) s)) (textAt (now (text .entry)) (pendingAt (now (pending .entry)) (callsAt (now (calls .exit)) (now (ends .exit)) (now (stack .exit)) b))) t) ⌝ }
 {
     let p = m.source;
@@ -177,8 +180,15 @@ pub(crate) fn open_call(
     if calls.len() - m.calls.strings.used < n {
         return m.refused(Answer::Room(2));
     }
-    let k = m.calls
-        .open_ahead(&pending[from..], &text[taken..], n, calls, ends, stack);
+    let k = m.calls.open_ahead(
+        &pending[from..],
+        &text[taken..],
+        n,
+        calls,
+        ends,
+        stack,
+        bucket,
+    );
     let to = p.advanced(pending, n + 1);
     m.with_source(to).with_calls(k).on()
 }

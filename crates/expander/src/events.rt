@@ -11,24 +11,28 @@ use rules::Token;
 ghost use mathlib.Core.Path.{_≡_};
 ghost use Prim.Native.Nat.{_≤_, _<_};
 ghost use lib.Dec.{eqb};
-ghost use lib.ListN.{length, getD};
+ghost use lib.ListN.{length, take, getD};
 ghost use Rattle.rules.specs.declared.Token.the-variants as token;
+ghost use Rattle.rules.specs.declared.Reading.the-variants as reading;
 ghost use Rattle.rules.specs.Bytes.{Bytes};
 ghost use Rattle.rules.specs.State.{State};
 ghost use Rattle.rules.specs.Run.{Setting};
 ghost use Rattle.rules.specs.Source.{Source, ahead};
 ghost use Rattle.rules.specs.Step.{act, step};
 ghost use Rattle.expander.specs.Events.{EventWithin, EventIs};
-ghost use Rattle.expander.specs.Machine.{Memory, Represents, Valid, Reach, aheadOf, textAt, pendingAt, stackAt, definitionsAt};
+ghost use Rattle.expander.specs.Machine.{Memory, Represents, Valid, Reach, aheadOf, bytesAhead, textAt, pendingAt, stackAt, definitionsAt};
 ghost use Rattle.expander.specs.Source.{SourceIn};
 ghost use Rattle.expander.specs.Step.{HasRole, TokenWithin};
 ghost use Rattle.expander.specs.Limits.{mostLent};
+ghost use Rattle.expander.specs.Tokens.{NameHashed};
+ghost use Rattle.hashing.specs.Hashing.{hashed};
 ghost use Rattle.expander.specs.Table.{plainUnopened};
 ghost use Rattle.expander.specs.declared.events.Event.the-variants as event;
 ghost use Rattle.expander.specs.declared.events.Plain.the-variants as plain;
 
 // n bytes ahead from `start` on go where text goes, and `width` bytes are taken; a byte goes to the current stream; the innermost call
-// collects a byte, with so many parentheses open then; a blank is skipped; the next argument begins; a call is opened whose name is the first n bytes ahead.
+// collects a byte, with so many parentheses open then; a blank is skipped; the next argument begins; a call is opened whose name is the first n bytes ahead,
+// of this bucket.
 pub(crate) enum Plain {
     Deliver {
         start: usize,
@@ -42,7 +46,10 @@ pub(crate) enum Plain {
     },
     Skip,
     Separate,
-    Open(usize),
+    Open {
+        n: usize,
+        bucket: usize,
+    },
 }
 
 // Nothing is ahead; the innermost call is closed; the name of n bytes ahead is called without arguments; a quoted text or a comment does not end.
@@ -150,28 +157,40 @@ fn plain_unopened(meaning: Meaning) -> bool
     }
 }
 
-// What the name of n bytes ahead calls for.
-fn name_event(
-    text: &[u8],
-    pending: &[u8],
+// What the name of n bytes ahead, of this hash, calls for.
+fn name_event<'a>(
+    text: &'a [u8],
+    pending: &'a [u8],
     definitions: &[u8],
     table_ends: &[u32],
     scratch: &mut [u8],
     m: Machine,
     n: usize,
+    hash: u32,
 ) -> Event
     requires { ⌜ Valid (λ b. textAt (now text) (pendingAt (now pending) (definitionsAt (now definitions) (now «table_ends») b))) m ⌝ }
     requires { ⌜ Reach (now text) (now pending) (m .source) 0 n n ⌝ }
+    requires { ⌜ hash ≡ hashed 0 (take n (bytesAhead (now text) (now pending) (m .source))) ⌝ }
     requires { ⌜ length (now scratch) ≡ mostLent ⌝ }
     ensures within { λ r. ⌜ EventWithin (now (text .entry)) (now (pending .entry)) m r ⌝ }
     ensures is { λ r. ⌜ ((a : Setting) (s : State) (b : Memory) → Represents a (textAt (now (text .entry)) (pendingAt (now (pending .entry)) (definitionsAt (now (definitions .entry)) (now («table_ends» .entry)) b))) m s → step s ≡ act (token.Name n) s → EventIs s r) ⌝ }
 {
-    let meaning = names::meaning_ahead(text, pending, definitions, table_ends, scratch, m, n);
+    let bucket = hashing::bucket_at(hash);
+    let meaning = names::meaning_ahead(
+        text,
+        pending,
+        definitions,
+        table_ends,
+        scratch,
+        m,
+        n,
+        bucket,
+    );
     if let Meaning::Undefined = meaning {
         return whole(n);
     }
     if opens(text, pending, m.source, n) {
-        return Event::Plain(Plain::Open(n));
+        return Event::Plain(Plain::Open { n, bucket });
     }
     if plain_unopened(meaning) {
         return whole(n);
@@ -179,19 +198,21 @@ fn name_event(
     Event::Special(Special::Bare { n, meaning })
 }
 
-// What a token calls for.
-fn token_event(
-    text: &[u8],
-    pending: &[u8],
+// What a token calls for; a name has this hash.
+fn token_event<'a>(
+    text: &'a [u8],
+    pending: &'a [u8],
     stack: &[u32],
     definitions: &[u8],
     table_ends: &[u32],
     scratch: &mut [u8],
     m: Machine,
     token: Token,
+    hash: u32,
 ) -> Event
     requires { ⌜ Valid (λ b. textAt (now text) (pendingAt (now pending) (stackAt (now stack) (definitionsAt (now definitions) (now «table_ends») b)))) m ⌝ }
     requires { ⌜ TokenWithin (now text) (now pending) (m .source) token ⌝ }
+    requires { ⌜ NameHashed (bytesAhead (now text) (now pending) (m .source)) (reading.Is token) hash ⌝ }
     requires { ⌜ length (now scratch) ≡ mostLent ⌝ }
     ensures within { λ r. ⌜ EventWithin (now (text .entry)) (now (pending .entry)) m r ⌝ }
     ensures is { λ r. ⌜ ((a : Setting) (s : State) (b : Memory) → Represents a (textAt (now (text .entry)) (pendingAt (now (pending .entry)) (stackAt (now (stack .entry)) (definitionsAt (now (definitions .entry)) (now («table_ends» .entry)) b)))) m s → step s ≡ act token s → EventIs s r) ⌝ }
@@ -209,16 +230,25 @@ fn token_event(
             width: end,
         }),
         Token::Name { end } => {
-            name_event(text, pending, definitions, table_ends, scratch, m, end)
+            name_event(
+                text,
+                pending,
+                definitions,
+                table_ends,
+                scratch,
+                m,
+                end,
+                hash,
+            )
         }
         Token::Byte(x) => byte_event(stack, m, x),
     }
 }
 
 // What the token ahead calls for.
-pub(crate) fn event_ahead(
-    text: &[u8],
-    pending: &[u8],
+pub(crate) fn event_ahead<'a>(
+    text: &'a [u8],
+    pending: &'a [u8],
     stack: &[u32],
     definitions: &[u8],
     table_ends: &[u32],
@@ -234,7 +264,9 @@ pub(crate) fn event_ahead(
     let from = p.from;
     let taken = p.taken;
     let marks = m.marks;
-    let reading = tokens::read_token(marks, &pending[from..], &text[taken..]);
+    let read = tokens::read_token(marks, &pending[from..], &text[taken..]);
+    let hash = read.hash;
+    let reading = read.reading;
     match reading {
         Reading::OpenQuote(_) => Event::Special(Special::OpenQuote),
         Reading::OpenComment => Event::Special(Special::OpenComment),
@@ -247,6 +279,7 @@ pub(crate) fn event_ahead(
             scratch,
             m,
             token,
+            hash,
         ),
     }
 }

@@ -2,6 +2,7 @@
 // copied out at the end.
 mod appending;
 mod arguments;
+mod buckets;
 mod buffers;
 mod calling;
 mod calls;
@@ -90,6 +91,7 @@ fn work(
     let mut error_text = [0u8; MOST_LENT];
     let mut output_text = [0u8; MOST_LENT];
     let mut scratch = [0u8; MOST_LENT];
+    buckets::begin(&mut table_ends);
     let most = output.len();
     let most_errors = errors.len();
     let h = run::run(

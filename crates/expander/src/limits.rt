@@ -8,15 +8,22 @@ pub(crate) const MOST_CALLS: usize = 64;
 
 pub(crate) const MOST_ARGUMENTS: usize = 256;
 
-// The ends of an open call's strings, its name and its arguments, and three words for each call.
+// The ends of an open call's strings, its name and its arguments, and four words for each call.
 pub(crate) const CALL_ENDS: usize = MOST_CALLS + MOST_ARGUMENTS;
 
-pub(crate) const STACK: usize = 3 * MOST_CALLS;
+pub(crate) const STACK: usize = 4 * MOST_CALLS;
 
-// The ends of name and text for each definition, which has a byte at least, and behind them its meaning, of four definitions in a word.
+// The ends of name and text for each definition, which has a byte at least; behind them its meaning, of four definitions in a word; its link to the next
+// older definition of its bucket, of two in a word; and a word for each bucket.
 pub(crate) const MEANINGS: usize = 2 * MOST_LENT;
 
-pub(crate) const TABLE_ENDS: usize = MEANINGS + MOST_LENT / 4;
+pub(crate) const LINKS: usize = MEANINGS + MOST_LENT / 4;
+
+pub(crate) const HEADS: usize = LINKS + MOST_LENT / 2;
+
+pub(crate) const BUCKETS: usize = 199;
+
+pub(crate) const TABLE_ENDS: usize = HEADS + BUCKETS;
 
 // The predefined macros, and the mask in which each keeps its own meaning.
 const MACROS: u32 = 27;

@@ -5,7 +5,7 @@ ghost use mathlib.Core.List.{List, [], _∷_, _++_, map};
 ghost use Prim.Native.Nat.{ℕ, _+_, _-_, _^_, _≤_, _<_};
 ghost use lib.ListN.{length, take, drop, getD, set};
 ghost use Rattle.rules.specs.Bytes.{Bytes, sameBytes};
-ghost use Rattle.expander.specs.Packed.{Packs, Formed, startOf, lastMore, overlaid, rebased};
+ghost use Rattle.expander.specs.Packed.{Packs, Formed, HasString, startOf, lastMore, overlaid, rebased};
 
 // How many strings there are, and how many bytes they have.
 pub(crate) struct Packed {
@@ -24,24 +24,31 @@ pub(crate) fn start(ends: &[u32], k: usize) -> usize
     ends[k - 1] as usize
 }
 
-// String k.
-pub(crate) fn string<'a>(bytes: &'a [u8], ends: &[u32], p: Packed, k: usize) -> &'a [u8]
-    requires { ⌜ Formed (now ends) (p .count) (now bytes) (p .used) ⌝ }
-    requires { ⌜ k < p .count ⌝ }
-    ensures { λ r. ⌜ ((ss : List Bytes) → Packs (now (ends .entry)) (p .count) (now (bytes .entry)) (p .used) ss → now r ≡ getD ss k []) ⌝ }
+// String k, of however many.
+fn part<'a>(bytes: &'a [u8], ends: &[u32], k: usize) -> &'a [u8]
+    requires { ⌜ HasString (now ends) (now bytes) k ⌝ }
+    ensures { λ r. ⌜ ((count used : ℕ) (ss : List Bytes) → Packs (now (ends .entry)) count (now (bytes .entry)) used ss → k < count → now r ≡ getD ss k []) ⌝ }
 {
     let a = start(ends, k);
     let e = start(ends, k + 1);
     &bytes[a..e]
 }
 
-// String k is s.
-pub(crate) fn is_string(bytes: &[u8], ends: &[u32], packed: Packed, k: usize, s: &[u8]) -> bool
-    requires { ⌜ Formed (now ends) (packed .count) (now bytes) (packed .used) ⌝ }
-    requires { ⌜ k < packed .count ⌝ }
-    ensures { λ r. ⌜ ((ss : List Bytes) → Packs (now (ends .entry)) (packed .count) (now (bytes .entry)) (packed .used) ss → r ≡ sameBytes (now (s .entry)) (getD ss k [])) ⌝ }
+// String k.
+pub(crate) fn string<'a>(bytes: &'a [u8], ends: &[u32], p: Packed, k: usize) -> &'a [u8]
+    requires { ⌜ Formed (now ends) (p .count) (now bytes) (p .used) ⌝ }
+    requires { ⌜ k < p .count ⌝ }
+    ensures { λ r. ⌜ ((ss : List Bytes) → Packs (now (ends .entry)) (p .count) (now (bytes .entry)) (p .used) ss → now r ≡ getD ss k []) ⌝ }
 {
-    ascii::same(s, string(bytes, ends, packed, k))
+    part(bytes, ends, k)
+}
+
+// String k is s.
+pub(crate) fn is_string(bytes: &[u8], ends: &[u32], k: usize, s: &[u8]) -> bool
+    requires { ⌜ HasString (now ends) (now bytes) k ⌝ }
+    ensures { λ r. ⌜ ((count used : ℕ) (ss : List Bytes) → Packs (now (ends .entry)) count (now (bytes .entry)) used ss → k < count → r ≡ sameBytes (now (s .entry)) (getD ss k [])) ⌝ }
+{
+    ascii::same(s, part(bytes, ends, k))
 }
 
 // Moves the bytes from `from` up to `end` down to the place `to`.

@@ -80,14 +80,16 @@ fn plain_step(
             let to = m.source.advanced(pending, 1);
             delivering::next_argument(calls, ends, stack, m.with_source(to))
         }
-        Plain::Open(n) => delivering::open_call(text, pending, calls, ends, stack, m, n),
+        Plain::Open { n, bucket } => {
+            delivering::open_call(text, pending, calls, ends, stack, m, n, bucket)
+        }
     }
 }
 
 // As many plain steps as the budget allows, up to one that is refused or special.
-pub(crate) fn run_plain(
-    text: &[u8],
-    pending: &[u8],
+pub(crate) fn run_plain<'a>(
+    text: &'a [u8],
+    pending: &'a [u8],
     calls: &mut [u8],
     ends: &mut [u32],
     stack: &mut [u32],

@@ -14,12 +14,13 @@ use crate::table::Definitions;
 use rules::Answer;
 ghost use mathlib.Core.Path.{_≡_};
 ghost use lib.ListN.{length};
-ghost use mathlib.Core.List.{List};
+ghost use mathlib.Core.List.{List, []};
 ghost use mathlib.Core.Option.{some};
 ghost use Rattle.rules.specs.Sets.{Item, setItems};
 ghost use Rattle.rules.specs.State.{freshStart, startState};
 ghost use Rattle.rules.specs.Run.{Setting, lengths, runFrom};
 ghost use Rattle.expander.specs.Limits.{mostLent};
+ghost use Rattle.expander.specs.Buckets.{Chained};
 ghost use Rattle.expander.specs.Machine.{Memory, memory, Limits, Represents};
 ghost use Rattle.expander.specs.Run.{Roomy, Leaves};
 
@@ -30,9 +31,9 @@ pub(crate) struct Halted {
     pub(crate) machine: Machine,
 }
 
-// The machine at the start of a run, over a buffer for pending text of `from` bytes.
+// The machine at the start of a run, over a buffer for pending text of `from` bytes and chains without a definition.
 fn start(from: usize) -> Machine
-    ensures { λ r. ⌜ ((a : Setting) (b : Memory) (is : List Item) → Limits a b → setItems (b .set) ≡ some is → length (b .pending) ≡ from → Represents a b r (startState is (freshStart (b .text) (b .set)))) ⌝ }
+    ensures { λ r. ⌜ ((a : Setting) (b : Memory) (is : List Item) → Limits a b → Chained (b .tableEnds) [] → setItems (b .set) ≡ some is → length (b .pending) ≡ from → Represents a b r (startState is (freshStart (b .text) (b .set)))) ⌝ }
 {
     let none = Packed { count: 0, used: 0 };
     Machine {

@@ -1,21 +1,36 @@
 // The definitions in force: name and text by turns as packed strings of buffer 3, in order of arrival, with a byte for each that says whether it is a
-// text or a predefined meaning, and a mask with a bit for each predefined name that keeps its own meaning.
+// text or a predefined meaning, those of each bucket in a chain, and a mask with a bit for each predefined name that keeps its own meaning.
+use crate::buckets;
+use crate::limits::HEADS;
 use crate::meanings;
 use crate::packed;
 use crate::packed::Packed;
 ghost use mathlib.Core.Path.{_≡_};
-ghost use mathlib.Core.List.{List, [], _∷_};
-ghost use Prim.Native.Nat.{_+_, _*_, _^_, _≤_, _<_};
-ghost use lib.ListN.{length, take, drop, getD};
+ghost use mathlib.Core.Bool.{true};
+ghost use mathlib.Core.List.{List, []};
+ghost use mathlib.Core.Option.{none};
+ghost use Prim.Native.Nat.{ℕ, _+_, _*_, _^_, _≤_, _<_};
+ghost use lib.ListN.{length, getD};
 ghost use Rattle.rules.specs.Bytes.{Bytes};
 ghost use Rattle.rules.specs.Table.{Meaning as Defined, Definition, Table, keepsOwn, ownMeaning, ownLost, newestPlace, meaningOf, text, pushed, defined, popped, without, undefined, tableCost};
-ghost use Rattle.expander.specs.Table.{rows, Means, DefinitionsIn, ValidDefinitions, TableIn, placeOf, Finds, Sifted};
-ghost use Rattle.expander.specs.Limits.{macroCount};
+ghost use Rattle.hashing.specs.Hashing.{bucketOf};
+ghost use Rattle.builtins.specs.Numbers.{candidateIn};
+ghost use Rattle.expander.specs.Buckets.{InBucket};
+ghost use Rattle.expander.specs.Table.{rows, Means, DefinitionsIn, ValidDefinitions, SomeDefinitions, TableIn, placeOf, visitedAt, Finds, Sifted};
+ghost use Rattle.expander.specs.Limits.{bucketCount, tableEndsLength};
+ghost use Rattle.expander.specs.declared.packed.Packed.{Packed as Strings};
 
 // The place of a definition, in order of arrival.
 pub(crate) enum Found {
     At(usize),
     Nowhere,
+}
+
+// What a step of a search through a bucket comes to: the definition is of the name, or the next older one of the bucket is next, told as its place and one;
+// 0 where there is none.
+pub(crate) enum Visited {
+    Named,
+    Older(usize),
 }
 
 // What a name means: the predefined macro of a number, nothing, or the text of the definition at a place. (In this order the run's loop came out cheapest.)
@@ -55,11 +70,12 @@ fn own_lost(own: u32, name: &[u8]) -> u32
     own
 }
 
-// The name's own meaning.
-fn own_meaning(own: u32, name: &[u8]) -> Meaning
+// The name's own meaning; the predefined name that has its bucket has the number `candidate`.
+fn own_meaning(own: u32, name: &[u8], candidate: u8) -> Meaning
+    requires { ⌜ candidate ≡ candidateIn (bucketOf (now name)) ⌝ }
     ensures { λ r. ⌜ ((ds : List Definition) → Finds ds (ownMeaning (now (name .entry)) own) r) ⌝ }
 {
-    let k = builtins::number_of(name);
+    let k = builtins::confirmed(name, candidate);
     if k == 0 {
         return Meaning::Undefined;
     }
@@ -70,8 +86,8 @@ fn own_meaning(own: u32, name: &[u8]) -> Meaning
     }
 }
 
-// The place of the newest definition of a name.
-pub(crate) fn newest(bytes: &[u8], ends: &[u32], packed: Packed, name: &[u8]) -> Found
+// The place of the newest definition of a name, by the plain search through all definitions.
+pub(crate) fn newest_plain(bytes: &[u8], ends: &[u32], packed: Packed, name: &[u8]) -> Found
     requires { ⌜ ValidDefinitions (now bytes) (now ends) packed ⌝ }
     ensures { λ r. ⌜ ((ds : List Definition) → DefinitionsIn (now (bytes .entry)) (now (ends .entry)) packed ds → newestPlace (now (name .entry)) ds ≡ placeOf r) ⌝ }
 {
@@ -80,7 +96,7 @@ pub(crate) fn newest(bytes: &[u8], ends: &[u32], packed: Packed, name: &[u8]) ->
     while 0 < left {
         let at = left - 1;
         let k = 2 * at;
-        if packed::is_string(bytes, ends, packed, k, name) {
+        if packed::is_string(bytes, ends, k, name) {
             return Found::At(at);
         }
         left -= 1;
@@ -88,12 +104,55 @@ pub(crate) fn newest(bytes: &[u8], ends: &[u32], packed: Packed, name: &[u8]) ->
     Found::Nowhere
 }
 
-// What a name means: its newest definition, a text or a predefined meaning, else its own meaning.
-pub(crate) fn look_up(bytes: &[u8], ends: &[u32], packed: Packed, own: u32, name: &[u8]) -> Meaning
-    requires { ⌜ ValidDefinitions (now bytes) (now ends) packed ⌝ }
-    ensures { λ r. ⌜ ((t : Table) → TableIn (now (bytes .entry)) (now (ends .entry)) packed own t → Finds (t .definitions) (meaningOf (now (name .entry)) t) r) ⌝ }
+// One step of a search through the bucket of a name, which has come to a definition of this bucket, at the place below `left`: it is of the name, or
+// else the next older one of the bucket is next.
+fn visit(bytes: &[u8], ends: &[u32], name: &[u8], left: usize) -> Visited
+    requires { ⌜ SomeDefinitions (now bytes) (now ends) ⌝ }
+    requires { ⌜ ((p : Strings) (ds : List Definition) → DefinitionsIn (now bytes) (now ends) p ds → InBucket (bucketOf (now name)) ds left) ⌝ }
+    ensures { λ r. ⌜ ((p : Strings) (ds : List Definition) → DefinitionsIn (now (bytes .entry)) (now (ends .entry)) p ds → r ≡ visitedAt (now (name .entry)) ds left) ⌝ }
 {
-    let place = newest(bytes, ends, packed, name);
+    let at = left - 1;
+    if packed::is_string(bytes, ends, 2 * at, name) {
+        return Visited::Named;
+    }
+    Visited::Older(buckets::link_at(ends, at))
+}
+
+// The place of the newest definition of a name of a bucket: of all definitions only those of the bucket are looked at, the newest first.
+fn newest_in(bytes: &[u8], ends: &[u32], name: &[u8], bucket: usize) -> Found
+    requires { ⌜ SomeDefinitions (now bytes) (now ends) ⌝ }
+    requires { ⌜ bucket ≡ bucketOf (now name) ⌝ }
+    ensures { λ r. ⌜ ((p : Strings) (ds : List Definition) → DefinitionsIn (now (bytes .entry)) (now (ends .entry)) p ds → newestPlace (now (name .entry)) ds ≡ placeOf r) ⌝ }
+{
+    let mut left = buckets::head_at(ends, bucket);
+    while 0 < left {
+        match visit(bytes, ends, name, left) {
+            Visited::Named => {
+                return Found::At(left - 1);
+            }
+            Visited::Older(next) => {
+                left = next;
+            }
+        }
+    }
+    Found::Nowhere
+}
+
+// The place of the newest definition of a name.
+pub(crate) fn newest(bytes: &[u8], ends: &[u32], packed: Packed, name: &[u8]) -> Found
+    requires { ⌜ ValidDefinitions (now bytes) (now ends) packed ⌝ }
+    ensures { λ r. ⌜ ((ds : List Definition) → DefinitionsIn (now (bytes .entry)) (now (ends .entry)) packed ds → newestPlace (now (name .entry)) ds ≡ placeOf r) ⌝ }
+{
+    newest_in(bytes, ends, name, hashing::bucket_of(name))
+}
+
+// What a name of a bucket means: its newest definition, a text or a predefined meaning, else its own meaning.
+fn look_up_in(bytes: &[u8], ends: &[u32], own: u32, name: &[u8], bucket: usize) -> Meaning
+    requires { ⌜ SomeDefinitions (now bytes) (now ends) ⌝ }
+    requires { ⌜ bucket ≡ bucketOf (now name) ⌝ }
+    ensures { λ r. ⌜ ((p : Strings) (t : Table) → TableIn (now (bytes .entry)) (now (ends .entry)) p own t → Finds (t .definitions) (meaningOf (now (name .entry)) t) r) ⌝ }
+{
+    let place = newest_in(bytes, ends, name, bucket);
     match place {
         Found::At(i) => {
             let number = meanings::number_at(ends, i);
@@ -102,8 +161,54 @@ pub(crate) fn look_up(bytes: &[u8], ends: &[u32], packed: Packed, own: u32, name
             }
             Meaning::Predefined(number)
         }
-        Found::Nowhere => own_meaning(own, name),
+        Found::Nowhere => own_meaning(own, name, buckets::candidate_at(ends, bucket)),
     }
+}
+
+// What a name means.
+pub(crate) fn look_up(bytes: &[u8], ends: &[u32], packed: Packed, own: u32, name: &[u8]) -> Meaning
+    requires { ⌜ ValidDefinitions (now bytes) (now ends) packed ⌝ }
+    ensures { λ r. ⌜ ((t : Table) → TableIn (now (bytes .entry)) (now (ends .entry)) packed own t → Finds (t .definitions) (meaningOf (now (name .entry)) t) r) ⌝ }
+{
+    look_up_in(bytes, ends, own, name, hashing::bucket_of(name))
+}
+
+// No definition is in a bucket. (That there is none at all is asked first, or the compiler would keep the count in memory for the whole run.)
+fn none_in(ends: &[u32], packed: Packed, bucket: usize) -> bool
+    requires { ⌜ (length (now ends) ≡ tableEndsLength) × (bucket < bucketCount) ⌝ }
+    ensures { λ r. ⌜ (r ≡ true → (bytes : Bytes) (ds : List Definition) (w : Bytes) → DefinitionsIn bytes (now (ends .entry)) packed ds → bucketOf w ≡ bucket → newestPlace w ds ≡ none) ⌝ }
+{
+    if packed.count == 0 {
+        return true;
+    }
+    buckets::head_at(ends, bucket) == 0
+}
+
+// No name of a bucket means anything.
+pub(crate) fn nothing_in(ends: &[u32], bucket: usize) -> bool
+    requires { ⌜ (length (now ends) ≡ tableEndsLength) × (bucket < bucketCount) ⌝ }
+    ensures { λ r. ⌜ (r ≡ true → (bytes : Bytes) (p : Strings) (own : ℕ) (t : Table) (w : Bytes) → TableIn bytes (now (ends .entry)) p own t → bucketOf w ≡ bucket → meaningOf w t ≡ none) ⌝ }
+{
+    ends[HEADS + bucket] == 0
+}
+
+// What a name of a bucket means, for the run's loop: its own meaning at once where no definition is in the bucket.
+pub(crate) fn meaning_of(
+    bytes: &[u8],
+    ends: &[u32],
+    packed: Packed,
+    own: u32,
+    name: &[u8],
+    bucket: usize,
+) -> Meaning
+    requires { ⌜ ValidDefinitions (now bytes) (now ends) packed ⌝ }
+    requires { ⌜ bucket ≡ bucketOf (now name) ⌝ }
+    ensures { λ r. ⌜ ((t : Table) → TableIn (now (bytes .entry)) (now (ends .entry)) packed own t → Finds (t .definitions) (meaningOf (now (name .entry)) t) r) ⌝ }
+{
+    if none_in(ends, packed, bucket) {
+        return own_meaning(own, name, buckets::candidate_at(ends, bucket));
+    }
+    look_up_in(bytes, ends, own, name, bucket)
 }
 
 // How many bytes the definitions have once a name, whose newest definition is at `place`, means a text of n bytes.
@@ -164,8 +269,8 @@ impl Packed {
         }
     }
 
-    // Without the definitions of a name: one pass, in which what is kept moves down. The byte of each goes to the place that it has if it is kept; that
-    // place is free where it is not.
+    // Without the definitions of a name: one pass, in which what is kept moves down, and one that makes the chains anew. The byte of each goes to the place
+    // that it has if it is kept; that place is free where it is not.
     fn drop_named(self, bytes: &mut [u8], ends: &mut [u32], name: &[u8]) -> Packed
         requires { ⌜ ValidDefinitions (now bytes) (now ends) self ⌝ }
         ensures { λ r. ⌜ ((ds : List Definition) → DefinitionsIn (now (bytes .entry)) (now (ends .entry)) self ds → DefinitionsIn (now (bytes .exit)) (now (ends .exit)) r (without (now (name .entry)) ds)) ⌝ }
@@ -184,6 +289,7 @@ impl Packed {
             k += 2;
             from = end;
         }
+        buckets::rebuild(bytes, ends, kept);
         kept
     }
 }
@@ -208,6 +314,7 @@ impl Definitions {
         let named = self.packed.push_string(bytes, ends, name);
         let packed = named.push_string(bytes, ends, body);
         meanings::put(ends, place, number);
+        buckets::join(ends, hashing::bucket_of(name), place);
         Definitions { packed, own }
     }
 
@@ -275,6 +382,7 @@ impl Definitions {
                 let named = self.packed.push_string(bytes, ends, name);
                 let packed = named.push_copy(bytes, ends, source);
                 meanings::put(ends, last, 0);
+                buckets::join(ends, hashing::bucket_of(name), last);
                 Definitions { packed, own: lost }
             }
         }
@@ -286,13 +394,15 @@ impl Definitions {
         ensures { λ r. ⌜ ((t : Table) → TableIn (now (bytes .entry)) (now (ends .entry)) (self .packed) (self .own) t → TableIn (now (bytes .exit)) (now (ends .exit)) (r .packed) (r .own) (popped (now (name .entry)) t)) ⌝ }
     {
         let own = self.own;
-        let place = newest(bytes, ends, self.packed, name);
+        let bucket = hashing::bucket_of(name);
+        let place = newest_in(bytes, ends, name, bucket);
         match place {
             Found::At(i) => {
                 let k = 2 * i;
                 let n = self.packed.count / 2;
                 let packed = self.packed.remove_two(bytes, ends, k);
                 meanings::close_up(ends, i, n);
+                buckets::leave(bytes, ends, packed, bucket, i);
                 Definitions { packed, own }
             }
             Found::Nowhere => {

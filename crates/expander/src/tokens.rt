@@ -2,18 +2,21 @@
 use crate::source::ahead_length;
 use crate::source::byte_ahead;
 use crate::source::next_either;
+use hashing::Scanned;
 use rules::Mark;
 use rules::Marks;
 use rules::Reading;
 use rules::Token;
 ghost use mathlib.Core.Path.{_≡_};
+ghost use mathlib.Core.Bool.{true};
 ghost use mathlib.Core.List.{_++_};
 ghost use Prim.Native.Nat.{_+_, _^_, _≤_, _<_};
 ghost use lib.ListN.{length, drop, getD};
-ghost use Rattle.rules.specs.Bytes.{sameBytes, nameLength};
+ghost use Rattle.rules.specs.Bytes.{sameBytes, beginsName};
 ghost use Rattle.rules.specs.Marks.{markText, markTexts, newlineMark};
 ghost use Rattle.rules.specs.Tokens.{beginsWith, atMark, commentToEnd, readToken};
-ghost use Rattle.expander.specs.Tokens.{FullMark, GoodMarks, MarkLength, FirstByte, metAt, commentEndingAt, commentFrom, quotedFrom, Inside, Passed, plainRead, Within};
+ghost use Rattle.hashing.specs.Hashing.{ScannedFrom};
+ghost use Rattle.expander.specs.Tokens.{FullMark, GoodMarks, MarkLength, FirstByte, metAt, commentEndingAt, commentFrom, quotedFrom, Inside, Passed, plainRead, Within, NameHashed};
 
 // The first of two marks stands at a place, or else the second, or neither.
 enum Met {
@@ -26,6 +29,12 @@ enum Met {
 struct Open {
     depth: usize,
     place: usize,
+}
+
+// What was read, and of a name the hash; of another token the hash says nothing.
+pub(crate) struct Read {
+    pub(crate) reading: Reading,
+    pub(crate) hash: u32,
 }
 
 fn mark_length(m: Mark) -> usize
@@ -200,37 +209,58 @@ fn read_comment(begin: Mark, end: Mark, front: &[u8], rest: &[u8]) -> Reading
     Reading::Is(Token::Comment { end: behind })
 }
 
-// How many bytes ahead go on with a name.
-fn name_length(front: &[u8], rest: &[u8]) -> usize
-    ensures { λ r. ⌜ r ≡ nameLength (now (front .entry) ++ now (rest .entry)) ⌝ }
+// The name ahead, which its first byte x begins: where it ends, and its hash. The slice in which it begins is scanned from its second byte on, and only a name that
+// reaches the end of `front` goes on in `rest`. (The two have one lifetime, so that either can be chosen.)
+fn scan_name<'a>(x: u8, front: &'a [u8], rest: &'a [u8]) -> Scanned
+    requires { ⌜ (x ≡ getD (now front ++ now rest) 0 0) × (beginsName x ≡ true) ⌝ }
+    ensures { λ r. ⌜ ScannedFrom (now (front .entry) ++ now (rest .entry)) 0 0 r ⌝ }
 {
-    let n = ascii::name_length(front);
-    if n < front.len() {
+    let s = if front.len() == 0 { rest } else { front };
+    let n = hashing::scan_name(s, 1, hashing::hash_on(0, x));
+    if n.end < s.len() {
         return n;
     }
-    n + ascii::name_length(rest)
+    if front.len() == 0 {
+        return n;
+    }
+    let k = hashing::scan_name(rest, 0, n.hash);
+    Scanned {
+        end: n.end + k.end,
+        hash: k.hash,
+    }
 }
 
 // A name or a single byte; the first byte ahead is x.
-fn read_plain(x: u8, front: &[u8], rest: &[u8]) -> Reading
+fn read_plain<'a>(x: u8, front: &'a [u8], rest: &'a [u8]) -> Read
     requires { ⌜ x ≡ getD (now front ++ now rest) 0 0 ⌝ }
-    ensures { λ r. ⌜ r ≡ plainRead (now (front .entry) ++ now (rest .entry)) ⌝ }
+    ensures read { λ r. ⌜ r .reading ≡ plainRead (now (front .entry) ++ now (rest .entry)) ⌝ }
+    ensures hashed { λ r. ⌜ NameHashed (now (front .entry) ++ now (rest .entry)) (r .reading) (r .hash) ⌝ }
 {
     if ascii::begins_name(x) {
-        let end = name_length(front, rest);
-        return Reading::Is(Token::Name { end });
+        let n = scan_name(x, front, rest);
+        return Read {
+            reading: Reading::Is(Token::Name { end: n.end }),
+            hash: n.hash,
+        };
     }
-    Reading::Is(Token::Byte(x))
+    Read {
+        reading: Reading::Is(Token::Byte(x)),
+        hash: 0,
+    }
 }
 
 // The token ahead: the end, a comment, a quoted text, a name or a single byte, tried in this order.
-pub(crate) fn read_token(marks: Marks, front: &[u8], rest: &[u8]) -> Reading
+pub(crate) fn read_token<'a>(marks: Marks, front: &'a [u8], rest: &'a [u8]) -> Read
     requires { ⌜ GoodMarks marks ⌝ }
-    ensures read { λ r. ⌜ r ≡ readToken (markTexts marks) (now (front .entry) ++ now (rest .entry)) ⌝ }
-    ensures within { λ r. ⌜ Within (now (front .entry) ++ now (rest .entry)) r ⌝ }
+    ensures read { λ r. ⌜ r .reading ≡ readToken (markTexts marks) (now (front .entry) ++ now (rest .entry)) ⌝ }
+    ensures within { λ r. ⌜ Within (now (front .entry) ++ now (rest .entry)) (r .reading) ⌝ }
+    ensures hashed { λ r. ⌜ NameHashed (now (front .entry) ++ now (rest .entry)) (r .reading) (r .hash) ⌝ }
 {
     if ahead_length(front, rest) == 0 {
-        return Reading::Is(Token::End);
+        return Read {
+            reading: Reading::Is(Token::End),
+            hash: 0,
+        };
     }
     let begin_comment = marks.begin_comment;
     let end_comment = marks.end_comment;
@@ -239,8 +269,14 @@ pub(crate) fn read_token(marks: Marks, front: &[u8], rest: &[u8]) -> Reading
     let x = byte_ahead(front, rest, 0);
     let met = which(begin_comment, begin_quote, x, front, rest, 0);
     match met {
-        Met::First => read_comment(begin_comment, end_comment, front, rest),
-        Met::Second => read_quoted(begin_quote, end_quote, front, rest),
+        Met::First => Read {
+            reading: read_comment(begin_comment, end_comment, front, rest),
+            hash: 0,
+        },
+        Met::Second => Read {
+            reading: read_quoted(begin_quote, end_quote, front, rest),
+            hash: 0,
+        },
         Met::Neither => read_plain(x, front, rest),
     }
 }

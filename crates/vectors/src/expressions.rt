@@ -1,6 +1,7 @@
 // eval: a line for each expression, with what it comes to. A line of `stdin` is an expression, or stands for one: `@`, a count, and a
 // front, a middle and a back with tabs between them, the middle between so many fronts and backs. Expressions with a newline, or with a
-// byte that is no text, stand here.
+// byte that is no text, stand here. A line that begins with `#` has a text whose bucket is asked for (names.rt).
+use crate::names;
 use crate::writing::write;
 ghost use Prim.Native.Nat.{_≤_};
 ghost use lib.ListN.{length};
@@ -159,6 +160,9 @@ fn show_line(line: &[u8]) {
     } else if line[0] == 64 {
         write_shown(line);
         show_repeated(&line[1..]);
+    } else if line[0] == 35 {
+        write_shown(line);
+        names::show(&line[1..]);
     } else {
         show(line);
     }

@@ -1,6 +1,7 @@
 // Vectors of the leaves. What each must write, `stdout`, was worked out from the papers and, for eval, C's rules.
 mod classes;
 mod expressions;
+mod names;
 mod numbers;
 mod places;
 mod writing;

@@ -3,7 +3,7 @@
 use model::generate::{self, Scale};
 use model::random::Random;
 use model::table::{write, Row};
-use model::{expand, expand_traced, Report, Setting, Trace};
+use model::{expand, expand_traced, Report, Setting, Trace, LIMIT, SET_LIMIT};
 
 /// What one call of the archive gets.
 #[derive(Clone, Debug)]
@@ -16,6 +16,12 @@ pub struct Case {
 }
 
 impl Case {
+    /// Whether all of it may be lent, and so its buffers have no more bytes than they may.
+    pub fn is_lendable(&self) -> bool {
+        let lengths = self.setting.lengths.iter();
+        self.text.len() <= LIMIT && self.set.len() <= SET_LIMIT && lengths.max() <= Some(&LIMIT)
+    }
+
     /// The model's answer.
     pub fn expected(&self) -> Report {
         expand(&self.text, &self.set, &self.setting)

@@ -45,15 +45,21 @@ fn tell(seed: u64, index: u64, what: &str) {
     println!("case {index} of seed {seed}: {what}");
     println!("  repeat it: differential compare {seed} 1 {index}");
     println!("  as a line of a table (differential vectors FILE), with the model's answer:");
-    print_line(&format!("s{seed}-{index}"), &found);
-    if let Some(small) = smaller(&found) {
+    let item = format!("s{seed}-{index}");
+    print_line(&item, &found);
+    tell_smaller(&found, &item);
+}
+
+/// Prints a smaller case than one that fails.
+pub fn tell_smaller(found: &Case, item: &str) {
+    if let Some(small) = smaller(found) {
         println!(
             "  smaller: {:?}, set {}, {:?}",
             String::from_utf8_lossy(&small.text),
             hex(&small.set),
             small.setting
         );
-        print_line(&format!("s{seed}-{index}-small"), &small);
+        print_line(&format!("{item}-small"), &small);
         supervise(|progress| {
             println!("  {:?}", alone(progress, &small));
             true

@@ -18,6 +18,11 @@
 //! - `differential copies`: each of the 27 meanings copied onto names of each kind, texts of all
 //!   lengths copied from each place to each, and tables of texts and copies in every order; every way
 //!   of request 7 must be taken.
+//! - `differential buckets SEED COUNT [FIRST]`: random tables of up to 600 definitions, many of one
+//!   bucket, changed, used and asked for in any order, with ample and with tight rooms. From 200 tables
+//!   on every way of request 9 must be taken.
+//! - `differential orders`: names of one bucket, a predefined one among them, changed in every order;
+//!   tables of 65,536 definitions.
 //! - `differential sets`: good sets with each of their bytes changed, removed or doubled, cut at each
 //!   place, of all lengths at which chunks turn, and about as long as may be; many of them between
 //!   inaccessible pages too.
@@ -34,6 +39,8 @@
 //!   valgrind; `lines-memcheck SEED COUNT [FIRST]` for the index. `memcheck-outside`, `memcheck-undefined`
 //!   and `lines-memcheck-undefined` do the same with a mistake that valgrind must find.
 //! - `differential vectors FILE`: the lines of a table like tests/vectors.tsv.
+//! - `differential cases SEED COUNT FILE OUT`: writes the lines of a table like tests/vectors.tsv, COUNT
+//!   tables of many names and 20 * COUNT random cases to a file, for plain_search.py.
 //! - `differential noticed`: the comparisons notice one changed byte or number, the ways are told
 //!   apart, and the inaccessible pages trap; `lines-noticed` for the index.
 //!
@@ -42,6 +49,7 @@
 
 mod archive;
 mod arenas;
+mod buckets;
 mod case;
 mod comments;
 mod compare;
@@ -62,14 +70,15 @@ mod shrink;
 mod supervise;
 mod tally;
 mod windows;
+mod written;
 
 use memcheck::Mistake;
 use std::process::ExitCode;
 
 const USE: &str =
-    "use: differential compare|demand3|fences|lines|lines-fences|lines-memcheck SEED COUNT [FIRST], \
-    memcheck SEED COUNT, vectors|lines-vectors FILE, \
-    bytes, words, comments, copies, sets, lines-counted, huge, noticed or lines-noticed";
+    "use: differential compare|buckets|demand3|fences|lines|lines-fences|lines-memcheck SEED COUNT [FIRST], \
+    memcheck SEED COUNT, vectors|lines-vectors FILE, cases SEED COUNT FILE OUT, \
+    bytes, words, comments, copies, orders, sets, lines-counted, huge, noticed or lines-noticed";
 
 fn main() -> ExitCode {
     let arguments: Vec<String> = std::env::args().skip(1).collect();
@@ -87,11 +96,21 @@ fn run(words: &[&str]) -> Option<(usize, usize)> {
     let one = |verdict: bool| Some((usize::from(verdict), usize::from(!verdict)));
     match *words {
         ["vectors", path] => Some(compare::table(&std::fs::read_to_string(path).ok()?)),
+        ["cases", seed, count, path, file] => {
+            let (seed, count) = (seed.parse().ok()?, count.parse().ok()?);
+            let rows = std::fs::read_to_string(path).ok()?;
+            one(written::write_cases(seed, count, &rows, file).is_ok())
+        }
         ["noticed"] => one(noticed::all_noticed()),
         ["bytes"] => Some(readers::every_byte()),
         ["words"] => Some(names::every_name()),
         ["comments"] => Some(comments::every_comment()),
         ["copies"] => one(copies::every_copy()),
+        ["orders"] => {
+            // both are tried, whatever the first comes to
+            let orders = buckets::every_order();
+            one(buckets::largest_tables() && orders)
+        }
         ["sets"] => one(sets::every_set()),
         ["huge"] => one(huge::huge_lengths() && lines::huge_lengths()),
         ["lines-vectors", path] => Some(lines::table(&std::fs::read_to_string(path).ok()?)),
@@ -110,6 +129,7 @@ fn random(command: &str, seed: &str, count: &str, first: &str) -> Option<bool> {
     }
     match command {
         "compare" => Some(compare::random_cases(seed, count, first)),
+        "buckets" => Some(buckets::random_tables(seed, count, first)),
         "demand3" => Some(demand3::random_pairs(seed, count, first)),
         "fences" => Some(fences::random_cases(seed, count, first)),
         "memcheck" => Some(memcheck::random_cases(seed, count, Mistake::None)),

@@ -116,9 +116,14 @@ fn named<const N: usize>(counts: [(&str, u64); N]) -> [(String, u64); N] {
 
 /// Prints all counts, so many in a line. False if something was never reached, in enough cases.
 pub fn all_reached<S: Display>(counts: &[(S, u64)], columns: usize, cases: u64) -> bool {
+    all_counted(counts, columns, cases < ENOUGH)
+}
+
+/// The same, of cases that are too few or not.
+pub fn all_counted<S: Display>(counts: &[(S, u64)], columns: usize, few: bool) -> bool {
     print(counts, columns);
     let missing = missing(counts);
-    if cases < ENOUGH || missing.is_empty() {
+    if few || missing.is_empty() {
         return true;
     }
     println!("never reached: {}", missing.join(", "));

@@ -3,11 +3,12 @@
 //! the index of lines are made in [`lines`].
 //!
 //! A text comes from a grammar of plausible pieces ([`writer`]), from a scenario with a purpose
-//! ([`scenarios`], [`bare`], [`last`], [`copies`], [`heavy`]), from the table of vectors, or is a soup of
-//! words; then some of its bytes may be changed ([`mutate`]). Most texts get a set without items; others
-//! are made for theirs ([`included`], [`sets`]).
+//! ([`scenarios`], [`bare`], [`last`], [`copies`], [`heavy`], [`buckets`]), from the table of vectors, or
+//! is a soup of words; then some of its bytes may be changed ([`mutate`]). Most texts get a set without
+//! items; others are made for theirs ([`included`], [`sets`]).
 
 mod bare;
+pub mod buckets;
 pub mod comments;
 mod copies;
 mod expressions;
@@ -78,11 +79,15 @@ pub fn input(random: &mut Random, scale: Scale) -> Input {
     }
 }
 
+/// The most definitions of a table among other texts.
+const SOME: usize = 60;
+
 /// Makes a text, most of them short.
 pub fn text(random: &mut Random, scale: Scale) -> Vec<u8> {
     let mut text = match random.below(1_000) {
         0 => return heavy::overlong(random),
         1..=5 if scale == Scale::Full => heavy::heavy(random),
+        6..=10 if scale == Scale::Full => buckets::tables(random, SOME),
         _ => plausible(random, scale),
     };
     if random.chance(20) {

@@ -10,10 +10,12 @@
 //! [`expansion`] and [`macros`] work; [`step`] and [`run`] join them. [`lines`] stands by itself: it indexes a text
 //! and answers questions of the index. [`table`], [`random`], [`generate`] and [`demand3`] serve the
 //! programs `vectors`, `lines` and `random`, and tests/differential. [`ways`] serves tests: it watches
-//! runs and looks at cases of the index. No rule asks any of these.
+//! runs and looks at cases of the index. [`buckets`] serves these two, for request 9, which changes no
+//! answer. No rule asks any of these.
 
 pub mod ahead;
 pub mod answer;
+pub mod buckets;
 pub mod bytes;
 pub mod calls;
 pub mod definitions;

@@ -1,8 +1,9 @@
 //! The ways of request 2 of 02: names of predefined meanings that stand as plain text, open a call
 //! or are called bare, and how often each of them was taken. Tests look here at runs from outside.
 //! Those of request 1 are in [`sets`] and [`inclusions`], those of request 3 in [`remarks`], those
-//! of request 6 in [`lines`], those of request 7 in [`copies`].
+//! of request 6 in [`lines`], those of request 7 in [`copies`], those of request 9 in [`buckets`].
 
+pub mod buckets;
 pub mod copies;
 pub mod inclusions;
 pub mod lines;

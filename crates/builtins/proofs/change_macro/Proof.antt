@@ -69,10 +69,10 @@ returns-16 : tie.Need-returns-16
 unfolding builtinAt builtins changeOf
 returns-16 c = sym (ap (λ k. changeOf (builtinAt k)) (c .match .keys16))
 
--- any other number: the list has those of the other arms, the last first
+-- any other number: the list has those of the other arms
 returns-17 : tie.Need-returns-17
 unfolding builtinAt builtins changeOf
-returns-17 c = others changeOf _ (27 ∷ 26 ∷ 25 ∷ 24 ∷ 23 ∷ 19 ∷ 18 ∷ 17 ∷ 16 ∷ 9 ∷ 8 ∷ 7 ∷ 6 ∷ 4 ∷ 2 ∷ 1 ∷ []) refl refl (c .before .args .k) (c .match .rest)
+returns-17 c = others changeOf _ (1 ∷ 2 ∷ 4 ∷ 6 ∷ 7 ∷ 8 ∷ 9 ∷ 16 ∷ 17 ∷ 18 ∷ 19 ∷ 23 ∷ 24 ∷ 25 ∷ 26 ∷ 27 ∷ []) refl refl (c .before .args .k) (c .match .rest)
 
 pub change-macro-spec : {M : Type 1} → statement M
 change-macro-spec =

@@ -45,10 +45,10 @@ returns-10 : tie.Need-returns-10
 unfolding builtinAt builtins resultOf
 returns-10 c = sym (ap (λ k. resultOf (builtinAt k)) (c .match .keys10))
 
--- any other number: the list has those of the other arms, the last first
+-- any other number: the list has those of the other arms
 returns-11 : tie.Need-returns-11
 unfolding builtinAt builtins resultOf
-returns-11 c = others resultOf _ (22 ∷ 21 ∷ 20 ∷ 15 ∷ 13 ∷ 12 ∷ 11 ∷ 10 ∷ 5 ∷ 3 ∷ []) refl refl (c .before .args .k) (c .match .rest)
+returns-11 c = others resultOf _ (3 ∷ 5 ∷ 10 ∷ 11 ∷ 12 ∷ 13 ∷ 15 ∷ 20 ∷ 21 ∷ 22 ∷ []) refl refl (c .before .args .k) (c .match .rest)
 
 pub result-macro-spec : {M : Type 1} → statement M
 result-macro-spec =

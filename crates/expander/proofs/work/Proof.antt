@@ -1,5 +1,5 @@
 -- `expander::work` meets its contract: the run over links and texts of its own, and what it wrote copied out. Assumes nothing.
-use Rattle.rules.proofs.Base.{_∙_, refl, sym, _≡_, _++_, length, drop, take, replicate, not-true, not-false, needs}
+use Rattle.rules.proofs.Base.{_∙_, ℕ, List, refl, sym, _≡_, _++_, length, drop, take, replicate, not-true, not-false, needs}
 use Rattle.rules.specs.Bytes.{Bytes}
 use Rattle.rules.specs.State.{freshStart, startState}
 use Rattle.rules.specs.Run.{Setting, Ended, lengths, runFrom}
@@ -14,7 +14,7 @@ use Rattle.expander.proofs.work.Tie as tie
 
 -- ways back
 abbrev start : tie.After-run-arg5 → tie.Start
-start c = c .before .before .before .before .before .before .before .before .before .before .before .before .before .before .before .before .before .before .before .before
+start c = c .before .before .before .before .before .before .before .before .before .before .before .before .before .before .before .before .before .before .before .before .before .before .before
 
 abbrev judged : tie.Else1 → tie.Start
 judged c = c .before .before .before .before .before .before .before .before .before .before .before
@@ -50,30 +50,33 @@ error-size c = part-size (length (c .args .errors .now)) fresh (c .pre .errors-i
 output-size : (c : tie.Start) → length (c .args .output .now) ≡ length (take (length (c .args .output .now)) fresh)
 output-size c = part-size (length (c .args .output .now)) fresh (c .pre .output-in)
 
--- the memory of the run as it begins
-abbrev begun : tie.Start → Memory
-begun c =
+-- the memory of the run as it begins, with the chains of no definition
+abbrev begun : tie.Start → List ℕ → Memory
+begun c chains =
     let a = c .args in
-    memory (a .text .now) (a .set .now) (a .pending .now) (a .calls .now) (replicate callEndsLength 0) (replicate stackLength 0) (a .definitions .now) (replicate tableEndsLength 0)
+    memory (a .text .now) (a .set .now) (a .pending .now) (a .calls .now) (replicate callEndsLength 0) (replicate stackLength 0) (a .definitions .now) chains
     (a .streams .now) (replicate mostLent 0) (a .wrap .now) (take (length (a .errors .now)) fresh) (take (length (a .output .now)) fresh)
 
-limits : (c : tie.Start) → Limits (setting c) (begun c)
-limits c =
+limits : (c : tie.Start) (chains : List ℕ) → length chains ≡ tableEndsLength → Limits (setting c) (begun c chains)
+limits c chains e =
     let a = c .args in
     lent-limits (a .text .now) (a .set .now) (a .pending .now) (a .calls .now) (a .definitions .now) (a .streams .now) (a .wrap .now) (a .errors .now) (a .output .now) fresh fresh
-    (replicate callEndsLength 0) (replicate stackLength 0) (replicate tableEndsLength 0) (replicate mostLent 0) (a .budget) (c .pre)
-    (record { ends-are = refl; stack-are = refl; table-ends-are = refl; owners-are = refl }) refl refl
+    (replicate callEndsLength 0) (replicate stackLength 0) chains (replicate mostLent 0) (a .budget) (c .pre)
+    (record { ends-are = refl; stack-are = refl; table-ends-are = e; owners-are = refl }) refl refl
 
 -- the run, and what it left
 abbrev begin : tie.After-run → tie.Start
-begin c = c .before .before .before .before .before .before .before .before .before .before .before .before .before .before .before .before .before .before .before .before .before .before .before .before
+begin c = c .before .before .before .before .before .before .before .before .before .before .before .before .before .before .before .before .before .before .before .before .before .before .before .before .before .before .before
 
 -- the set is good
 items : (c : tie.Else1) → Items (judged c .args .set .now)
 items c = good-items (judged c .args .set .now) (sym (not-false _ (c .if1 .left)) ∙ c .before .is-good .ensures)
 
 abbrev to-if : tie.After-run → tie.Else1
-to-if c = c .before .before .before .before .before .before .before .before .before .before .before .before .before
+to-if c = c .before .before .before .before .before .before .before .before .before .before .before .before .before .before .before .before
+
+abbrev chained : tie.After-run → tie.After-begin
+chained c = c .before .before .before .before .before .before .before .before .before .before .before .before .before .before
 
 abbrev whole : tie.After-run → Ended
 whole c =
@@ -93,7 +96,7 @@ memory-left c =
     (l .1 .1 .1 .1 .1 .1 .1 .1 .1 .0) (l .1 .1 .1 .1 .1 .1 .1 .1 .1 .1 .0) (errors-left c) (output-left c)
 
 leaves : (c : tie.After-run) → Leaves (setting (begin c)) (whole c) (memory-left c) (c .run .result)
-leaves c = c .run .ensures (setting (begin c)) (items (to-if c) .items) (items (to-if c) .are) (limits (begin c))
+leaves c = c .run .ensures (setting (begin c)) (items (to-if c) .items) (items (to-if c) .are) (limits (begin c) (chained c .begin .last .0) (chained c .begin .kept .0))
 
 -- the report, made of what the run left
 abbrev left : tie.After-report-of → tie.After-run
@@ -138,6 +141,8 @@ work-spec =
     (λ c κs. search needs)
     returns
     (λ c. search needs)
+    (λ c κs. refl)
+    (λ c. search needs)
     (λ c. search needs)
     (λ c. search needs)
     (λ c. search needs)
@@ -146,7 +151,7 @@ work-spec =
     (λ c. start (c .before) .pre .output-in)
     (λ c. output-size (start (c .before .before)))
     (λ c. search needs)
-    (λ c κs. let s = start (c .before .before .before) in let i = items (c .before .before .before .before .before .before .before .before .before .before .before .before) in (record { setting = setting s; limits = limits s; items = i .items; items-are = i .are }, refl))
+    (λ c κs. let s = start (c .before .before .before) in let i = items (c .before .before .before .before .before .before .before .before .before .before .before .before .before .before .before) in let k = c .before .before .before .before .before .before .before .before .before .before .before .before .before .begin in (record { setting = setting s; limits = limits s (k .last .0) (k .kept .0); items = i .items; items-are = i .are; chained = k .ensures }, refl))
     (λ c κs. leaves-few (leaves (c .before .before .before .before .before .before .before .before .before .before .before .before .before .before .before .before .before)))
     (λ c. search needs)
     (λ c. search needs)

@@ -9,4 +9,4 @@ returns c = λ bytes ends x xs m. top-first m
 
 pub first-string-spec : {M : Type 1} → statement M
 first-string-spec =
-    tie.close (tie.spec (λ c. search needs) (λ c. search needs) (λ c. search needs) (λ c. search needs) (λ c. omega (arith, c .shared-slice-known .given (3 * (c .before .before .args .x .opens - 1)))) returns)
+    tie.close (tie.spec (λ c. search needs) (λ c. search needs) (λ c. search needs) (λ c. search needs) (λ c. omega (arith, c .shared-slice-known .given (4 * (c .before .before .args .x .opens - 1)))) returns)

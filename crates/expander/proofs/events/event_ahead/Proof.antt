@@ -1,6 +1,6 @@
 -- `expander::events::event_ahead` meets its contract. Assumes nothing.
 use Rattle.expander.specs.Events.{SpecialWithin, EventWithin, SpecialIs, EventIs}
-use Rattle.expander.proofs.StepLaws.{token-lies, step-token, step-quote, step-comment}
+use Rattle.expander.proofs.StepLaws.{token-lies, token-hashed, step-token, step-quote, step-comment}
 use Rattle.rules.proofs.Base.{needs}
 use Rattle.expander.proofs.events.event_ahead.Statement.{statement}
 use Rattle.expander.proofs.events.event_ahead.Tie as tie
@@ -10,7 +10,7 @@ token-event-requires c κs =
     let p = c .before .before in
     let q = p .before .before in
     let u = q .before .before .before .before .before .before .before .before .before .before .before in
-    (u .pre .0, (token-lies (u .pre .0 .represents) (q .read-token .ensures .1) _ (p .reading .given .1), u .pre .1))
+    (u .pre .0, (token-lies (u .pre .0 .represents) (q .read-token .ensures .1 .0) _ (p .reading .given .1), (token-hashed (u .pre .0 .represents) (q .read-token .ensures .1 .1) (p .reading .given .1), u .pre .1)))
 
 returns : tie.Need-returns
 unfolding EventWithin SpecialWithin EventIs SpecialIs

@@ -1,5 +1,6 @@
 -- `expander::events::token_event` meets its contract. Assumes nothing.
-use Rattle.rules.proofs.Base.{_∙_, refl, needs}
+use Rattle.rules.proofs.Base.{_∙_, refl, ap, needs}
+use Rattle.rules.specs.declared.Reading.the-variants.{Is}
 use Rattle.expander.specs.Events.{PlainWithin, SpecialWithin, EventWithin}
 use Rattle.expander.specs.Machine.{textAt, pendingAt, stackAt, definitionsAt}
 use Rattle.expander.proofs.EventLaws.{within-as, is-as, end-is, comment-is, quoted-is, byte-ahead}
@@ -7,8 +8,8 @@ use Rattle.expander.proofs.StepLaws.{lends, acts, end-place, reach-comm
 use Rattle.expander.proofs.events.token_event.Statement.{statement}
 use Rattle.expander.proofs.events.token_event.Tie as tie
 
-sub-t17 : tie.Need-sub-t17
-sub-t17 c =
+sub-t18 : tie.Need-sub-t18
+sub-t18 c =
     let u = c .before .before .before .before .before .before .before .before .before in
     let a = u .args in
     quoted-order (a .text .now) (a .pending .now) (a .m .source) (c .before .token2 .given .1) (u .pre .1 .0)
@@ -17,7 +18,7 @@ name-event-requires : tie.Need-name-event-requires
 name-event-requires c κs =
     let p = c .before .before in
     let u = p .before .before .before .before .before .before .before .before in
-    (lends (u .pre .0) refl, (reach-name (p .token3 .given .1) (u .pre .1 .0), u .pre .1 .1))
+    (lends (u .pre .0) refl, (reach-name (p .token3 .given .1) (u .pre .1 .0), (u .pre .1 .1 .0 .name _ (ap Is (p .token3 .given .1)), u .pre .1 .1 .1)))
 
 byte-event-requires : tie.Need-byte-event-requires
 byte-event-requires c κs =
@@ -69,7 +70,7 @@ token-event-spec =
     (λ c. search needs)
     (λ c κs. search needs)
     (λ c. search needs)
-    sub-t17
+    sub-t18
     (λ c. search needs)
     name-event-requires
     (λ c. search needs)

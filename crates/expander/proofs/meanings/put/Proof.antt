@@ -13,7 +13,7 @@ fit c =
     fits (getD (a .ends .now) (meaningsStart + a .i / 4) 0) (a .number) (a .i) (omega (arith, c .before .good)) (omega (arith, c .slice-known .given (meaningsStart + a .i / 4)))
 
 returns : tie.Need-returns
-returns c = let a = c .before .args in put-at (a .ends .now) (a .i) (a .number) (omega (arith, c .before .good)) (omega (arith, c .before .pre))
+returns c = let a = c .before .args in put-at (a .ends .now) (a .i) (a .number) (omega (arith, c .before .good)) (c .before .pre .1) (omega (arith, c .before .pre))
 
 pub put-spec : {M : Type 1} → statement M
 put-spec =

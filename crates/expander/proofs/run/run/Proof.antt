@@ -147,7 +147,7 @@ gives c a is i l =
 
 loop-holds : tie.Need-loop-holds Inv-loop μ-loop
 loop-holds c =
-    (λ a is i l. recount (begun (c .before .before .before .before .before .before .before .before .before .before .before .before .before .before .before .args .budget) (c .start .ensures a _ is l i refl)) _ (omega arith), (refl, refl, refl, refl, refl, refl, refl, refl, refl, refl, refl, refl), omega arith)
+    (λ a is i l. recount (begun (c .before .before .before .before .before .before .before .before .before .before .before .before .before .before .before .args .budget) (c .start .ensures a _ is l (c .before .before .before .before .before .before .before .before .before .before .before .before .before .before .before .pre .0 .chained) i refl)) _ (omega arith), (refl, refl, refl, refl, refl, refl, refl, refl, refl, refl, refl, refl), omega arith)
 
 run-plain-requires : tie.Need-run-plain-requires Inv-loop μ-loop
 run-plain-requires c κs =

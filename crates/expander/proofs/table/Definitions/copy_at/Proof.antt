@@ -1,12 +1,13 @@
 -- `expander::table::Definitions::copy_at` meets its contract: the laws `replaced-in` and `defined-own`, for a text that stands in the table. Assumes nothing.
-use Rattle.rules.proofs.Base.{ℕ, _≤_, _<_, _+_, _*_, _∙_, _≡_, refl, ap, List, [], _++_, _∷_, arith, length, getD, List·getD-append, needs}
+use Rattle.rules.proofs.Base.{ℕ, _≤_, _<_, _+_, _*_, _∙_, _≡_, refl, ap, List, [], _++_, _∷_, arith, length, getD, List·getD-append, drop, needs}
 use Rattle.rules.specs.Bytes.{Bytes}
 use Rattle.rules.specs.Table.{text, Table}
-use Rattle.expander.specs.Limits.{meaningsStart}
+use Rattle.hashing.proofs.Laws.{bucket-below}
+use Rattle.expander.specs.Limits.{bucketCount, meaningsStart}
 use Rattle.expander.specs.Table.{rows, placeOf}
 use Rattle.expander.proofs.Packing.{formed, count-is, string-length}
 use Rattle.expander.proofs.Parts.{kept-two}
-use Rattle.expander.proofs.Changing.{text-means, found-strings, size-replaced, size-pushed, few-strings, room-for-two, pushed-in, replaced-in, defined-own}
+use Rattle.expander.proofs.Changing.{text-means, found-strings, size-replaced, size-pushed, few-strings, room-for-two, heads-stay, pushed-in, replaced-in, defined-own}
 use Rattle.expander.proofs.table.Definitions.copy_at.Statement.{statement}
 use Rattle.expander.proofs.table.Definitions.copy_at.Tie as tie
 
@@ -125,24 +126,46 @@ returns c =
     replaced-in h (s .args .name .now) (r .kept .1 .0) (r .kept .1 .1 .0) (p .kept .0) (s .args .self .packed .count) (few-strings (h .holds)) (r .ensures .1) (i .0 .0) (text x) (text-means x)
     (s .pre .1 .1 .0 .0) (s .pre .1 .0 (t .definitions) (h .holds) ∙ ap placeOf (i .1)) (r .ensures .0 (rows (t .definitions)) (h .holds .packs)) (p .ensures)
 
+-- both strings were pushed behind the others
+kept : (c : tie.After-push-copy)
+    → drop (start (c .before .before .before .before .before .before .before .before .before .before .before .before) .args .self .packed .count + 2) (c .push-copy .last .1 .1 .0) ≡ drop (start (c .before .before .before .before .before .before .before .before .before .before .before .before) .args .self .packed .count + 2) (start (c .before .before .before .before .before .before .before .before .before .before .before .before) .args .ends .now)
+kept c =
+    let f = c .before .before .before .before .before .before .before .push-string in
+    kept-two _ _ _ (start (c .before .before .before .before .before .before .before .before .before .before .before .before) .args .self .packed .count) (f .result .count) (f .ensures .1 .0) (c .push-copy .ensures .1) (f .ensures .1 .2)
+
+join-requires : tie.Need-join-requires
+join-requires c κs =
+    let e = c .before .before .before .before .before .before .before .before .before .before .before .before .before .before .before .before .before .before .before .before .before .before in
+    let s = start e in
+    let f = c .before .before .before .before .before .before .before .before .before .before .before .before .before .before .before .before .before .push-string in
+    let g = c .before .before .before .before .before .before .before .before .before .before in
+    let p = c .before .before .before .before .put2 in
+    let b : c .bucket-of .result < bucketCount = omega (arith, c .bucket-of .ensures, bucket-below (s .args .name .now)) in (
+      p .kept .0 ∙ g .push-copy .kept .1 .1 .0 ∙ f .kept .1 .1 .0 ∙ s .pre .0 .holds .ends-are,
+      b,
+      omega (arith, ends-room e),
+      heads-stay (s .pre .0 .holds) (g .push-copy .last .1 .1 .0) (p .last .0) (s .args .self .packed .count + 2) (ends-room e) (kept g) (p .ensures .chains) (c .bucket-of .result) b,
+    )
+
 returns-2 : tie.Need-returns-2
 returns-2 c =
-    let e = c .before .before .before .before .before .before .before .before .before .before .before .before .before .before .before .before .before .before .before .before in
+    let e = c .before .before .before .before .before .before .before .before .before .before .before .before .before .before .before .before .before .before .before .before .before .before .before .before .before in
     let s = start e in
-    let f = c .before .before .before .before .before .before .before .before .before .before .before .before .before .before .before .push-string in
-    let g = c .before .before .before .before .before .before .before .before .push-copy in
-    let p = c .before .before .put2 in
+    let f = c .before .before .before .before .before .before .before .before .before .before .before .before .before .before .before .before .before .before .before .before .push-string in
+    let g = c .before .before .before .before .before .before .before .before .before .before .before .before .before in
+    let p = c .before .before .before .before .before .before .before .put2 in
+    let j = c .before .before .join in
     let w = s .args .name .now in
     let k = 2 * s .args .from + 1 in
     λ t h.
     let x = getD (rows (t .definitions)) k [] in
-    defined-own h w (text x) (s .pre .1 .0 (t .definitions) (h .holds) ∙ ap placeOf (e .enum-told .given .1)) (c .before .before .before .before .before .before .before .before .before .before .before .before .before .before .before .before .before .before .before .own-lost .ensures)
+    defined-own h w (text x) (s .pre .1 .0 (t .definitions) (h .holds) ∙ ap placeOf (e .enum-told .given .1)) (c .before .before .before .before .before .before .before .before .before .before .before .before .before .before .before .before .before .before .before .before .before .before .before .before .own-lost .ensures)
     (λ u eu q.
-    pushed-in q w (g .kept .1 .0 ∙ f .kept .1 .0) (g .kept .1 .1 .0 ∙ f .kept .1 .1 .0) (p .kept .0) (s .args .self .packed .count + 2) (ends-room e)
-    (kept-two _ _ _ (s .args .self .packed .count) (f .result .count) (f .ensures .1 .0) (g .ensures .1) (f .ensures .1 .2)) (text x) (text-means x) (omega (arith, s .pre)) refl
+    pushed-in q w (g .push-copy .kept .1 .0 ∙ f .kept .1 .0) (g .push-copy .kept .1 .1 .0 ∙ f .kept .1 .1 .0) (p .kept .0) (s .args .self .packed .count + 2) (ends-room e) (kept g)
+    (j .kept .0) (j .ensures .1) (text x) (text-means x) (omega (arith, s .pre)) refl
     (rw (same-text (rows (u .definitions)) w k (omega (arith, s .pre, count-is (q .holds .packs))) ∙ ap (λ l. getD (rows l) k []) eu) at
-    (g .ensures .0 (rows (u .definitions) ++ (w ∷ [])) (f .ensures .0 (rows (u .definitions)) (q .holds .packs))))
-    (p .ensures))
+    (g .push-copy .ensures .0 (rows (u .definitions) ++ (w ∷ [])) (f .ensures .0 (rows (u .definitions)) (q .holds .packs))))
+    (p .ensures) (λ ds d e b ch. j .ensures .0 ds d e (c .before .before .before .bucket-of .ensures ∙ b) ch))
 
 pub copy-at-spec : {M : Type 1} → statement M
 copy-at-spec =
@@ -160,6 +183,8 @@ copy-at-spec =
     push-string-requires
     push-copy-requires
     put-requires-2
+    (λ c κs. search needs)
+    join-requires
     (λ c. search needs)
     (λ c. search needs)
     returns
