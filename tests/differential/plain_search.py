@@ -162,7 +162,7 @@ def compare(folder, seed, count):
     judge("the same by both searches", not others, "%d are others; the first, case %s" % (len(others), others[:1]))
     (wanted, slow), (got, fast) = (quickest(program, deep_use(folder)) for program in (plain, bucket))
     print("a name used 5,000 times below 2,000 others: %.3f s, by its bucket %.3f s" % (slow, fast))
-    judge("the copy searches plainly", wanted == got and slow > SLOWER * fast, "the two don't differ as they should")
+    judge("the copy searches plainly", wanted == got and slow > SLOWER * fast, "it is not slower than the archive by more than %d times, or gives another answer" % SLOWER)
 
 
 def main():

@@ -109,6 +109,8 @@ struct Trial {
     fences: Fences<AREAS>,
     ways: Buckets,
     runs: u64,
+    /// Whether a smaller case was told of: to make one takes long.
+    told: bool,
 }
 
 impl Trial {
@@ -118,6 +120,7 @@ impl Trial {
             fences: Fences::new(),
             ways: Buckets::default(),
             runs: 0,
+            told: false,
         }
     }
 
@@ -139,11 +142,12 @@ impl Trial {
         Ok(())
     }
 
-    /// Tries a case, and tells of a smaller one if it fails.
+    /// Tries a case, and tells of a smaller one if it is the first that fails.
     fn try_case(&mut self, case: &Case, expected: &Report, walked: bool) -> Result<(), String> {
         self.runs += 1;
         let verdict = self.arenas.try_case(case, expected);
-        if verdict.is_err() {
+        if verdict.is_err() && !self.told {
+            self.told = true;
             Progress::rest();
             tell_smaller(case, "table");
         }

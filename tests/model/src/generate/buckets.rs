@@ -59,13 +59,15 @@ pub fn tables(random: &mut Random, most: usize) -> Vec<u8> {
     if table.random.chance(85) {
         table.tools();
     }
-    while table.known.count() < most && table.text.len() < LONGEST / 3 {
+    while table.known.count() < most && table.text.len() < LONGEST / 2 {
         table.new_one();
     }
     let changes = table.random.between(most / 4, most) + 12;
     for _ in 0..changes {
-        table.change();
-        table.look();
+        if table.text.len() < LONGEST * 3 / 4 {
+            table.change();
+            table.look();
+        }
     }
     table.all();
     if table.known.count() < FEW {
@@ -156,7 +158,7 @@ mod tests {
     #[test]
     fn none_is_too_long() {
         let mut random = Random::new(1);
-        for _ in 0..20 {
+        for _ in 0..300 {
             assert!(tables(&mut random, 600).len() <= LIMIT);
         }
     }

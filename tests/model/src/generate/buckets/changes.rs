@@ -1,7 +1,7 @@
 //! What is done to the definitions of a table.
 
 use super::known::Idea;
-use super::{Table, FIRST_OTHER, FIRST_TOOL};
+use super::{Table, FIRST_OTHER, FIRST_TOOL, LONGEST};
 use crate::predefined::Predefined;
 use crate::random::Random;
 
@@ -140,7 +140,7 @@ impl Table<'_> {
 
     /// All definitions go, from both ends, and here and there names are asked for.
     pub(super) fn emptied(&mut self) {
-        loop {
+        while self.text.len() < LONGEST {
             let next = if self.random.chance(50) {
                 self.known.last(FIRST_OTHER)
             } else {
@@ -157,7 +157,7 @@ impl Table<'_> {
     /// Some texts end in a call whose name loses its definition meanwhile.
     pub(super) fn end(&mut self) {
         let name = self.any();
-        if self.known.of(name) == Some(Idea::Text) && self.random.chance(10) {
+        if self.known.of(name) == Some(Idea::Text) && self.random.chance(25) {
             let opened = self.at_front(name);
             self.text += &format!("{opened}(");
             self.undefined(name);
