@@ -31,8 +31,8 @@ LIBRARY = os.path.join(FOLDER, "libquenhovach.a") if FOLDER else ARCHIVE
 TARGET = os.path.join(ROOT, "target", "differential")
 VECTORS = os.path.join(ROOT, "tests", "vectors.tsv")
 LENT = 65536
-# the plain search takes more than so many times as long, where it passes 2,000 definitions for each use of a name
-SLOWER = 3
+# the plain search takes more than so many times as long, where it passes 2,000 definitions for each use of a name; it is tried so often
+SLOWER, TIMES = 2, 20
 
 
 class Source:
@@ -136,18 +136,18 @@ def ran(program, path):
 
 
 def deep_use(folder):
-    """A case in which the oldest of 2,001 names, none of which shares its bucket with many, is used 5,000 times."""
+    """A case in which the oldest of 2,001 names, none of which shares its bucket with many, is used 5,000 times; so often that the start of a process does not count."""
     others = b"".join(b"define(`sway_%d')" % k for k in range(2000))
     text = b"define(`mast')" + others + b"mast " * 5000
     path = os.path.join(folder, "deep")
     with open(path, "wb") as f:
-        f.write(b"%d %s %d 1\n%s\0" % (10**6, b" ".join([b"%d" % LENT] * 7), len(text), text))
+        f.write(b"%d %s %d 1\n%s\0" % (10**6, b" ".join([b"%d" % LENT] * 7), len(text), text) * TIMES)
     return path
 
 
 def quickest(program, path):
-    """The quickest of three times."""
-    return min((ran(program, path) for _ in range(3)), key=lambda found: found[1])
+    """The quickest of five times."""
+    return min((ran(program, path) for _ in range(5)), key=lambda found: found[1])
 
 
 def compare(folder, seed, count):
