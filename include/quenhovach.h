@@ -1,8 +1,9 @@
 /* quenhovach.h: the m4 expander for C and C++.
  *
- * One function expands one m4 text in buffers that the caller lends. Three more, at the end, find the line of a place in a text. They are
- * built by `rt staticlib quenhovach` as target/staticlib/libquenhovach.a, for x86-64 Linux, once their proofs are checked; ./install puts that in place,
- * and a shared object made of it. Of C's library they need memcpy and memset.
+ * One function expands one m4 text in buffers that the caller lends. Another expands a text and reads what it wrote as a sheet of settings;
+ * two more read a text as a sheet, and find a setting by its name. Three, at the end, find the line of a place in a text. They are built by
+ * `rt staticlib quenhovach` as target/staticlib/libquenhovach.a, for x86-64 Linux, once their proofs are checked; ./install puts that in
+ * place, and a shared object made of it. Of C's library they need memcpy and memset.
  *
  * A run ends on every text, every set of texts to include, every lent length and every budget, in one of seventeen answers. Two of them
  * finish it: "done" and "exit". The fifteen others are refusals, and a refusal gives no text at all: there is no shortened output.
@@ -12,6 +13,7 @@
 
 #include <stddef.h>
 #include <stdint.h>
+#include <string.h>
 
 #ifdef __cplusplus
 extern "C" {
@@ -139,6 +141,111 @@ uint32_t quenhovach_expand(
     uint8_t *output, size_t output_len,
     uint32_t budget,
     uint32_t report[QUENHOVACH_REPORT_LENGTH]);
+
+/* The sheet: what a controller reads. A text is a sheet if each of its lines is a name, `=` and a reading, with nothing round them: no
+ * blank, no CR, no comment. Bytes behind the last newline are a line too. A text without a byte is a sheet without a line.
+ *
+ * A name is a letter or underscore, then letters, digits and underscores. A reading is one of these:
+ *
+ *   number   an optional minus and one or more digits, within -2147483648 to 2147483647
+ *   decimal  an optional minus, one or more digits, a point, one or more digits, at most 15 digits in all; its value is the double nearest
+ *            to it, -0.0 with its sign
+ *   word     shaped like a name
+ *
+ * A sheet has at most QUENHOVACH_SHEET_LINES lines, and no name twice.
+ *
+ * What the caller owes, beside what quenhovach_expand has above:
+ *
+ *   - `sheet`, `report` and `line` are not null. What a function writes does not overlap anything else that it is given, and nothing else
+ *     writes to any of it during the call.
+ *   - The calling thread has 1.25 MiB of stack left for quenhovach_sheet_expand, 128 KiB for quenhovach_sheet_read and 16 KiB for
+ *     quenhovach_sheet_find. (Less was needed in every test; tests/costs/stack.py holds them to it.)
+ *
+ * The functions keep no state between calls and use no heap, and they may run in several threads at once. examples/c/controller.c takes
+ * its settings from a sheet.
+ */
+
+/* The refusals of a sheet, answers beside those above. The first bad line counts; of one line they are judged in the order 22, 20, 21. */
+enum {
+    QUENHOVACH_SHEET_MALFORMED = 20, /* a line is not a name, `=` and a reading; the detail is the number of the line, from 1 */
+    QUENHOVACH_SHEET_TWICE = 21,     /* a name is given a second time; the detail is the number of that line */
+    QUENHOVACH_SHEET_TOO_MANY = 22   /* there is a 257th line; the detail is 257 */
+};
+
+#define QUENHOVACH_SHEET_LINES 256
+
+/* The kinds of a reading. */
+enum {
+    QUENHOVACH_READING_NUMBER = 1,
+    QUENHOVACH_READING_DECIMAL = 2,
+    QUENHOVACH_READING_WORD = 3
+};
+
+/* A line of a sheet. Places count from the front of the text that was read. */
+typedef struct quenhovach_line {
+    uint64_t name;        /* the place of its name */
+    uint64_t name_length;
+    uint64_t kind;        /* of its reading, as above */
+    uint64_t value;       /* a number as its 32 bits, a decimal as the 64 bits of its double, a word as its place */
+    uint64_t length;      /* of a word; else 0 */
+} quenhovach_line;
+
+/* A sheet: the first `count` of its lines. Those behind them have no name and the number 0: 0, 0, 1, 0, 0. */
+typedef struct quenhovach_sheet {
+    uint64_t count;
+    quenhovach_line lines[QUENHOVACH_SHEET_LINES];
+} quenhovach_sheet;
+
+/* The number of a line whose kind is QUENHOVACH_READING_NUMBER. */
+static inline int32_t quenhovach_line_number(const quenhovach_line *line)
+{
+    uint32_t bits = (uint32_t)line->value;
+    int32_t number;
+
+    memcpy(&number, &bits, sizeof number);
+    return number;
+}
+
+/* The double of a line whose kind is QUENHOVACH_READING_DECIMAL. */
+static inline double quenhovach_line_decimal(const quenhovach_line *line)
+{
+    double decimal;
+
+    memcpy(&decimal, &line->value, sizeof decimal);
+    return decimal;
+}
+
+/* Expands the text as quenhovach_expand does, and reads what it wrote as a sheet. Returns the number of the answer.
+ *
+ * Only a run that ended done is read; "exit" is not done. With any other answer of quenhovach_expand, report and buffers are as that has
+ * them. Where the run ended done, the answer is "done" or a refusal of the sheet. With such a refusal all but number and detail is as after
+ * done: output and errors have the written text, and the report its counts.
+ *
+ * The sheet is written with every answer. With any but "done" it has no lines. */
+uint32_t quenhovach_sheet_expand(
+    const uint8_t *text, size_t text_len,
+    const uint8_t *set, size_t set_len,
+    uint8_t *pending, size_t pending_len,
+    uint8_t *calls, size_t calls_len,
+    uint8_t *definitions, size_t definitions_len,
+    uint8_t *streams, size_t streams_len,
+    uint8_t *wrap, size_t wrap_len,
+    uint8_t *errors, size_t errors_len,
+    uint8_t *output, size_t output_len,
+    uint32_t budget,
+    uint32_t report[QUENHOVACH_REPORT_LENGTH],
+    quenhovach_sheet *sheet);
+
+/* Reads a text of any length as a sheet. Returns 0, and 0 is written as the line; or 20, 21 or 22, and the number of the bad line is
+ * written there. The sheet is written in any case; with a refusal it has no lines. */
+uint32_t quenhovach_sheet_read(const uint8_t *text, size_t text_len, quenhovach_sheet *sheet, uint32_t *line);
+
+/* The first line of the sheet, from 0, that has this name; QUENHOVACH_SHEET_LINES where there is none. The text is the one that was read:
+ * after quenhovach_sheet_expand `output`, with as many bytes as the report counts.
+ *
+ * A sheet and a text that do not belong together are answered too: by the first line below the sheet's count whose name lies in the text
+ * and has these bytes. */
+size_t quenhovach_sheet_find(const quenhovach_sheet *sheet, const uint8_t *text, size_t text_len, const uint8_t *name, size_t name_len);
 
 /* The index of lines. A refusal gives a byte place, and people look for a line: build the index of the text, ask for the line of the place,
  * then for the start of that line. Lines count from 1. The column, counted in bytes from 1, is place - start + 1.

@@ -7,6 +7,6 @@ forloop(`i', 1, 4, `guy_`'i=eval((i - 1) * 90)
 ')dnl
 forloop(`i', 1, 3, `forloop(`j', i, 3, `cross_`'i`'_`'j=eval(i * 10 + j)
 ')')dnl
-forloop(`i', -1, 1, `offset=i
+forloop(`i', -1, 1, `offset_`'eval(i + 2)=i
 ')dnl
 `i'=i

@@ -4,9 +4,10 @@
     expander = Expander(pending=4096, budget=10000)
     sheet = expand(template, expander)            # the same in chosen buffers, as often as you like
     expander = Expander(included={"guys.m4": b"define(`guys', `3')"})  # what a template may include
+    gain = expand_settings(template)["sway_gain"]  # the sheet read: a dict of int, float and str
 
 `expand` returns a text only where the run is done. A refusal raises `Refused`, and m4exit raises `Exited`, whatever its number: what a template wrote
-before it ended itself can't be taken for its sheet by a caller who did not think of that.
+before it ended itself can't be taken for its sheet by a caller who did not think of that. `expand_settings` raises `BadSheet` too, where the text is no sheet.
 
 A call needs 1.25 MiB of stack. The main thread has what `ulimit -s` says, mostly 8 MiB; so has a thread, unless `threading.stack_size` was set to less.
 Before each call the stack that is left is measured, and RuntimeError raised where it is too little: the process would end by a signal otherwise.
@@ -15,23 +16,28 @@ from __future__ import annotations
 
 import ctypes
 import functools
+import struct
 import sys
 import threading
 from dataclasses import dataclass
 from enum import IntEnum
-from typing import Any, Iterable, Mapping, Optional, Tuple, Union
+from typing import Any, Dict, Iterable, Mapping, Optional, Tuple, Union
 
 MAX_LENGTH = 65536  # of the text and of each buffer, in bytes
 MAX_SET_LENGTH = 1048576
 NO_ITEMS = b"\0"  # the set where nothing may be included
 CHUNK = 128  # bytes of a set that stand together at most
 LINES_WORDS = MAX_LENGTH // 64 + 1  # and as many totals: the index of the longest text's lines
+SHEET_LINES = 256  # at most
+LINE_WORDS = 5  # the words of a line, behind that for the count of lines
 BUDGET = 16777216  # steps, where the caller names no other number
 STACK = 1280 * 1024 + 16 * 1024  # 1.25 MiB for the expander, the rest for the way there
+STACK_TO_READ = 128 * 1024 + 16 * 1024  # less to read a sheet
 LIBRARY = "libquenhovach.so.0"  # as the loader finds it; a path has a slash
 
 Text = Union[bytes, bytearray, memoryview]
 Name = Union[str, bytes]  # a str is taken as UTF-8
+Setting = Union[int, float, str]  # a number, a decimal or a word
 
 
 class Answer(IntEnum):
@@ -54,6 +60,22 @@ class Answer(IntEnum):
     BAD_SET = 14  # the set is bad, or longer than MAX_SET_LENGTH
     NO_ITEM = 15  # include of a name that no item of the set has
     NO_DEFINITION = 16  # copydef of a name that has no definition
+
+
+class Fault(IntEnum):
+    """Why a text is no sheet of settings."""
+
+    MALFORMED = 20  # a line is not a name, = and a number, a decimal or a word
+    TWICE = 21  # a name is given a second time
+    TOO_MANY = 22  # there is a 257th line
+
+
+class Reading(IntEnum):
+    """What a setting is."""
+
+    NUMBER = 1
+    DECIMAL = 2
+    WORD = 3
 
 
 class Buffer(IntEnum):
@@ -139,6 +161,20 @@ class Exited(NotDone):
         return "m4exit(%d) after %d bytes of output%s: %s" % (self.code, self.report.output, told, self.report)
 
 
+class BadSheet(ValueError):
+    """A text that is no sheet of settings. `line` is its first bad line, counted from 1, and `text` has the bytes of that."""
+
+    def __init__(self, fault: Fault, line: int, text: bytes) -> None:
+        super().__init__(fault, line, text)
+        self.fault = fault
+        self.line = line
+        self.text = text
+
+    def __str__(self) -> str:
+        told = {Fault.MALFORMED: "is no setting", Fault.TWICE: "gives a setting again", Fault.TOO_MANY: "is one too many"}
+        return "no settings: line %d %s: %.80r" % (self.line, told[self.fault], self.text)
+
+
 def make_set(items: Iterable[Tuple[Name, Text]]) -> bytes:
     """A set of these items, names and texts, in the form that include/quenhovach.h has. The first of two items with one name counts.
 
@@ -194,11 +230,15 @@ class Expander:
             raise Exited(sheet)
         return sheet
 
+    def settings(self, text: Text) -> Dict[str, Setting]:
+        """Expands a text and reads what it wrote as a sheet: the settings by their names, in the sheet's order.
+
+        Raises what `run` raises, and `BadSheet` where what was written is no sheet. Error text is not given back.
+        """
+        return _settings(self._library, self.run(text).output)
+
     def _call(self, text: bytes) -> Report:
-        left = stack_left()
-        if left < STACK:
-            told = "a call needs %d bytes of stack, and this thread has %d left; threading.stack_size gives new threads more"
-            raise RuntimeError(told % (STACK, left))
+        _check_stack(STACK)
         lent = [part for buffer in self.buffers for part in (buffer, len(buffer))]
         numbers = (ctypes.c_uint32 * 6)()
         self._library.quenhovach_expand(text, len(text), self._set, len(self._set), *lent, self._budget, numbers)
@@ -217,6 +257,42 @@ def expand(text: Text, expander: Optional[Expander] = None) -> bytes:
     if sheet.errors:
         sys.stderr.write(sheet.errors.decode("utf-8", "backslashreplace"))
     return sheet.output
+
+
+def expand_settings(text: Text, expander: Optional[Expander] = None) -> Dict[str, Setting]:
+    """The settings of a template, by their names; raises what `Expander.settings` raises. Error text goes to standard error, as with `expand`."""
+    expander = Expander() if expander is None else expander
+    return _settings(expander._library, expand(text, expander))
+
+
+def read_settings(text: Text, library: str = LIBRARY) -> Dict[str, Setting]:
+    """Reads a sheet that was written before, of any length; raises `BadSheet` where it is none."""
+    return _settings(_load(library), memoryview(text).tobytes())
+
+
+def _settings(library: Any, text: bytes) -> Dict[str, Setting]:
+    _check_stack(STACK_TO_READ)
+    words, line = (ctypes.c_uint64 * (1 + SHEET_LINES * LINE_WORDS))(), ctypes.c_uint32()
+    number = library.quenhovach_sheet_read(text, len(text), words, ctypes.byref(line))
+    if number != 0:
+        raise BadSheet(Fault(number), line.value, text.split(b"\n", line.value)[line.value - 1])
+    settings = {}
+    for at in range(1, 1 + words[0] * LINE_WORDS, LINE_WORDS):
+        place, length = words[at:at + 2]
+        settings[_word(text, place, length)] = _setting(text, *words[at + 2:at + LINE_WORDS])
+    return settings
+
+
+def _setting(text: bytes, kind: int, value: int, length: int) -> Setting:
+    if kind == Reading.NUMBER:
+        return ctypes.c_int32(value).value
+    if kind == Reading.DECIMAL:
+        return struct.unpack("<d", struct.pack("<Q", value))[0]
+    return _word(text, value, length)
+
+
+def _word(text: bytes, place: int, length: int) -> str:
+    return text[place:place + length].decode("ascii")
 
 
 def _position(library: Any, text: bytes, report: Report) -> Tuple[Optional[int], Optional[int]]:
@@ -239,6 +315,7 @@ def _load(library: str) -> Any:
     size, pointer = ctypes.c_size_t, ctypes.c_void_p
     for name, takes in {
         "expand": [ctypes.c_char_p, size] * 2 + [pointer, size] * 7 + [ctypes.c_uint32, pointer],
+        "sheet_read": [ctypes.c_char_p, size, pointer, pointer],
         "lines_build": [ctypes.c_char_p, size] + [pointer, size] * 2,
         "lines_line_of": [size] + [pointer, size] * 2 + [size, pointer],
         "lines_start_of": [size] + [pointer, size] * 2 + [ctypes.c_uint64, pointer],
@@ -253,6 +330,13 @@ _host = ctypes.CDLL(None)
 _host.pthread_self.restype = ctypes.c_size_t
 _host.pthread_getattr_np.argtypes = [ctypes.c_size_t, ctypes.c_void_p]
 _thread = threading.local()
+
+
+def _check_stack(needed: int) -> None:
+    left = stack_left()
+    if left < needed:
+        told = "a call needs %d bytes of stack, and this thread has %d left; threading.stack_size gives new threads more"
+        raise RuntimeError(told % (needed, left))
 
 
 def stack_left() -> int:

@@ -12,12 +12,12 @@ fn main() {
     report("expand, slices lent", || lent(&mut room));
     let mut expander = Expander::new();
     report("Expander::expand", || {
-        let sheet = expander.expand(black_box(TEXT)).expect("it is done");
-        sheet.output.len()
+        let written = expander.expand(black_box(TEXT)).expect("it is done");
+        written.output.len()
     });
     report("expand_to_vec", || {
-        let sheet = expand_to_vec(black_box(TEXT)).expect("it is done");
-        sheet.output.len()
+        let expansion = expand_to_vec(black_box(TEXT)).expect("it is done");
+        expansion.output.len()
     });
 }
 

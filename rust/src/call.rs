@@ -96,7 +96,7 @@ impl Report {
     }
 
     /// The report with these six numbers, if there is such an answer.
-    fn from_numbers(numbers: [u32; 6]) -> Option<Report> {
+    pub(crate) fn from_numbers(numbers: [u32; 6]) -> Option<Report> {
         let [number, detail, steps, place, output, errors] = numbers;
         Some(Report {
             answer: Answer::from_numbers(number, detail)?,

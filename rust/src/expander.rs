@@ -1,10 +1,12 @@
 //! For callers with a heap: buffers that are owned, and used again and again.
 
-use crate::{expand, Buffer, Buffers, Failure, Report, Sheet, BUDGET, EMPTY_SET, LONGEST};
-use alloc::{borrow::Cow, vec, vec::Vec};
+use crate::sheet::{self, Lines, NoSheet, Outcome, Sheet};
+use crate::{expand, Buffer, Buffers, Expansion, Failure, Report, BUDGET, EMPTY_SET, LONGEST};
+use alloc::{borrow::Cow, boxed::Box, vec, vec::Vec};
 use core::fmt;
 
-/// An expander that owns its seven buffers. They are made once; calls after that take nothing from the heap.
+/// An expander that owns its seven buffers, and room for the lines of a sheet. They are made once; calls after that take nothing from
+/// the heap.
 ///
 /// ```
 /// use quenhovach::{Buffer, Expander};
@@ -14,8 +16,8 @@ use core::fmt;
 ///     .with_room(Buffer::Output, 4096);
 /// for (mast, expected) in [("lattice", &b"family=lattice\n"[..]), ("pier", b"family=pier\n")] {
 ///     let template = format!("define(`mast',`{mast}')family=mast\n");
-///     let sheet = expander.expand(template.as_bytes())?;
-///     assert_eq!(sheet.output, expected);
+///     let written = expander.expand(template.as_bytes())?;
+///     assert_eq!(written.output, expected);
 /// }
 /// # Ok::<(), quenhovach::Failure>(())
 /// ```
@@ -29,6 +31,10 @@ pub struct Expander {
     set: Cow<'static, [u8]>,
     /// Bytes of the last run's output and error text.
     written: [usize; 2],
+    /// Of the last sheet; boxed for their size.
+    lines: Box<Lines>,
+    /// Whether the last run gave a sheet.
+    is_sheet: bool,
 }
 
 /// What a run has written, in the buffers of its [`Expander`].
@@ -50,6 +56,8 @@ impl Expander {
             budget: BUDGET,
             set: Cow::Borrowed(EMPTY_SET),
             written: [0; 2],
+            lines: Box::default(),
+            is_sheet: false,
         }
     }
 
@@ -87,6 +95,7 @@ impl Expander {
     pub fn with_room(mut self, buffer: Buffer, bytes: usize) -> Expander {
         self.lent[buffer as usize - 1] = vec![0; bytes];
         self.written = [0; 2];
+        self.is_sheet = false;
         self
     }
 
@@ -98,14 +107,10 @@ impl Expander {
     /// [`run`](Expander::run) it is not.
     pub fn expand(&mut self, text: &[u8]) -> Result<Written<'_>, Failure> {
         let report = self.run(text).finished()?;
-        let written = Written {
-            output: self.output(),
-            errors: self.errors(),
-            report,
-        };
+        let written = self.written(report);
         match report.exit_code() {
             None | Some(0) => Ok(written),
-            Some(_) => Err(Failure::Exit(written.to_sheet())),
+            Some(_) => Err(Failure::Exit(written.to_expansion())),
         }
     }
 
@@ -121,19 +126,82 @@ impl Expander {
     /// assert_eq!((expander.output(), expander.errors()), (&b"sway=on\n"[..], &b"look up"[..]));
     /// ```
     pub fn run(&mut self, text: &[u8]) -> Report {
-        let [pending, calls, definitions, streams, wrap, errors, output] = &mut self.lent;
-        let buffers = Buffers {
-            pending,
-            calls,
-            definitions,
-            streams,
-            wrap,
-            errors,
-            output,
-        };
+        let buffers = buffers(&mut self.lent);
         let report = expand(text, &self.set, buffers, self.budget);
         self.written = [report.output, report.errors];
+        self.is_sheet = false;
         report
+    }
+
+    /// Expands a text, and gives its sheet: the run is done, and its output is one.
+    ///
+    /// ```
+    /// use quenhovach::{Expander, NoSheet, Reading, Set};
+    ///
+    /// let set = Set::of([("guys.m4", "define(`guys', `3')dnl\n")]).expect("it is short");
+    /// let mut expander = Expander::new().with_set(set);
+    /// let sheet = expander.expand_sheet(b"include(`guys.m4')guy_count=guys\nsway_gain=0.85\n")?;
+    /// assert_eq!(sheet.get("guy_count"), Some(Reading::Number(3)));
+    /// assert_eq!(sheet.get("sway_gain"), Some(Reading::Decimal(0.85)));
+    /// # Ok::<(), NoSheet>(())
+    /// ```
+    ///
+    /// # Errors
+    ///
+    /// Every refusal, `m4exit` with any number, and an output that is no sheet. What such a run has written goes with the error,
+    /// copied; with [`run_sheet`](Expander::run_sheet) it is not.
+    pub fn expand_sheet(&mut self, text: &[u8]) -> Result<Sheet<'_>, NoSheet> {
+        let outcome = self.run_sheet(text);
+        self.sheet_of(outcome)
+    }
+
+    /// Expands a text and reads the output as a sheet, whatever it comes to. The sheet, if there is one, is in
+    /// [`sheet`](Expander::sheet), and what was written in [`output`](Expander::output) and [`errors`](Expander::errors), until the next
+    /// call.
+    ///
+    /// ```
+    /// use quenhovach::{sheet::BadLine, Expander};
+    ///
+    /// let mut expander = Expander::new();
+    /// let outcome = expander.run_sheet(b"errprint(`look up')sway=on\n");
+    /// assert!(outcome.is_sheet() && expander.sheet().is_some());
+    /// assert_eq!(expander.errors(), b"look up");
+    ///
+    /// let outcome = expander.run_sheet(b"sway=on\nsway=off\n");
+    /// assert_eq!(outcome.bad_line, Some(BadLine::Twice(2)));
+    /// assert!(expander.sheet().is_none());
+    /// assert_eq!(expander.output(), b"sway=on\nsway=off\n");
+    /// ```
+    pub fn run_sheet(&mut self, text: &[u8]) -> Outcome {
+        let buffers = buffers(&mut self.lent);
+        let outcome = sheet::expand(text, &self.set, buffers, self.budget, &mut self.lines);
+        self.written = [outcome.report.output, outcome.report.errors];
+        self.is_sheet = outcome.is_sheet();
+        outcome
+    }
+
+    /// The sheet of the last run, where that was asked for one and gave it.
+    pub fn sheet(&self) -> Option<Sheet<'_>> {
+        self.is_sheet.then(|| self.lines.sheet(self.output()))
+    }
+
+    /// The sheet of the last run, which had this outcome.
+    pub(crate) fn sheet_of(&self, outcome: Outcome) -> Result<Sheet<'_>, NoSheet> {
+        let report = outcome.report.finished().map_err(Failure::from)?;
+        let written = || self.written(report).to_expansion();
+        match outcome.bad_line {
+            Some(bad) => Err(NoSheet::BadLine(bad, written())),
+            None => self.sheet().ok_or_else(|| Failure::Exit(written()).into()),
+        }
+    }
+
+    /// What the last run, which had this report, has written.
+    pub(crate) fn written(&self, report: Report) -> Written<'_> {
+        Written {
+            output: self.output(),
+            errors: self.errors(),
+            report,
+        }
     }
 
     /// The output of the last run, of one that ended in `m4exit` too; empty after a refusal.
@@ -144,6 +212,20 @@ impl Expander {
     /// The error text of the last run; empty after a refusal.
     pub fn errors(&self) -> &[u8] {
         &self.lent[Buffer::Errors as usize - 1][..self.written[1]]
+    }
+}
+
+/// All seven, to be lent.
+fn buffers(lent: &mut [Vec<u8>; 7]) -> Buffers<'_> {
+    let [pending, calls, definitions, streams, wrap, errors, output] = lent;
+    Buffers {
+        pending,
+        calls,
+        definitions,
+        streams,
+        wrap,
+        errors,
+        output,
     }
 }
 
@@ -166,8 +248,8 @@ impl fmt::Debug for Expander {
 
 impl Written<'_> {
     /// A copy that stands for itself.
-    pub fn to_sheet(&self) -> Sheet {
-        Sheet {
+    pub fn to_expansion(&self) -> Expansion {
+        Expansion {
             output: self.output.to_vec(),
             errors: self.errors.to_vec(),
             report: self.report,

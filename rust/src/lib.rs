@@ -2,19 +2,27 @@
 //! claims to be whole.
 //!
 //! ```
-//! let sheet = quenhovach::expand_to_vec(b"define(`guys',`3')dnl\nguy_count=guys\n")?;
-//! assert_eq!(sheet.output, b"guy_count=3\n");
-//! # Ok::<(), quenhovach::Failure>(())
+//! use quenhovach::Reading;
+//!
+//! let sheet = quenhovach::expand_to_sheet(b"define(`guys',`3')dnl\nguy_count=guys\n")?;
+//! assert_eq!(sheet.get("guy_count"), Some(Reading::Number(3)));
+//! assert_eq!(sheet.expansion().output, b"guy_count=3\n");
+//! # Ok::<(), quenhovach::NoSheet>(())
 //! ```
 //!
-//! A refusal is an error there, and so is a template that ends itself with `m4exit` and another number than 0
-//! ([`Failure`]): what the `?` lets through is a whole sheet with which the template is content.
+//! A refusal is an error there, and so is a template that ends itself with `m4exit`, or an output that is no sheet ([`NoSheet`]).
+//! [`expand_to_vec`] gives any text; `m4exit` with 0 is a success to it, and with another number an error ([`Failure`]). What
+//! the `?` lets through is whole, and the template is content with it.
 //!
 //! | | needs | room | |
 //! |---|---|---|---|
 //! | [`expand`] | `core` alone | seven slices | a [`Report`] with one of 17 [`Answer`]s |
 //! | [`Expander`] | feature `alloc` | its own, kept from call to call | text in its buffers, or a [`Failure`] |
-//! | [`expand_to_vec`] | feature `alloc` | as much as may be lent, made anew | a [`Sheet`] of vectors, or a [`Failure`] |
+//! | [`expand_to_vec`] | feature `alloc` | as much as may be lent, made anew | an [`Expansion`] of vectors, or a [`Failure`] |
+//! | [`sheet::expand`] | `core` alone | seven slices, and 10 KB of lines | as [`expand`], and whether the output is a [`Sheet`] |
+//! | [`sheet::read`] | `core` alone | 10 KB of lines | the [`Sheet`] that a text is, or its first [`BadLine`] |
+//! | [`Expander::expand_sheet`] | feature `alloc` | its own, kept from call to call | a [`Sheet`] in its buffers, or why there is [`NoSheet`] |
+//! | [`expand_to_sheet`] | feature `alloc` | as much as may be lent, made anew | a [`SheetBuf`], or why there is [`NoSheet`] |
 //! | [`Set`] | feature `alloc` | a vector | the texts that a template may include, for [`Expander::with_set`] and [`expand`] |
 //! | [`set::items`] | `core` alone | none | what a set holds, or the byte at which it is bad |
 //! | [`Refusal::position`] | `core` alone | 25 KB of stack | line and column of a refusal |
@@ -41,21 +49,25 @@ mod answer;
 mod call;
 #[cfg(feature = "alloc")]
 mod expander;
+#[cfg(feature = "alloc")]
+mod expansion;
 mod line_index;
 pub mod lines;
 mod refusal;
 pub mod set;
-#[cfg(feature = "alloc")]
-mod sheet;
+pub mod sheet;
 
 pub use answer::{Answer, Buffer, Opened};
 pub use call::{expand, Buffers, Report, BUDGET, LONGEST};
 #[cfg(feature = "alloc")]
 pub use expander::{Expander, Written};
+#[cfg(feature = "alloc")]
+pub use expansion::{expand_to_vec, Expansion, Failure};
 pub use line_index::{LineIndex, Position};
 pub use refusal::Refusal;
 #[cfg(feature = "alloc")]
 pub use set::Set;
 pub use set::{EMPTY as EMPTY_SET, LONGEST as LONGEST_SET};
 #[cfg(feature = "alloc")]
-pub use sheet::{expand_to_vec, Failure, Sheet};
+pub use sheet::{expand_to_sheet, NoSheet, SheetBuf};
+pub use sheet::{BadLine, Reading, Setting, Sheet};

@@ -1,102 +1,152 @@
-//! The convenience for callers with a heap: a text in, a sheet of its own out, and one error for all that is no success.
+//! The sheet: what a controller reads. A text is a sheet if each of its lines is a name, `=` and a reading, with nothing round them:
+//! no blank, no CR, no comment.
+//!
+//! | reading | |
+//! |---|---|
+//! | [`Reading::Number`] | an optional minus and one or more digits, within -2147483648 to 2147483647 |
+//! | [`Reading::Decimal`] | an optional minus, one or more digits, a point, one or more digits, at most 15 digits in all; the nearest `f64` |
+//! | [`Reading::Word`] | shaped like a name: a letter or underscore, then letters, digits and underscores |
+//!
+//! Bytes behind the last newline are a line too, and a text without a byte is a sheet without a line. A sheet has at most [`MOST`]
+//! lines, and no name twice. A text that is no sheet is told by its first [`BadLine`].
+//!
+//! The functions here take lines that the caller lends, and need `core` alone. [`Expander::expand_sheet`](crate::Expander) has room of
+//! its own, and [`expand_to_sheet`] gives a [`SheetBuf`] that stands for itself.
 
-use crate::{Expander, Refusal, Report, Written};
-use alloc::{string::String, vec::Vec};
-use core::{error::Error, fmt};
+mod bad_line;
+mod call;
+mod lines;
+#[cfg(feature = "alloc")]
+mod owned;
 
-/// The text of a run that ended done or exit.
-#[derive(Clone, PartialEq, Eq)]
-pub struct Sheet {
-    /// The output.
-    pub output: Vec<u8>,
-    /// The error text, from `errprint`.
-    pub errors: Vec<u8>,
-    /// The run's numbers.
-    pub report: Report,
+use core::fmt;
+
+pub use bad_line::BadLine;
+pub use call::{expand, read, Outcome};
+pub use lines::{Line, Lines, MOST};
+#[cfg(feature = "alloc")]
+pub use owned::{expand_to_sheet, NoSheet, SheetBuf};
+
+/// What a sheet gives for a name.
+#[derive(Clone, Copy, Debug, PartialEq)]
+pub enum Reading<'t> {
+    /// A number.
+    Number(i32),
+    /// A decimal. `-0.0` has its sign.
+    Decimal(f64),
+    /// A word, borrowed from the written text.
+    Word(&'t str),
 }
 
-/// A run that was no success.
-#[derive(Clone, Debug, PartialEq, Eq)]
-pub enum Failure {
-    /// It was refused, and there is no text.
-    Refused(Refusal),
-    /// The template ended it with `m4exit` and another number than 0. What it had written until then is here.
-    Exit(Sheet),
+/// A line of a sheet.
+#[derive(Clone, Copy, Debug, PartialEq)]
+pub struct Setting<'t> {
+    /// The number of the line, from 1.
+    pub line: usize,
+    /// Its name.
+    pub name: &'t str,
+    /// Its reading.
+    pub reading: Reading<'t>,
 }
 
-impl Sheet {
-    /// The code of `m4exit`, if that ended the run and not the end of the text.
-    pub fn exit_code(&self) -> Option<u8> {
-        self.report.exit_code()
-    }
-}
-
-impl Failure {
-    /// The run's numbers.
-    pub fn report(&self) -> Report {
-        match self {
-            Failure::Refused(refusal) => refusal.report,
-            Failure::Exit(sheet) => sheet.report,
-        }
-    }
-}
-
-impl From<Refusal> for Failure {
-    fn from(refusal: Refusal) -> Failure {
-        Failure::Refused(refusal)
-    }
-}
-
-impl fmt::Debug for Sheet {
-    fn fmt(&self, f: &mut fmt::Formatter<'_>) -> fmt::Result {
-        f.debug_struct("Sheet")
-            .field("output", &String::from_utf8_lossy(&self.output))
-            .field("errors", &String::from_utf8_lossy(&self.errors))
-            .field("report", &self.report)
-            .finish()
-    }
-}
-
-impl fmt::Display for Failure {
-    fn fmt(&self, f: &mut fmt::Formatter<'_>) -> fmt::Result {
-        match self {
-            Failure::Refused(refusal) => refusal.fmt(f),
-            Failure::Exit(sheet) => {
-                let code = sheet.report.answer.detail();
-                let said = String::from_utf8_lossy(sheet.errors.trim_ascii());
-                let behind = if said.is_empty() { "" } else { ": " };
-                write!(f, "the template ended with m4exit({code}){behind}{said}")
-            }
-        }
-    }
-}
-
-impl Error for Failure {}
-
-/// Expands a text with 65,536 bytes lent for each buffer, [`BUDGET`](crate::BUDGET) steps and nothing to include. An
-/// [`Expander`] does the same again and again in less time, and with a set of texts to include
-/// ([`with_set`](Expander::with_set)).
+/// A sheet: a written text, and its lines.
 ///
 /// ```
-/// use quenhovach::{expand_to_vec, Answer, Failure, Opened};
+/// use quenhovach::{sheet, BadLine, Reading};
 ///
-/// let sheet = expand_to_vec(b"errprint(`look up')sway=on\n").expect("all is well");
-/// assert_eq!(sheet.output, b"sway=on\n");
-/// assert_eq!(sheet.errors, b"look up");
+/// let mut lines = sheet::Lines::EMPTY;
+/// let sheet = sheet::read(b"family=lattice\nguy_count=3\nsway_gain=-0.5", &mut lines)?;
+/// assert_eq!(sheet.len(), 3);
+/// assert_eq!(sheet.get("guy_count"), Some(Reading::Number(3)));
+/// assert_eq!(sheet.line_of("sway_gain"), Some(3));
+/// assert_eq!(sheet.get("Family"), None);
 ///
-/// let failure = expand_to_vec(b"sway=`on\n").expect_err("the quote is not closed");
-/// assert_eq!(failure.report().answer, Answer::Unclosed(Opened::Quote));
-/// assert_eq!(failure.to_string(), "a quote is not closed (place 5, after 2 steps)");
-///
-/// let failure = expand_to_vec(b"errprint(`no mast')m4exit(3)").expect_err("the template says so");
-/// assert_eq!(failure.to_string(), "the template ended with m4exit(3): no mast");
-/// assert!(matches!(failure, Failure::Exit(sheet) if sheet.exit_code() == Some(3)));
+/// let words: Vec<_> = sheet
+///     .settings()
+///     .filter(|setting| matches!(setting.reading, Reading::Word(_)))
+///     .map(|setting| (setting.line, setting.name))
+///     .collect();
+/// assert_eq!(words, [(1, "family")]);
+/// # Ok::<(), BadLine>(())
 /// ```
+#[derive(Clone, Copy)]
+pub struct Sheet<'a> {
+    lines: &'a Lines,
+    text: &'a [u8],
+}
+
+impl Reading<'_> {
+    /// The kinds of a reading.
+    const NUMBER: u64 = 1;
+    const DECIMAL: u64 = 2;
+    const WORD: u64 = 3;
+}
+
+impl<'a> Sheet<'a> {
+    /// The reading that this name has, or none where it is absent. Case counts.
+    pub fn get(&self, name: impl AsRef<[u8]>) -> Option<Reading<'a>> {
+        let index = self.lines.find(self.text, name.as_ref())?;
+        self.lines.lines[index].reading_in(self.text)
+    }
+
+    /// The number of the line with this name, from 1.
+    pub fn line_of(&self, name: impl AsRef<[u8]>) -> Option<usize> {
+        Some(1 + self.lines.find(self.text, name.as_ref())?)
+    }
+
+    /// The line with this number, from 1.
+    pub fn setting(&self, line: usize) -> Option<Setting<'a>> {
+        let index = line.checked_sub(1).filter(|&index| index < self.len())?;
+        let found = &self.lines.lines[index];
+        Some(Setting {
+            line,
+            name: found.name_in(self.text)?,
+            reading: found.reading_in(self.text)?,
+        })
+    }
+
+    /// All lines, in order.
+    pub fn settings(&self) -> impl Iterator<Item = Setting<'a>> {
+        let sheet = *self;
+        (1..=self.len()).filter_map(move |line| sheet.setting(line))
+    }
+
+    /// How many lines it has.
+    pub fn len(&self) -> usize {
+        self.lines.count()
+    }
+
+    /// Whether it has no line.
+    pub fn is_empty(&self) -> bool {
+        self.len() == 0
+    }
+
+    /// The written text.
+    pub fn text(&self) -> &'a [u8] {
+        self.text
+    }
+}
+
+impl fmt::Debug for Sheet<'_> {
+    /// Names with their readings.
+    fn fmt(&self, f: &mut fmt::Formatter<'_>) -> fmt::Result {
+        let entries = self.settings().map(|s| (s.name, s.reading));
+        f.debug_map().entries(entries).finish()
+    }
+}
+
+/// The line with this number, from 1, of a text, without its newline. Behind the last newline there is a line only if it has a byte.
 ///
-/// # Errors
+/// ```
+/// use quenhovach::sheet::line;
 ///
-/// Every refusal, and `m4exit` with another number than 0.
-pub fn expand_to_vec(text: &[u8]) -> Result<Sheet, Failure> {
-    let written = |written: Written<'_>| written.to_sheet();
-    Expander::new().expand(text).map(written)
+/// let text = b"guy_count=3\n\nsway=on\n";
+/// let lines = [1, 2, 3].map(|number| line(text, number).unwrap());
+/// assert_eq!(lines, [&b"guy_count=3"[..], b"", b"sway=on"]);
+/// assert_eq!((line(text, 0), line(text, 4)), (None, None));
+/// ```
+pub fn line(text: &[u8], number: usize) -> Option<&[u8]> {
+    let newline = |&b: &u8| b == b'\n';
+    let found = text.split_inclusive(newline).nth(number.checked_sub(1)?)?;
+    Some(found.strip_suffix(b"\n").unwrap_or(found))
 }

@@ -62,12 +62,16 @@ fn a_call_gives_what_the_slices_give_whatever_came_before() {
     }
 }
 
+/// What an expander takes from the heap at the start: seven buffers, and the lines of a sheet.
+const MADE: usize = 8;
+
 #[test]
 fn a_call_takes_nothing_from_the_heap() {
     let (mut expander, made) = counted(Expander::new);
-    assert_eq!(made, 7, "the count counts");
+    assert_eq!(made, MADE, "the count counts");
     for text in TEXTS {
         assert_eq!(counted(|| expander.run(text)).1, 0);
+        assert_eq!(counted(|| expander.run_sheet(text)).1, 0);
         let (ended, taken) = counted(|| expander.expand(text).is_ok());
         let copied = matches!(expander.run(text).answer, Answer::Exit(1..));
         assert_eq!(taken > 0, copied, "only the text that goes with an error");
@@ -88,7 +92,7 @@ fn a_set_is_kept_and_not_copied() {
     let mut without = expander.with_set(quenhovach::EMPTY_SET);
     assert_eq!(without.run(b"include(`n')n").answer, Answer::NoItem);
     let made = counted(|| Expander::new().with_set(b"\0")).1;
-    assert_eq!(made, 7, "static bytes are not copied");
+    assert_eq!(made, MADE, "static bytes are not copied");
 }
 
 #[test]
@@ -142,16 +146,16 @@ fn only_done_and_exit_0_are_a_success() {
     }
     for code in [1, 3, 255] {
         let text = format!("errprint(` e\n')x`'m4exit({code})y");
-        let Err(Failure::Exit(sheet)) = expander.expand(text.as_bytes()) else {
+        let Err(Failure::Exit(expansion)) = expander.expand(text.as_bytes()) else {
             panic!("m4exit({code}) is no success");
         };
         assert_eq!(
-            (&sheet.output[..], &sheet.errors[..]),
+            (&expansion.output[..], &expansion.errors[..]),
             (&b"x"[..], &b" e\n"[..])
         );
-        assert_eq!(sheet.exit_code(), Some(code));
+        assert_eq!(expansion.exit_code(), Some(code));
         let failure = expand_to_vec(text.as_bytes()).expect_err("no success");
-        assert_eq!(failure, Failure::Exit(sheet));
+        assert_eq!(failure, Failure::Exit(expansion));
         let said = format!("the template ended with m4exit({code}): e");
         assert_eq!(failure.to_string(), said);
     }
@@ -177,10 +181,12 @@ fn a_refusal_is_an_error_without_text() {
 
 #[test]
 fn what_is_shown_of_them_is_short() {
-    let sheet = expand_to_vec(b"errprint(`e')x\n").expect("a success");
-    let shown = format!("{sheet:?}");
+    let expansion = expand_to_vec(b"errprint(`e')x\n").expect("a success");
+    let shown = format!("{expansion:?}");
     assert!(
-        shown.starts_with(r#"Sheet { output: "x\n", errors: "e", report: Report { answer: Done, "#),
+        shown.starts_with(
+            r#"Expansion { output: "x\n", errors: "e", report: Report { answer: Done, "#
+        ),
         "{shown}"
     );
     let shown = format!("{:?}", Expander::new().with_room(Buffer::Wrap, 7));

@@ -1,8 +1,8 @@
 #!/usr/bin/env python3
 """definitions.py [FILE..]: computes lines of vectors with the definitions of crates/rules and compares every answer.
 
-FILE is a table like tests/vectors.tsv, of runs, or like tests/lines.tsv, of the index of lines; these two are the default. Their heads say what stands
-in their columns, which are separated by tabs. The definitions are computed by the prover: a crate with one statement for each line is made
+FILE is a table like tests/vectors.tsv, of runs, like tests/lines.tsv, of the index of lines, or like tests/sheets.tsv, of sheets; these three are the
+default. Their heads say what stands in their columns, which are separated by tabs. The definitions are computed by the prover: a crate with one statement for each line is made
 outside the tree and checked. Of the runs two kinds of line are left out, as they are out of reach of a computation over lists: a text or a set of more
 than 65,536 bytes, and a result of 2147483647 bytes. Ends with 'N passed, M failed'; exit status 0 only if M is 0.
 """
@@ -25,9 +25,17 @@ use Prim.Native.Nat.{ℕ}
 use mathlib.Core.Bool.{Bool, true, false, _&&_}
 use mathlib.Core.List.{List, [], _∷_, _++_}
 use mathlib.Core.Path.{_≡_, refl}
-use lib.Count.{onesIn}
+use lib.Count.{onesIn, trailingZeros}
 use lib.Dec.{eqb}
+use lib.Ieee.{binary64, ofBits, ofFields, span, climb, size, odd, units, round, neg, div, ofInt}
+use lib.IntN.{pos, negsuc}
 use lib.ListN.{length, replicate}
+use Rattle.rules.specs.declared.Entry.{Entry}
+use Rattle.rules.specs.declared.Lookup.{Lookup}
+use Rattle.rules.specs.declared.Lookup.the-variants as lookup
+use Rattle.rules.specs.declared.SheetRead.{SheetRead}
+use Rattle.rules.specs.declared.Value.{Value}
+use Rattle.rules.specs.declared.Value.the-variants as value
 use Rattle.rules.specs.declared.IndexAnswer.{IndexAnswer}
 use Rattle.rules.specs.Bytes.{Bytes, sameBytes}
 use Rattle.rules.specs.Answers.{answerNumber, answerDetail}
@@ -35,6 +43,7 @@ use Rattle.rules.specs.State.{freshStart}
 use Rattle.rules.specs.Run.{Setting, Ended, run}
 use Rattle.rules.specs.Contract.{outputOf, errorsOf}
 use Rattle.rules.specs.Lines.{indexNumber, indexValue, wordsOf, totalsOf, building, heldBy, lineOf, startOf}
+use Rattle.rules.specs.Sheets.{sheetNumber, sheetDetail, sheetOf, sheetRead, sheetAfter, sheetReportOf, question}
 use Rattle.rules.proofs.Book.{book}
 
 setting : ℕ → ℕ → ℕ → ℕ → ℕ → ℕ → ℕ → ℕ → Setting
@@ -55,9 +64,21 @@ unfolding book
 builds number value text words totals w t =
     answers number value (building text words totals)
     && sameBytes (heldBy (building text words totals) (wordsOf text) words) w && sameBytes (heldBy (building text words totals) (totalsOf text) totals) t
+
+-- what a text read as a sheet comes to: number, detail and lines
+reads : ℕ → ℕ → List Entry → SheetRead → Type 0
+reads number detail lines r = (sheetNumber (r .answer) ≡ number) × (sheetDetail (r .answer) ≡ detail) × (r .sheet ≡ sheetOf lines)
+
+-- the same of a run, with its steps and place, output and error text
+follows : ℕ → ℕ → ℕ → ℕ → Bytes → Bytes → List Entry → Ended → Type 0
+follows number detail steps place output errors lines e =
+    reads number detail lines (sheetAfter e) × reads number detail lines (record { answer = sheetReportOf e .answer; sheet = sheetReportOf e .sheet })
+    × (sheetReportOf e .steps ≡ steps) × (sheetReportOf e .place ≡ place) × (sheetReportOf e .output ≡ length output) × (sheetReportOf e .errors ≡ length errors)
+    × (outputOf e ≡ output) × (errorsOf e ≡ errors)
 """
-# what the second column of the index of lines has; a run has a text there, in hexadecimal
+# what the second column of the index of lines has, and that of sheets; a run has a text there, in hexadecimal
 INDEX = ("build", "line", "start")
+SHEETS = ("read", "sheet", "question")
 
 
 def listed(data):
@@ -69,7 +90,7 @@ def unhex(word):
 
 
 def left_out(fields):
-    return fields[1] not in INDEX and any(left(unhex(fields[1]), unhex(fields[2])) for left in LEFT_OUT)
+    return fields[1] not in INDEX + SHEETS and any(left(unhex(fields[1]), unhex(fields[2])) for left in LEFT_OUT)
 
 
 def of_run(fields):
@@ -98,9 +119,51 @@ def of_index(fields):
     return "answers %s %s (%s %s %s %s)" % (number, value, {"line": "lineOf", "start": "startOf"}[function], text, lent, asked)
 
 
+def of_value(reading):
+    """A reading of tests/sheets.tsv, as the book writes it."""
+    kind, _, rest = reading.partition(" ")
+    if kind == "number":
+        number = int(rest)
+        return "(value.Number (%s))" % ("pos %d" % number if number >= 0 else "negsuc %d" % (-number - 1))
+    if kind == "decimal":
+        return "(value.Decimal (ofBits binary64 %d))" % int(rest, 16)
+    if kind != "word":
+        sys.exit("no reading: %s" % reading)
+    return "(value.Word %s %s)" % tuple(rest.split("+"))
+
+
+def of_lines(word):
+    """The lines of a sheet; no sheet has none."""
+    entries = []
+    for line in [] if word in ("[]", "none") else word.split(";"):
+        name, _, reading = line.partition(" ")
+        entries.append("record { name = %s; length = %s; value = %s }" % (*name.split("+"), of_value(reading)))
+    return "(" + "".join("%s ∷ " % entry for entry in entries) + "[])"
+
+
+def of_sheet(fields):
+    """That a text read, a run or a question gives what the line says: a statement, and how many parts it has."""
+    _, function, text, lent, name, number, detail, steps, place, output, errors, result, _ = fields
+    data = listed(unhex(text))
+    if function == "question":
+        found = "lookup.Absent" if result == "absent" else "lookup.Found %s" % of_value(result)
+        return "question (sheetOf %s) %s %s ≡ %s" % (of_lines(lent), data, listed(unhex(name)), found), "refl"
+    if function == "read":
+        return "reads %s %s %s (sheetRead %s)" % (number, detail, of_lines(result), data), "(refl, refl, refl)"
+    run = "(run (freshStart %s (0 ∷ [])) (setting %s 16777216))" % (data, lent.replace(",", " "))
+    said = "follows %s %s %s %s %s %s %s %s" % (number, detail, steps, place, listed(unhex(output)), listed(unhex(errors)), of_lines(result), run)
+    return said, "((refl, refl, refl), (refl, refl, refl), refl, refl, refl, refl, refl, refl)"
+
+
 def statement(number, fields):
-    test = of_index(fields) if fields[1] in INDEX else of_run(fields)
-    return "\nline%d : %s ≡ true\nunfolding book onesIn meets setting answers builds\nline%d = refl\n" % (number, test, number)
+    if fields[1] in SHEETS:
+        said, shown = of_sheet(fields)
+    else:
+        said, shown = "%s ≡ true" % (of_index(fields) if fields[1] in INDEX else of_run(fields)), "refl"
+    opened = "book onesIn meets setting answers builds"
+    if fields[1] in SHEETS:
+        opened += " reads follows ofBits ofFields span climb size odd units round neg div ofInt trailingZeros"
+    return "\nline%d : %s\nunfolding %s\nline%d = %s\n" % (number, said, opened, number, shown)
 
 
 def read(path):
@@ -140,7 +203,7 @@ def check(rows):
 
 
 def main():
-    tables = sys.argv[1:] or [os.path.join(ROOT, "tests", name) for name in ("vectors.tsv", "lines.tsv")]
+    tables = sys.argv[1:] or [os.path.join(ROOT, "tests", name) for name in ("vectors.tsv", "lines.tsv", "sheets.tsv")]
     rows = [fields for path in tables for fields in read(path)]
     kept = [(i, fields) for i, fields in enumerate(rows) if not left_out(fields)]
     wrong = check(kept)

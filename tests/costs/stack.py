@@ -1,11 +1,13 @@
 #!/usr/bin/env python3
-"""A whole call of `expand` needs at most 1.25 MiB of stack, and so does one with a set.
+"""A whole call of `expand` needs at most 1.25 MiB of stack, and so does one with a set, and one that reads a sheet too. Reading alone needs at most 128 KiB, and a question by
+name 16 KiB.
 
 The program lends its own buffers from the stack, 524,289 bytes; it is run with a stack limit of that, 1.25 MiB and 16 KB for the start of a process, on the worst
 texts of each macro (worst_texts.py) and on those here, and must give what is written there. Nothing of the expander calls itself but the readers of an
 expression, so these have the deepest stack: 32 nestings, with an operator of each level open in every one of them and inside the last.
-Runs with a set are made by set_runs.c, which lends nothing from the stack, with the same limit less the buffers.
-A limit that is 400 KB smaller must end the program by a signal, or the limit would show nothing. Ends with 'N passed, M failed'; exit status 0 only if M is 0.
+Runs with a set are made by set_runs.c, which lends nothing from the stack, with the same limit less the buffers. Those of the sheet are made by sheet_stack.c in a thread
+with such a stack.
+A limit that is 400 KB smaller, and for reading 80 KB, must end the program by a signal, or the limit would show nothing. Ends with 'N passed, M failed'; exit status 0 only if M is 0.
 """
 import os
 import resource
@@ -16,7 +18,7 @@ import tempfile
 sys.dont_write_bytecode = True
 sys.path.insert(0, os.path.join(os.path.dirname(os.path.abspath(__file__)), "..", "shared"))
 import set_runs  # noqa: E402
-from places import program  # noqa: E402
+from places import ROOT, program  # noqa: E402
 from tally import finish, judge  # noqa: E402
 from worst_texts import END, WORST, Piece, joined, made, opened, run  # noqa: E402
 
@@ -25,6 +27,10 @@ BUFFERS = 65537 + 7 * 65536
 WITH_SET = 1280 * 1024 + 16 * 1024
 ENOUGH = BUFFERS + WITH_SET
 TOO_LITTLE = 400 * 1024  # less than that
+# of the functions of the sheet, with 16 KB for the start of a thread
+SHEET = {"expand": WITH_SET, "read": (128 + 16) * 1024, "find": (16 + 16) * 1024}
+READ_TOO_LITTLE = 80 * 1024  # less than that
+SHEET_STACK = os.path.join(os.path.dirname(os.path.abspath(__file__)), "sheet_stack.c")
 LEVELS = b"0||1&&0|0^1&1==1<1<<0+1*"  # before an operand of 1 it comes to 1, and every side is worked out
 
 
@@ -66,6 +72,26 @@ def included():
     return set_runs.Run(before.text, set_runs.written(items), steps, (0, 0, steps, len(before.text), len(text), 0), text)
 
 
+def longest_sheet():
+    """256 lines of 256 bytes."""
+    return b"".join(b"x" * 250 + b"%03d=1\n" % number for number in range(256))
+
+
+# what is asked, the text, and the answer, the detail or bad line, the count of lines and the line that is found
+SHEET_RUNS = [
+    ("expand", "eval, 32 deep with all levels open", b"a=eval(" + nested(32) + b")", b"0 0 1 256\n"),
+    ("expand", "the longest sheet", longest_sheet(), b"0 0 256 256\n"),
+    ("expand", "no sheet", b"a", b"20 1 0 256\n"),
+    ("expand", "a refusal", b"`", b"5 1 0 256\n"),
+    ("read", "the longest sheet", longest_sheet(), b"0 0 256 256\n"),
+    ("read", "one decimal", b"a=-1234567.12345678", b"0 0 1 256\n"),
+    ("read", "a name given twice, in the last line", longest_sheet().replace(b"x255=1", b"x000=1"), b"21 256 0 256\n"),
+    ("read", "257 lines", longest_sheet().replace(b"x" * 250 + b"254=1\n", b"a=1\nb=1\n"), b"22 257 0 256\n"),
+    ("read", "no sheet", b"?" * 65536, b"20 1 0 256\n"),
+    ("find", "the longest sheet", longest_sheet(), b"0 0 256 256\n"),
+]
+
+
 RUNS = {
     "the empty text": run(b"", END),
     "eval, 32 deep with all levels open": deepest(),
@@ -93,6 +119,19 @@ def hold_smaller(name, done):
     judge(name, done.returncode < 0, "it is enough too: this measures nothing")
 
 
+def sheets(folder):
+    driver = os.path.join(folder, "sheet_stack")
+    words = ["gcc", "-O2", "-Wall", "-Wextra", "-Werror", "-I", os.path.join(ROOT, "include"), "-pthread", "-o", driver, SHEET_STACK, set_runs.LIBRARY]
+    subprocess.run(words, check=True)
+    run = lambda function, text, stack: subprocess.run([driver, function, str(stack)], input=text, capture_output=True)
+    for function, name, text, told in SHEET_RUNS:
+        done = run(function, text, SHEET[function])
+        judge("the sheet, %s: %s" % (function, name), (done.returncode, done.stdout) == (0, told),
+              "exit status %d in %d bytes of stack, %r instead of %r" % (done.returncode, SHEET[function], done.stdout, told))
+    hold_smaller("a much smaller stack, expanding a sheet", run("expand", b"", SHEET["expand"] - TOO_LITTLE))
+    hold_smaller("a much smaller stack, reading a sheet", run("read", b"", SHEET["read"] - READ_TOO_LITTLE))
+
+
 def main():
     for name, wanted in RUNS.items():
         hold(name, limited([PROGRAM], wanted.text, ENOUGH), wanted.output, wanted.errors)
@@ -103,6 +142,7 @@ def main():
         for name, wanted in RUNS_WITH_SET.items():
             hold(name, limited(driver, set_runs.asked([wanted]), WITH_SET), set_runs.told([wanted]), b"")
         hold_smaller("a much smaller stack, with a set", limited(driver, set_runs.asked([judged()]), WITH_SET - TOO_LITTLE))
+        sheets(folder)
     finish()
 
 

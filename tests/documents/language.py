@@ -4,7 +4,7 @@
 An indented line of the page is a template and what comes of it. A block m4 is a template, called mast.m4; the next block is its sheet, or the message
 of its refusal ('...' for lines that are left out), or lines for the shell, whose output is the block text behind them. A block `file NAME` is a file
 below the folder common, which the examples behind it in its section may include (-I common). What the page expects was written by hand from document 01
-and requests 1, 2, 3 and 7 of 02. Ends with 'N passed, M failed'; exit status 0 only if M is 0.
+and requests 1, 2, 3, 4 and 7 of 02. Ends with 'N passed, M failed'; exit status 0 only if M is 0.
 """
 import collections
 import os

@@ -1,8 +1,8 @@
 #!/usr/bin/env python3
-"""The expander from C and C++: include/quenhovach.h, the archive target/staticlib/libquenhovach.a, and the program of examples/c.
+"""The expander from C and C++: include/quenhovach.h, the archive target/staticlib/libquenhovach.a, and the programs of examples/c.
 
-Every expected answer and byte is written by hand from documents 01 and 02; tests/lines.tsv has those of the index of lines. Ends with
-'N passed, M failed'; exit status 0 only if M is 0.
+Every expected answer and byte is written by hand from documents 01 and 02; tests/sheets.tsv has those of the sheet, tests/lines.tsv those of the index of
+lines. Ends with 'N passed, M failed'; exit status 0 only if M is 0.
 """
 import os
 import re
@@ -12,7 +12,9 @@ import tempfile
 
 sys.dont_write_bytecode = True
 sys.path.insert(0, os.path.join(os.path.dirname(os.path.abspath(__file__)), "..", "shared"))
+import c_controller  # noqa: E402
 import c_lines  # noqa: E402
+import c_sheets  # noqa: E402
 from places import ARCHIVE, ROOT  # noqa: E402
 from tally import check, finish, stop  # noqa: E402
 
@@ -22,15 +24,19 @@ C99 = ["gcc", "-std=c99"] + STRICT
 CPP = ["g++", "-std=c++11", "-x", "c++"] + STRICT
 OLD = 0xA5
 
-# 01's table of answers, its list of buffers, the three ways to be unclosed, and the order of the numbers; 02's refusals of the index of lines
+# 01's table of answers, its list of buffers, the three ways to be unclosed, and the order of the numbers; 02's refusals of the sheet and of the
+# index of lines, and the kinds of a reading
 CONSTANTS = {
     "": (0, "DONE EXIT LEND SPENT ROOM UNCLOSED NAME NUMBER EXPRESSION DIVISOR MARK NO_TEXT GONE DEEP BAD_SET NO_ITEM NO_DEFINITION"),
     "BUFFER_": (1, "PENDING CALLS DEFINITIONS STREAMS WRAP ERRORS OUTPUT"),
     "UNCLOSED_": (1, "QUOTE COMMENT CALL"),
     "REPORT_": (0, "NUMBER DETAIL STEPS PLACE OUTPUT ERRORS LENGTH"),
+    "SHEET_": (20, "MALFORMED TWICE TOO_MANY"),
+    "READING_": (1, "NUMBER DECIMAL WORD"),
     "LINES_": (30, "TOO_LONG BEYOND NO_LINE NO_ROOM"),
 }
-EXPORTED = ["quenhovach_expand", "quenhovach_lines_build", "quenhovach_lines_line_of", "quenhovach_lines_start_of"]
+EXPORTED = ["quenhovach_expand", "quenhovach_lines_build", "quenhovach_lines_line_of", "quenhovach_lines_start_of",
+            "quenhovach_sheet_expand", "quenhovach_sheet_find", "quenhovach_sheet_read"]
 
 # A call as the command line says: seven lengths ("-": length 0, and null for a pointer), a budget, the text's length and the set's ("-" again);
 # text and set are on standard input. Writes what came back, the report, and then all that the buffers hold.
@@ -168,6 +174,7 @@ def test_header(folder):
             lines.append("typedef char check_%s[%s == %d ? 1 : -1];" % (name, name, number))
     lines.append("typedef char check_longest[QUENHOVACH_MAX_LENGTH == 65536 ? 1 : -1];")
     lines.append("typedef char check_longest_set[QUENHOVACH_MAX_SET_LENGTH == 1048576 ? 1 : -1];")
+    lines.append("typedef char check_sheet[QUENHOVACH_SHEET_LINES == 256 && sizeof(quenhovach_line) == 40 && sizeof(quenhovach_sheet) == 1281 * 8 ? 1 : -1];")
     for length, count in (("0", 1), ("63", 1), ("63 + 1", 2), ("QUENHOVACH_MAX_LENGTH", 1025)):
         lines.append("typedef char check_words_%d_%d[QUENHOVACH_LINES_WORDS(%s) == %d ? 1 : -1];" % (len(lines), count, length, count))
     source = os.path.join(folder, "header.c")
@@ -231,7 +238,18 @@ def test_lines(folder):
     """Each line of tests/lines.tsv through the header, as C and as C++."""
     cases = list(c_lines.cases())
     check("tests/lines.tsv has lines", len(cases) > 30, True)
-    for language, caller in callers(folder, "caller-of-lines", c_lines.CALLER):
+    test_table(folder, "caller-of-lines", c_lines.CALLER, cases)
+
+
+def test_sheets(folder):
+    """Each line of tests/sheets.tsv through the header, as C and as C++."""
+    cases = list(c_sheets.cases())
+    check("tests/sheets.tsv has lines", len(cases) > 40, True)
+    test_table(folder, "caller-of-sheets", c_sheets.CALLER, cases)
+
+
+def test_table(folder, program, source, cases):
+    for language, caller in callers(folder, program, source):
         for name, words, text, told in cases:
             done = subprocess.run([caller] + words, input=text, capture_output=True)
             check("%s, %s" % (name, language[1]), (done.returncode, done.stdout), (0, told))
@@ -270,7 +288,7 @@ def test_includes(program, shown):
 
 
 def test_program(folder):
-    """The program of examples/c, built as its README says."""
+    """The program expand_file of examples/c, built as its README says."""
     readme = open(os.path.join(EXAMPLE, "README.md"), encoding="utf-8").read()
     command = re.search(r"^    (gcc .*)$", readme, re.M).group(1)
     program = os.path.join(folder, "expand_file")
@@ -287,14 +305,14 @@ def test_program(folder):
     done = subprocess.run([program, os.path.join(EXAMPLE, "mast.m4")], capture_output=True)
     sheet = b"mast tall\nfilter_gain 12\nfrozen_after_ms 100\n"
     check("the program: mast.m4", (done.stdout, done.stderr, done.returncode), (sheet, b"", 0))
-    shown = [re.sub(r"(?m)^    ", "", block) for block in re.findall(r"(?:^    .*\n)+", readme, re.M)]
+    shown = c_controller.blocks(readme)
     check("the sheet in the README", shown[1].encode(), sheet)
     done = subprocess.run(["sh", "-c", shown[2].replace("target/", "./")], cwd=folder, capture_output=True, text=True)
     told = "expand_file: target/open.m4:2:6: no sheet: the template ends inside a quote (answer 5 1, after 6 steps and 15 bytes)\n"
     check("the refusal in the README", (done.stdout, done.stderr, done.returncode), ("", told.replace("target/", "./"), 1))
     check("the message in the README", shown[3:4], [told])
     check("and in the one at the root", "\n    " + told in open(os.path.join(ROOT, "README.md"), encoding="utf-8").read(), True)
-    test_includes(program, shown[4:])
+    test_includes(program, shown[4:8])
     for name, words, redirection, message in [
         ("no file named", "", "", b"usage: expand_file FILE [INCLUDED]...\n"),
         ("a file that is not there", "nothing-here", "", b"expand_file: nothing-here: the file could not be read\n"),
@@ -307,12 +325,25 @@ def test_program(folder):
         check("the program: " + name, (done.stdout, done.stderr, done.returncode), (b"", message, 1))
 
 
+def test_controller(folder):
+    """The controller of examples/c, built as its README says, and as C++."""
+    shown = c_controller.blocks(open(os.path.join(EXAMPLE, "README.md"), encoding="utf-8").read())[8:]
+    command, program = shown[0].split("\n")[0], os.path.join(folder, "controller")
+    if build("the controller", command.replace("target/controller", program).split()):
+        c_controller.try_templates(program, folder)
+        c_controller.try_readme(program, folder, ROOT, shown)
+    for language in (CPP, ["g++", "-std=c++17", "-x", "c++"] + STRICT):
+        build("the controller, " + language[1], language + ["-c", os.path.join(EXAMPLE, "controller.c"), "-o", program + ".o"])
+
+
 if not os.path.exists(ARCHIVE):
     stop("target/staticlib/libquenhovach.a is missing: `rt staticlib quenhovach` writes it")
 with tempfile.TemporaryDirectory() as scratch:
     test_header(scratch)
     test_archive()
     test_calls(scratch)
+    test_sheets(scratch)
     test_lines(scratch)
     test_program(scratch)
+    test_controller(scratch)
 finish()

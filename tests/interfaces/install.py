@@ -20,7 +20,8 @@ from tally import check, finish  # noqa: E402
 
 FIVE = b"define(`n',`5')n"
 HEADER = os.path.join(ROOT, "include", "quenhovach.h")
-EXPORTED = ["quenhovach_expand", "quenhovach_lines_build", "quenhovach_lines_line_of", "quenhovach_lines_start_of"]
+EXPORTED = ["quenhovach_expand", "quenhovach_lines_build", "quenhovach_lines_line_of", "quenhovach_lines_start_of",
+            "quenhovach_sheet_expand", "quenhovach_sheet_find", "quenhovach_sheet_read"]
 NO_BUILD = tempfile.TemporaryDirectory()  # tools that must not be called
 
 # a call in just the room that document 01 names for this text, and the numbers that it names; then the line of a place, which is the second

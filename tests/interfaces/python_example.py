@@ -1,7 +1,7 @@
 #!/usr/bin/env python3
 """The expander from Python: examples/python/quenhovach.py over a shared object that is made of target/staticlib/libquenhovach.a as its README says.
 
-Every expected answer and byte is written by hand from documents 01 and 02, and line and column counted through the text; those of the README's example are in c_example.py and tests/documents/examples.py too.
+Every expected answer and byte is written by hand from documents 01 and 02, those of sheets in tests/sheets.tsv, and line and column counted through the text; those of the README's example are in c_example.py and tests/documents/examples.py too.
 Ends with 'N passed, M failed'; exit status 0 only if M is 0.
 """
 import ast
@@ -11,6 +11,7 @@ import io
 import os
 import pickle
 import re
+import struct
 import subprocess
 import sys
 import tempfile
@@ -24,7 +25,7 @@ from tally import check, finish, stop  # noqa: E402
 EXAMPLE = os.path.join(ROOT, "examples", "python")
 sys.path.insert(0, EXAMPLE)
 import quenhovach  # noqa: E402
-from quenhovach import Answer, Buffer, Exited, Expander, NotDone, Refused, Report, Sheet, Unclosed  # noqa: E402
+from quenhovach import Answer, BadSheet, Buffer, Exited, Expander, Fault, NotDone, Reading, Refused, Report, Sheet, Unclosed  # noqa: E402
 
 OLD = b"\xa5"
 N_IS_5 = b"define(`n',`5')n"
@@ -33,11 +34,13 @@ LEVELS = b"0||1&&0|0^1&1==1<1<<0+1*"  # an operator of each level; before an ope
 ALONE = "import sys; sys.path.insert(0, sys.argv[1]); from quenhovach import *; "
 DEEPEST = b"eval(" + (LEVELS + b"(") * 32 + LEVELS + b"1" + b")" * 33
 
-# 01's table of answers, its list of buffers, the three ways to be unclosed
+# 01's table of answers, its list of buffers, the three ways to be unclosed; 02's refusals of a sheet and its kinds of readings
 NAMES = {
     Answer: (0, "DONE EXIT LEND SPENT ROOM UNCLOSED NAME NUMBER EXPRESSION DIVISOR MARK NO_TEXT GONE DEEP BAD_SET NO_ITEM NO_DEFINITION"),
     Buffer: (1, "PENDING CALLS DEFINITIONS STREAMS WRAP ERRORS OUTPUT"),
     Unclosed: (1, "QUOTE COMMENT CALL"),
+    Fault: (20, "MALFORMED TWICE TOO_MANY"),
+    Reading: (1, "NUMBER DECIMAL WORD"),
 }
 
 JUST = dict(pending=1, calls=8, definitions=2, streams=0, wrap=0, errors=0, output=1, budget=8)
@@ -223,6 +226,82 @@ def sets(library):
     check("a set of what is no text", type(ended(quenhovach.make_set, [("a", 5)])), TypeError)
 
 
+BUFFERS = ("pending", "calls", "definitions", "streams", "wrap", "errors", "output")
+
+
+def table():
+    """The lines of tests/sheets.tsv that read a text or expand one; questions are what a dict answers. Gives label, text, the buffers' lengths or none, number, detail and settings."""
+    for line in open(os.path.join(ROOT, "tests", "sheets.tsv"), encoding="utf-8"):
+        if line.startswith("#") or line.split("\t")[1] == "question":
+            continue
+        label, function, text, lent, _, number, detail, _, _, output, _, lines = line.split("\t")[:12]
+        read = text if function == "read" else output
+        lengths = dict(zip(BUFFERS, map(int, lent.split(",")))) if function == "sheet" else None
+        yield label, unhex(text), lengths, int(number), int(detail), [setting(unhex(read), field) for field in lines.split(";") if field not in ("[]", "none")]
+
+
+def unhex(field):
+    return b"" if field == "-" else bytes.fromhex(field)
+
+
+def setting(text, field):
+    """A line of the table: name, type and value; of a float its bits."""
+    name, kind, value = field.split(" ")
+    if kind == "number":
+        return part(text, name), int, int(value)
+    if kind == "decimal":
+        return part(text, name), float, int(value, 16)
+    return part(text, name), str, part(text, value)
+
+
+def part(text, span):
+    place, length = map(int, span.split("+"))
+    return text[place:place + length].decode()
+
+
+def seen(settings):
+    """The same of a dict."""
+    return [(name, type(value), struct.unpack("<Q", struct.pack("<d", value))[0] if isinstance(value, float) else value) for name, value in settings.items()]
+
+
+def settings(library):
+    """Each line of the table, and what can't be overlooked."""
+    rows = list(table())
+    check("tests/sheets.tsv has lines", (sum(row[2] is None for row in rows) > 25, sum(row[2] is not None for row in rows) > 5), (True, True))
+    for label, text, lengths, number, detail, expected in rows:
+        if lengths is None:
+            got = ended(quenhovach.read_settings, text, library)
+        else:
+            got = ended(Expander(library=library, **lengths).settings, text)
+        name = "settings, %s of %.40r" % (label, text)
+        if number == 0:
+            check(name, seen(got) if isinstance(got, dict) else got, expected)
+        elif number >= 20:
+            check(name, (type(got), getattr(got, "fault", got), getattr(got, "line", got)), (BadSheet, Fault(number), detail))
+        else:
+            report = getattr(got, "report", None)
+            check(name, report and (report.number, report.detail), (number, detail))
+    expander = Expander(library=library)
+    for text, fault, line, bad, said in [
+        (b"a=1\nb = 2\nc", 20, 2, b"b = 2", "no settings: line 2 is no setting: b'b = 2'"),
+        (b"a=1\n\n", 20, 2, b"", "no settings: line 2 is no setting: b''"),
+        (b"a=1\nb=2\na=\xff", 20, 3, b"a=\xff", "no settings: line 3 is no setting: b'a=\\xff'"),
+        (b"a=1\nb=2\na=3", 21, 3, b"a=3", "no settings: line 3 gives a setting again: b'a=3'"),
+        (b"".join(b"n%d=1\n" % i for i in range(257)), 22, 257, b"n256=1", "no settings: line 257 is one too many: b'n256=1'"),
+    ]:
+        for name, run in (("read", lambda text: quenhovach.read_settings(text, library)), ("expanded", lambda text: quenhovach.expand_settings(text, expander))):
+            got = ended(run, text)
+            check("a bad sheet, %s: %.20r" % (name, text), (type(got), got.fault, got.line, got.text, str(got)), (BadSheet, Fault(fault), line, bad, said))
+            check("and in another process", str(pickle.loads(pickle.dumps(got))), said)
+    with contextlib.redirect_stderr(io.StringIO()) as told:
+        check("settings with error text", quenhovach.expand_settings(b"errprint(`w')gain=0.5", expander), {"gain": 0.5})
+    check("the error text of settings", told.getvalue(), "w")
+    check("settings before m4exit", type(ended(expander.settings, b"gain=0.5\nm4exit(0)")), Exited)
+    check("settings of a bytearray", quenhovach.read_settings(bytearray(b"gain=1"), library), {"gain": 1})
+    check("settings of a str", type(ended(quenhovach.read_settings, "gain=1", library)), TypeError)
+    check("a sheet of 100,000 bytes", quenhovach.read_settings(b"gain=" + b"0" * 99994 + b"7", library), {"gain": 7})
+
+
 def reuse(library):
     """One run after another in the same buffers, which only a finished one writes to."""
     expander = Expander(library=library, output=6)
@@ -296,8 +375,9 @@ def stacks(library):
 
 
 def example(library):
-    _, program, shown = readme_blocks()
+    _, program, shown, reader, settings_shown = readme_blocks()
     check("the README's example", python(program.replace("target/libquenhovach.so", library)), (0, shown + "\n", ""))
+    check("the README's settings", python(reader.replace("target/libquenhovach.so", library)), (0, settings_shown + "\n", ""))
     spring = open(os.path.join(ROOT, "examples", "frozen", "spring.m4"), "rb").read()
     check("line and column in the README", shown.endswith(", place 1207 (line %d, column %d)" % counted(spring, 5, 1207)), True)
     os.symlink(library, os.path.join(os.path.dirname(library), "libquenhovach.so.0"))
@@ -328,7 +408,7 @@ def main():
     with tempfile.TemporaryDirectory() as folder:
         library = os.path.join(folder, "libquenhovach.so")
         build(library)
-        for part in (calls, sheets, sets, misuse, reuse, threads, stacks, example):
+        for part in (calls, sheets, sets, settings, misuse, reuse, threads, stacks, example):
             part(library)
     finish()
 

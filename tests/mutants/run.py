@@ -40,6 +40,7 @@ TESTS = [
     ("gnu", "tests/gnu/run.py", []),
     ("examples", "tests/documents/examples.py", []),
     ("stack", "tests/costs/stack.py", []),
+    ("sheet_cost", "tests/costs/sheet_cost.py", []),
     ("lines_cost", "tests/costs/lines_cost.py", []),
     ("set_cost", "tests/costs/set_cost.py", []),
     ("step_costs", "tests/costs/step_costs.py", []),
@@ -55,6 +56,8 @@ PARTS = [
     ("names of one bucket", "", "one bucket"),
     ("tables of many names", "", "tables"),
     ("sets of every form", "", "sets"),
+    ("sheets.tsv", "", "sheets.tsv"),
+    ("decimals of every shape", "", "decimals"),
     ("lines.tsv", "", "lines.tsv"),
     ("against counting", "", "counting"),
     ("third demand", "", "third demand"),
@@ -62,6 +65,8 @@ PARTS = [
     ("between inaccessible pages", "SIGSEGV", "trap"),
     ("cases under valgrind", "exit status 9 ", "valgrind"),
     ("valgrind finds", "", "its own checks"),
+    ("the sheet in", "", "random sheets"),
+    ("around a sheet", "", "random sheets"),
     ("index of lines", "", "random indexes"),
     ("", "", "random cases"),
 ]
@@ -85,11 +90,12 @@ FOOT = """
 Of `differential` (tests/differential/run) the table names what showed the fault: `vectors`, the lines of tests/vectors.tsv through the archive; `each byte` wherever
 its class is asked for, `each name` that is predefined wherever it may stand, `open comments` wherever one may begin, `copies` of each meaning onto names of every kind,
 names of `one bucket` changed in every order, `tables` of hundreds of names, many of them in one bucket, `sets` that are good, damaged, cut and as long as may be,
-and `random cases`, on which archive and model differ; `lines.tsv`, the vectors of the index of lines,
+and `random cases`, on which archive and model differ; `sheets.tsv`, the vectors of the sheet, `decimals` of every shape, and `random sheets`, on which archive and model
+differ; `lines.tsv`, the vectors of the index of lines,
 `counting` through the text, which gives another line, start or index, and `random indexes`, on which archive and model differ; `third demand`, two settings that break
 the letter's third demand; `huge lengths`, above 4,294,967,295; `trap`, a read or write outside of what is lent, between inaccessible pages; `valgrind`, the same or the
 use of what was there before.
-`lines_cost` counts the instructions of the index of lines, `set_cost` those of judging a set and of an include. `step_costs` takes more than a minute, and was tried
+`sheet_cost` counts the instructions of the sheet, `lines_cost` those of the index of lines, `set_cost` those of judging a set and of an include. `step_costs` takes more than a minute, and was tried
 only on what no other test caught.
 
 Compiled code does not check an index: what a read or write outside comes to may differ from run to run, but for the trap and valgrind.

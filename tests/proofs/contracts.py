@@ -1,9 +1,10 @@
 #!/usr/bin/env python3
-"""contracts.py [CRATE..]: nothing that a public function of the leaves promises can be dropped unseen.
+"""contracts.py [CRATE..]: nothing that a public function of the leaves promises can be dropped unseen; nor of `sheet`, where that is named.
 
-Not part of the gate: it takes minutes. For each public function, in a copy of the tree, its `ensures` lines are removed and its proof is made to fit (each
-`returns` answered by search, and so each answer in place that cites the law of one). Then one of its must-fail edits has to be proved, which makes
-incremental_edits.py fail. The callers in the crate whose proofs break besides are listed. Ends with 'N passed, M failed'; exit status 0 only if M is 0.
+Not part of the gate: it takes minutes, and `sheet`, which stands on the expander, the time of the expander's proofs besides. For each public function, in a copy
+of the tree, its `ensures` lines are removed and its proof is made to fit (each `returns` answered by search, and so each answer in place that cites the law of
+one). Then one of its must-fail edits has to be proved, which makes incremental_edits.py fail. The callers in the crate whose proofs break besides are listed.
+Ends with 'N passed, M failed'; exit status 0 only if M is 0.
 """
 import glob
 import os
@@ -75,9 +76,10 @@ def try_crate(crate, tree):
 
 
 def main():
+    crates = sys.argv[1:] or LEAVES
     with tempfile.TemporaryDirectory() as tree:
-        edits.copy_tree(tree, LEAVES)
-        for crate in sys.argv[1:] or LEAVES:
+        edits.copy_tree(tree, crates)
+        for crate in crates:
             try_crate(crate, tree)
     finish()
 

@@ -25,7 +25,7 @@ import refused  # noqa: E402
 from places import ROOT  # noqa: E402
 from tally import count, fail, finish  # noqa: E402
 
-CRATES = ["answers", "ascii", "hashing", "builtins", "container", "numerals", "matching", "expression", "lines", "expander", "quenhovach"]
+CRATES = ["answers", "ascii", "hashing", "builtins", "container", "numerals", "matching", "expression", "lines", "expander", "sheet", "quenhovach"]
 SMALLEST = "answers"
 
 

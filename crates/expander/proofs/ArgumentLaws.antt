@@ -1,12 +1,13 @@
 -- Laws of the arguments of a closed call: where one stands, how many and how long they are, and what number one is. Assumes nothing.
-use Rattle.rules.proofs.Base.{_≤_, _+_, ℕ, _-_, _<_, suc, zero, _^_, _%_, _∙_, refl, sym, ap, _≡_, subst, true, Bool, false, some, none, Option, List, [], _∷_, arith, eqb, leb, ltb, pos, ℤ, negsuc, negℤ, length, take, getD, length-append, length-drop, drop-of-length-le, length-take, List·getD-eq-default, List·getD-append, drop-cons, getD-take, getD-drop, getD-append-add, le-leb, leb-true, lt-leb, leb-false, ltb-true, ltb-false, lt-ltb, le-ltb}
+use Rattle.rules.proofs.Base.{_≤_, _+_, ℕ, _-_, _<_, suc, zero, _^_, _%_, _∙_, refl, sym, ap, _≡_, subst, true, Bool, false, some, none, Option, List, [], _∷_, arith, leb, ltb, pos, ℤ, negsuc, length, take, getD, length-append, length-drop, drop-of-length-le, length-take, List·getD-eq-default, List·getD-append, drop-cons, getD-take, getD-drop, getD-append-add, le-leb, leb-true, lt-leb, leb-false, ltb-true, ltb-false}
+pub use Rattle.numerals.proofs.Numbers.{Signed, bits-plain, bits-minus, signed-bits, number-range, Value, decimal-none, decimal-some}
 use Rattle.numerals.specs.declared.Decimal.{Decimal}
 use Rattle.numerals.specs.declared.Decimal.the-variants as read
 use Rattle.numerals.specs.declared.Natural.the-variants as found
 use Rattle.numerals.specs.Answers.{decimalOf, naturalOf}
 use Rattle.rules.specs.Bytes.{Bytes}
 use Rattle.rules.specs.Words.{signedValue, wrapped}
-use Rattle.rules.specs.Numerals.{natural, upTo, asSigned, number}
+use Rattle.rules.specs.Numerals.{number}
 use Rattle.rules.specs.Arguments.{arg, numberOr, bounded}
 use Rattle.rules.specs.Streams.{joined}
 use Rattle.numerals.specs.declared.Natural.{Natural}
@@ -101,56 +102,7 @@ span-long {bytes} {p} h = sym (part-long bytes (p .start) (p .end) (h .inside)) 
 
 -- ---- the number that an argument is
 
--- a number of 32 bits: from -2 ^ 31, which is `negsuc 2147483647`, to 2 ^ 31 - 1
-abbrev pub Signed : ℤ → Type 0
-Signed (pos n) = n ≤ 2147483647
-Signed (negsuc n) = n ≤ 2147483647
-
-signed-neg : (n : ℕ) → n ≤ 2147483648 → Signed (negℤ (pos n))
-signed-neg zero h = omega arith
-signed-neg (suc n) h = omega arith
-
--- the number that bits stand for
-pub bits-plain : (x : ℕ) → x ≤ 2147483647 → signedValue x ≡ pos x
-unfolding signedValue
-bits-plain x h = rw (lt-ltb x 2147483648 (omega arith))
-
-pub bits-minus : (x n : ℕ) → 2147483648 ≤ x → 4294967295 - x ≡ n → signedValue x ≡ negsuc n
-unfolding signedValue
-bits-minus x n h e = rw (le-ltb x 2147483648 h, e)
-
--- its bits stand for it
-pub signed-bits : (z : ℤ) → Signed z → signedValue (wrapped z) ≡ z
-unfolding wrapped
-signed-bits (pos n) h =
-    let e : n % 2 ^ 32 ≡ n = omega arith in
-    rw e (bits-plain n h)
-signed-bits (negsuc n) h =
-    let e : n % 2 ^ 32 ≡ n = omega arith in
-    rw e (bits-minus (4294967295 - n) n (omega arith) (omega arith))
-
--- what a text writes within a limit
-limited : (f : ℕ → ℤ) (l : ℕ) → ((n : ℕ) → n ≤ l → Signed (f n)) → (o : Option ℕ) (z : ℤ) → asSigned f (upTo l o) ≡ some z → Signed z
-unfolding asSigned upTo
-limited f l g none z e = let w : _≡_ {A = ℕ} 0 1 = cc in absurd (omega arith)
-limited f l g (some n) z e = go (leb n l) refl e
-  where
-    go : (t : Bool) → leb n l ≡ t → asSigned f (elim t [ true ↦ some n | false ↦ none ]) ≡ some z → Signed z
-    go true q k = let m : f n ≡ z = cc in subst Signed m (g n (leb-true n l q))
-    go false q k = let w : _≡_ {A = ℕ} 0 1 = cc in absurd (omega arith)
-
-pub number-range : (w : Bytes) (z : ℤ) → number w ≡ some z → Signed z
-unfolding number
-number-range [] z e = let w : _≡_ {A = ℕ} 0 1 = cc in absurd (omega arith)
-number-range (x ∷ xs) z e = go (eqb x 45) e
-  where
-    go : (t : Bool)
-        → elim t [ true ↦ asSigned (λ n. negℤ (pos n)) (upTo 2147483648 (natural 10 xs)) | false ↦ asSigned pos (upTo 2147483647 (natural 10 (x ∷ xs))) ] ≡ some z
-        → Signed z
-    go true q = limited (λ n. negℤ (pos n)) 2147483648 signed-neg (natural 10 xs) z q
-    go false q = limited pos 2147483647 (λ n h. h) (natural 10 (x ∷ xs)) z q
-
--- the same with a default
+-- with a default
 pub or-absent : (d n : ℕ) (args : List Bytes) → length args ≤ n - 1 → numberOr (pos d) n args ≡ some (pos d)
 unfolding numberOr
 or-absent d zero args h = refl
@@ -189,29 +141,6 @@ module _ {o : Option ℕ} {n : Natural} (e : n ≡ naturalOf o) where
       go : (o : Option ℕ) → naturalOf o ≡ found.Number x → o ≡ some x
       go none m = let z : _≡_ {A = ℕ} 0 1 = cc in absurd (omega arith)
       go (some y) m = cc
-
--- the same for a number of 32 bits
-pub record Value (o : Option ℤ) (bits : ℕ) : Type 0 where
-  pub value : ℤ
-  pub is : o ≡ some value
-  pub by-bits : bits ≡ wrapped value
-
-module _ {o : Option ℤ} {d : Decimal} (e : d ≡ decimalOf o) where
-  pub decimal-none : d ≡ read.NoNumber → o ≡ none
-  unfolding decimalOf
-  decimal-none k = go o (sym e ∙ k)
-    where
-      go : (o : Option ℤ) → decimalOf o ≡ read.NoNumber → o ≡ none
-      go none m = refl
-      go (some z) m = let w : _≡_ {A = ℕ} 0 1 = cc in absurd (omega arith)
-
-  pub decimal-some : (bits : ℕ) → d ≡ read.Number bits → Value o bits
-  unfolding decimalOf
-  decimal-some bits k = go o (sym e ∙ k)
-    where
-      go : (o : Option ℤ) → decimalOf o ≡ read.Number bits → Value o bits
-      go none m = let w : _≡_ {A = ℕ} 0 1 = cc in absurd (omega arith)
-      go (some z) m = record { value = z; is = refl; by-bits = cc }
 
 -- the bits of a default
 pub default-bits : (d : ℕ) → d ≤ 2147483647 → read.Number d ≡ decimalOf (some (pos d))

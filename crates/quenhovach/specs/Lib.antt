@@ -1,3 +1,4 @@
 pub mod Agreed
 pub mod Reported
 pub mod Looked
+pub mod Sheets

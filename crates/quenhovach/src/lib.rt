@@ -2,6 +2,7 @@
 ghost use Rattle.quenhovach.specs.Reported.{Reported};
 
 pub mod index;
+pub mod sheets;
 
 // Expands a text in lent buffers, under a budget of steps; what it includes is in the set. The report is number, detail, completed steps, place, count of output bytes
 // and count of error bytes; the number is also what is returned.

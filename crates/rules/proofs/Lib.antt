@@ -18,3 +18,4 @@ pub mod SameBytes
 pub mod Own
 pub mod Copies
 pub mod Sets
+pub mod Sheets

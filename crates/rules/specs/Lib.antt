@@ -30,5 +30,7 @@ pub mod Room
 pub mod Contract
 -- Which line is that? (02, request 6)
 pub mod Lines
+-- The sheet itself (02, request 4)
+pub mod Sheets
 -- Worked texts
 pub mod Cases

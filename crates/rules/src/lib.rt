@@ -161,3 +161,56 @@ pub enum IndexAnswer {
     NoLine,
     NoRoom,
 }
+
+// 02, request 4: a reading of a sheet, "a number as 01 has it, a decimal length or gain, or a word shaped like a name". A word has its place in the
+// written text.
+pub enum Value {
+    Number(i32),
+    Decimal(f64),
+    Word { place: usize, length: usize },
+}
+
+// A line of a sheet: the place and length of its name in the written text, and its reading.
+pub struct Entry {
+    pub name: usize,
+    pub length: usize,
+    pub value: Value,
+}
+
+// 02 "A sheet is lines": the first `count` of them; at most 256, "22 a 257th line".
+pub struct Sheet {
+    pub lines: [Entry; 256],
+    pub count: usize,
+}
+
+// 02 "returns its reading or `absent`".
+pub enum Lookup {
+    Found(Value),
+    Absent,
+}
+
+// How reading a sheet ends; a refusal has the number of its line.
+pub enum SheetAnswer {
+    Good,
+    Malformed(u32),
+    Twice(u32),
+    TooMany(u32),
+    // The run did not end done; this is its answer.
+    NotDone(Answer),
+}
+
+// What reading a text as a sheet returns.
+pub struct SheetRead {
+    pub answer: SheetAnswer,
+    pub sheet: Sheet,
+}
+
+// What expanding and reading returns: the six numbers of 01, by the answer's number and detail, and the sheet.
+pub struct SheetReport {
+    pub answer: SheetAnswer,
+    pub steps: u32,
+    pub place: u32,
+    pub output: u32,
+    pub errors: u32,
+    pub sheet: Sheet,
+}

@@ -19,9 +19,20 @@ pub fn run(text: &[u8], lengths: [usize; 7], budget: u32) -> Run {
 
 /// Expands a text with a set in buffers of these lengths.
 pub fn run_with(text: &[u8], set: &[u8], lengths: [usize; 7], budget: u32) -> Run {
-    let mut left = lengths.map(|length| vec![JUNK; length]);
-    let [pending, calls, definitions, streams, wrap, errors, output] = &mut left;
-    let buffers = Buffers {
+    let mut left = junk(lengths);
+    let report = expand(text, set, buffers(&mut left), budget);
+    Run { report, left }
+}
+
+/// Buffers of these lengths, full of junk.
+pub fn junk(lengths: [usize; 7]) -> [Vec<u8>; 7] {
+    lengths.map(|length| vec![JUNK; length])
+}
+
+/// All seven, to be lent.
+pub fn buffers(lent: &mut [Vec<u8>; 7]) -> Buffers<'_> {
+    let [pending, calls, definitions, streams, wrap, errors, output] = lent;
+    Buffers {
         pending,
         calls,
         definitions,
@@ -29,9 +40,7 @@ pub fn run_with(text: &[u8], set: &[u8], lengths: [usize; 7], budget: u32) -> Ru
         wrap,
         errors,
         output,
-    };
-    let report = expand(text, set, buffers, budget);
-    Run { report, left }
+    }
 }
 
 impl Run {

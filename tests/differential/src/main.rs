@@ -1,5 +1,5 @@
 //! The archive libquenhovach.a against the independent model of document 01 (tests/model), on random
-//! texts, sets and settings, and of the index of lines of document 02.
+//! texts, sets and settings, and of the sheet and the index of lines of document 02.
 //!
 //! Each command ends with a line 'N passed, M failed' and has exit status 0 only if M is 0.
 //!
@@ -26,6 +26,14 @@
 //! - `differential sets`: good sets with each of their bytes changed, removed or doubled, cut at each
 //!   place, of all lengths at which chunks turn, and about as long as may be; many of them between
 //!   inaccessible pages too.
+//! - `differential sheets SEED COUNT [FIRST]`: random cases of the sheet: texts that are read, that are
+//!   expanded and read, and lines of any kind that are asked for a name; every number, every byte of
+//!   the seven buffers, every word of the sheet and 16 guard bytes around each of them. From 20,000
+//!   cases on every way of request 4 must be taken.
+//! - `differential sheets-decimals SEED COUNT [FIRST]`: random sheets of 256 decimals.
+//! - `differential sheets-fences SEED COUNT [FIRST]`: random cases of the sheet against inaccessible
+//!   pages.
+//! - `differential sheets-vectors FILE`: the lines of a table like tests/sheets.tsv.
 //! - `differential lines SEED COUNT [FIRST]`: random cases of the index of lines; the answer, the
 //!   line or start, every word and total and 16 guard bytes around each of them. From 20,000 cases
 //!   on every way of request 6 must be taken.
@@ -36,13 +44,15 @@
 //! - `differential lines-vectors FILE`: the lines of a table like tests/lines.tsv.
 //! - `differential huge`: lengths above 4,294,967,295.
 //! - `differential memcheck SEED COUNT`: random cases in blocks of the heap, to be run under
-//!   valgrind; `lines-memcheck SEED COUNT [FIRST]` for the index. `memcheck-outside`, `memcheck-undefined`
-//!   and `lines-memcheck-undefined` do the same with a mistake that valgrind must find.
+//!   valgrind; `sheets-memcheck SEED COUNT [FIRST]` for the sheet, `lines-memcheck SEED COUNT [FIRST]`
+//!   for the index. `memcheck-outside`, `memcheck-undefined`, `sheets-memcheck-undefined` and
+//!   `lines-memcheck-undefined` do the same with a mistake that valgrind must find.
 //! - `differential vectors FILE`: the lines of a table like tests/vectors.tsv.
 //! - `differential cases SEED COUNT FILE OUT`: writes the lines of a table like tests/vectors.tsv, COUNT
 //!   tables of many names and 20 * COUNT random cases to a file, for plain_search.py.
 //! - `differential noticed`: the comparisons notice one changed byte or number, the ways are told
-//!   apart, and the inaccessible pages trap; `lines-noticed` for the index.
+//!   apart, and the inaccessible pages trap; `sheets-noticed` for the sheet, `lines-noticed` for the
+//!   index.
 //!
 //! Case number FIRST (default 0) of a seed is always the same: a failing one is repeated with COUNT
 //! 1. It is also printed as a line of a table, and a smaller one with it.
@@ -66,6 +76,7 @@ mod noted;
 mod noticed;
 mod readers;
 mod sets;
+mod sheets;
 mod shrink;
 mod supervise;
 mod tally;
@@ -76,9 +87,10 @@ use memcheck::Mistake;
 use std::process::ExitCode;
 
 const USE: &str =
-    "use: differential compare|buckets|demand3|fences|lines|lines-fences|lines-memcheck SEED COUNT [FIRST], \
-    memcheck SEED COUNT, vectors|lines-vectors FILE, cases SEED COUNT FILE OUT, \
-    bytes, words, comments, copies, orders, sets, lines-counted, huge, noticed or lines-noticed";
+    "use: differential compare|buckets|demand3|fences|sheets|sheets-decimals|sheets-fences|sheets-memcheck|\
+    lines|lines-fences|lines-memcheck SEED COUNT [FIRST], \
+    memcheck SEED COUNT, vectors|sheets-vectors|lines-vectors FILE, cases SEED COUNT FILE OUT, \
+    bytes, words, comments, copies, orders, sets, lines-counted, huge, noticed, sheets-noticed or lines-noticed";
 
 fn main() -> ExitCode {
     let arguments: Vec<String> = std::env::args().skip(1).collect();
@@ -112,7 +124,12 @@ fn run(words: &[&str]) -> Option<(usize, usize)> {
             one(buckets::largest_tables() && orders)
         }
         ["sets"] => one(sets::every_set()),
-        ["huge"] => one(huge::huge_lengths() && lines::huge_lengths()),
+        ["huge"] => {
+            let sheets = sheets::huge_lengths();
+            one(huge::huge_lengths() && lines::huge_lengths() && sheets)
+        }
+        ["sheets-vectors", path] => Some(sheets::table(&std::fs::read_to_string(path).ok()?)),
+        ["sheets-noticed"] => one(sheets::all_noticed()),
         ["lines-vectors", path] => Some(lines::table(&std::fs::read_to_string(path).ok()?)),
         ["lines-counted"] => one(lines::every_place()),
         ["lines-noticed"] => one(lines::all_noticed()),
@@ -135,6 +152,11 @@ fn random(command: &str, seed: &str, count: &str, first: &str) -> Option<bool> {
         "memcheck" => Some(memcheck::random_cases(seed, count, Mistake::None)),
         "memcheck-outside" => Some(memcheck::random_cases(seed, count, Mistake::Outside)),
         "memcheck-undefined" => Some(memcheck::random_cases(seed, count, Mistake::Undefined)),
+        "sheets" => Some(sheets::random_cases(seed, count, first)),
+        "sheets-decimals" => Some(sheets::random_decimals(seed, count, first)),
+        "sheets-fences" => Some(sheets::between_fences(seed, count, first)),
+        "sheets-memcheck" => Some(sheets::under_valgrind(seed, count, first, false)),
+        "sheets-memcheck-undefined" => Some(sheets::under_valgrind(seed, count, first, true)),
         "lines" => Some(lines::random_cases(seed, count, first)),
         "lines-fences" => Some(lines::between_fences(seed, count, first)),
         "lines-memcheck" => Some(lines::under_valgrind(seed, count, first, false)),

@@ -41,7 +41,7 @@ def tests(_):
         bad = max(bad, 1)
     print("the crate's own tests: %d passed, %d failed" % (good, bad))
     count(good, bad)
-    check("tests in the library, the command, five files and the documentation", [int(r[0]) > 0 for r in results], [True] * 8)
+    check("tests in the library, the command, six files and the documentation", [int(r[0]) > 0 for r in results], [True] * 9)
 
 
 def habits(_):

@@ -20,6 +20,7 @@ import included  # noqa: E402
 import interrupted  # noqa: E402
 import long_runs  # noqa: E402
 import several  # noqa: E402
+import sheets  # noqa: E402
 import usage  # noqa: E402
 import widths  # noqa: E402
 from tally import finish  # noqa: E402
@@ -27,7 +28,7 @@ from tally import finish  # noqa: E402
 PARTS = [
     answers.endings, answers.places, widths.lines, widths.table, files.inputs, files.sheets, files.reports, files.limits, files.standard_output, apart.told_apart, apart.harmless,
     apart.written_through, several.joined, several.places, several.too_long, several.unreadable, several.read_first, several.clashes, hints.refused, hints.warned, hints.beside, hints.linear, hints.known, copies.missing,
-    included.folders, included.written, included.failing, included.too_long, included.sets, included.clashes, included.refused, included.warned, interrupted.signals, long_runs.finished, long_runs.interrupted, usage.usage,
+    included.folders, included.written, included.failing, included.too_long, included.sets, included.clashes, included.refused, included.warned, sheets.good, sheets.refused, sheets.hints, sheets.ended, sheets.readings, sheets.absent, sheets.untouched, sheets.beside, sheets.clashes, interrupted.signals, long_runs.finished, long_runs.interrupted, usage.usage,
 ]
 
 

@@ -37,13 +37,22 @@ COMPLAINTS = [
     (["-I", "a", "--write-set", "-"], "--write-set: it takes a file's name, not -"),
     (["--write-set", "a"], "--write-set: it writes the set that -I makes, and no -I is given"),
     (["-set", "a"], "unknown option -set; did you mean --set?"),
+    (["-sheet"], "unknown option -sheet; did you mean --sheet?"),
+    (["--sheet=a"], "--sheet takes nothing behind it"),
+    (["--sheet", "--sheet"], "--sheet: it is given twice"),
+    (["-get", "a"], "unknown option -get; did you mean --get?"),
+    (["--get"], "--get: its value is missing"),
+    (["--get="], "--get: its value is missing"),
+    (["--get", "9"], '--get: it takes a name: a letter or underscore, then letters, digits and underscores; "9" is none'),
+    (["--get", "a", "--get=a=1"], '--get: it takes a name: a letter or underscore, then letters, digits and underscores; "a=1" is none'),
+    (["--get", "a", "-o", "-"], "-o - and --get: readings go to standard output; give the sheet a file"),
     (["--output", "a"], "--output: it takes the sheet's length, 0 to 65536; the sheet's file is given with -o"),
 ]
 
 
 def usage(folder):
     for options in (
-        ["--sheet", "a"], ["--report"], ["--budget"], ["--pending", "65537"], ["--wrap=-1"], ["--calls", ""], ["--errors", "1x"], ["--budget", "4294967296"],
+        ["--letter", "a"], ["--report"], ["--budget"], ["--pending", "65537"], ["--wrap=-1"], ["--calls", ""], ["--errors", "1x"], ["--budget", "4294967296"],
         ["--streams", "1", "--streams", "1"], ["--report", "-"], ["-o", "a", "--report", "a"], ["---"],
     ):
         status, out, err = run(options, FIVE, cwd=folder)

@@ -1,6 +1,6 @@
 //! Random texts with sets and settings, from a seed. They are made to reach every macro and every
 //! answer of 01, and every way of a plain word, of a last comment, of a set and of a copy of 02. Cases of
-//! the index of lines are made in [`lines`].
+//! the index of lines are made in [`lines`], those of the sheet in [`sheets`].
 //!
 //! A text comes from a grammar of plausible pieces ([`writer`]), from a scenario with a purpose
 //! ([`scenarios`], [`bare`], [`last`], [`copies`], [`heavy`], [`buckets`]), from the table of vectors, or
@@ -23,6 +23,7 @@ mod pairs;
 mod scenarios;
 pub mod sets;
 pub mod setting;
+pub mod sheets;
 mod words;
 mod writer;
 

@@ -1,9 +1,11 @@
 //! Lines of a table of cases: item, text, set, seven lengths, budget, number, detail, steps, place,
 //! output, error text, parted by tabs. Texts and sets are hexadecimal; `-` stands for an empty one.
-//! The cases of the index of lines have other columns, see [`lines`].
+//! The cases of the index of lines and those of the sheet have other columns, see [`lines`] and
+//! [`sheets`].
 
 pub mod judge;
 pub mod lines;
+pub mod sheets;
 
 use crate::answer::{Report, Setting};
 

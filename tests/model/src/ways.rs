@@ -1,7 +1,8 @@
 //! The ways of request 2 of 02: names of predefined meanings that stand as plain text, open a call
 //! or are called bare, and how often each of them was taken. Tests look here at runs from outside.
 //! Those of request 1 are in [`sets`] and [`inclusions`], those of request 3 in [`remarks`], those
-//! of request 6 in [`lines`], those of request 7 in [`copies`], those of request 9 in [`buckets`].
+//! of request 4 in [`sheets`], those of request 6 in [`lines`], those of request 7 in [`copies`], those
+//! of request 9 in [`buckets`].
 
 pub mod buckets;
 pub mod copies;
@@ -10,6 +11,7 @@ pub mod lines;
 mod name;
 pub mod remarks;
 pub mod sets;
+pub mod sheets;
 mod walk;
 
 use crate::house::Set;

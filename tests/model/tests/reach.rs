@@ -1,8 +1,8 @@
 //! The generators reach every answer, every detail of 4 and 5, every macro and every way of requests
-//! 1, 2, 3, 6 and 7, and the third demand holds on random pairs.
+//! 1, 2, 3, 4, 6 and 7, and the third demand holds on random pairs.
 
 use model::demand3::try_pair;
-use model::generate::{case, input, lines, pair, Case, Input, Scale};
+use model::generate::{case, input, lines, pair, sheets, Case, Input, Scale};
 use model::predefined::{Calls, Predefined};
 use model::random::Random;
 use model::ways::copies::Copies;
@@ -10,6 +10,7 @@ use model::ways::inclusions::Inclusions;
 use model::ways::lines::Lines;
 use model::ways::remarks::Remarks;
 use model::ways::sets::Sets;
+use model::ways::sheets::Sheets;
 use model::ways::{Use, Way, Ways, NEED_PARENTHESIS};
 use model::{expand, expand_traced, Setting, ANSWERS, LIMIT, NO_ITEMS};
 
@@ -118,6 +119,20 @@ fn every_way_of_the_index_of_lines_is_reached() {
     let mut ways = Lines::default();
     for _ in 0..10_000 {
         ways.note(&lines::case(&mut random));
+    }
+    let counts = ways.counts();
+    let never: Vec<_> = counts.iter().filter(|(_, count)| *count == 0).collect();
+    assert!(never.is_empty(), "never reached: {never:?} of {counts:?}");
+}
+
+/// 02, request 4: sheets and what is nearly one, runs that write them, and questions of every kind. The
+/// longest ones are not among small cases, nor are sets and budgets.
+#[test]
+fn every_way_of_the_sheet_is_reached() {
+    let mut random = Random::new(1);
+    let mut ways = Sheets::default();
+    for _ in 0..20_000 {
+        ways.note(&sheets::case(&mut random, Scale::Full));
     }
     let counts = ways.counts();
     let never: Vec<_> = counts.iter().filter(|(_, count)| *count == 0).collect();

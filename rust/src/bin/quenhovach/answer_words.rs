@@ -170,6 +170,8 @@ mod tests {
         Options {
             inputs: vec![Some("t.m4".into())],
             sheet: Some("t.sheet".into()),
+            only_sheets: false,
+            readings: vec![],
             report: None,
             included: Included::Nothing,
             new_set: None,

@@ -1,6 +1,6 @@
 //! The command line.
 
-use crate::bytes::is_digit;
+use crate::bytes::{is_digit, is_name};
 use quenhovach::{Buffer, BUDGET, LONGEST};
 use std::ffi::{OsStr, OsString};
 use std::os::unix::ffi::OsStrExt;
@@ -11,7 +11,7 @@ use std::path::PathBuf;
 pub enum Request {
     Help,
     Version,
-    Run(Options),
+    Run(Box<Options>),
 }
 
 /// What to expand, in which room, and where to.
@@ -19,8 +19,12 @@ pub enum Request {
 pub struct Options {
     /// The templates in order, one at least; none is standard input.
     pub inputs: Vec<Option<PathBuf>>,
-    /// The sheet; standard output if none.
+    /// The sheet; if none, standard output, unless readings go there.
     pub sheet: Option<PathBuf>,
+    /// Whether only what is a sheet is to be written.
+    pub only_sheets: bool,
+    /// The names whose readings go to standard output.
+    pub readings: Vec<String>,
     /// Where the six numbers go.
     pub report: Option<PathBuf>,
     /// What the templates may include.
@@ -33,6 +37,13 @@ pub struct Options {
     pub lengths: [usize; 7],
     /// Steps at most.
     pub budget: u32,
+}
+
+impl Options {
+    /// Whether the output has to be a sheet.
+    pub fn asks_for_sheet(&self) -> bool {
+        self.only_sheets || !self.readings.is_empty()
+    }
 }
 
 /// What the templates may include.
@@ -58,11 +69,13 @@ pub fn option_of(buffer: Buffer) -> &'static str {
     }
 }
 
-/// What was given so far; an option but `-I` may be given once.
+/// What was given so far; an option but `-I` and `--get` may be given once.
 #[derive(Default)]
 struct Given {
     inputs: Vec<OsString>,
     sheet: Option<OsString>,
+    only_sheets: Option<()>,
+    readings: Vec<String>,
     report: Option<OsString>,
     folders: Vec<OsString>,
     set: Option<OsString>,
@@ -88,6 +101,8 @@ pub fn parse(arguments: impl Iterator<Item = OsString>) -> Result<Request, Strin
             return Ok(Request::Version);
         } else if argument == "--warn" {
             set_once("--warn", &mut given.warn, ())?;
+        } else if argument == "--sheet" {
+            set_once("--sheet", &mut given.only_sheets, ())?;
         } else {
             let (name, attached) = parted(&argument)?;
             given.take(name, || {
@@ -95,7 +110,7 @@ pub fn parse(arguments: impl Iterator<Item = OsString>) -> Result<Request, Strin
             })?;
         }
     }
-    given.options().map(Request::Run)
+    given.options().map(Box::new).map(Request::Run)
 }
 
 /// The option's name, and the value that is attached to it: `--name=value` or `-ovalue`.
@@ -129,6 +144,8 @@ fn is_long(word: &[u8]) -> bool {
         "--write-set",
         "--budget",
         "--warn",
+        "--sheet",
+        "--get",
     ];
     let all = Buffer::ALL.map(option_of).into_iter().chain(others);
     all.into_iter().any(|option| option.as_bytes() == word)
@@ -167,6 +184,10 @@ impl Given {
             }
             ("--set", _) => set_once(&name, &mut self.set, value()?),
             ("--write-set", _) => set_once(&name, &mut self.new_set, value()?),
+            ("--get", _) => {
+                self.readings.push(setting(&value()?)?);
+                Ok(())
+            }
             ("--budget", _) => {
                 let steps = number(&name, &value()?, u32::MAX)?;
                 set_once(&name, &mut self.budget, steps)
@@ -175,7 +196,7 @@ impl Given {
                 let bytes = number(&name, &value()?, LONGEST as u32)?;
                 set_once(&name, &mut self.lengths[buffer as usize - 1], bytes)
             }
-            ("-h" | "-V" | "--help" | "--version" | "--warn", _) => {
+            ("-h" | "-V" | "--help" | "--version" | "--warn" | "--sheet", _) => {
                 Err(format!("{name} takes nothing behind it"))
             }
             _ => Err(format!("unknown option {name}")),
@@ -192,6 +213,8 @@ impl Given {
         Ok(Options {
             inputs,
             sheet: self.sheet.and_then(file),
+            only_sheets: self.only_sheets.is_some(),
+            readings: self.readings,
             report: self.report.map(PathBuf::from),
             included: included(self.folders, self.set),
             new_set: self.new_set.map(PathBuf::from),
@@ -211,6 +234,11 @@ impl Given {
             if name.as_deref() == Some(OsStr::new("-")) {
                 return Err(format!("{option}: it takes a file's name, not -"));
             }
+        }
+        if self.sheet.as_deref() == Some(OsStr::new("-")) && !self.readings.is_empty() {
+            return Err(
+                "-o - and --get: readings go to standard output; give the sheet a file".to_string(),
+            );
         }
         if !self.folders.is_empty() && self.set.is_some() {
             return Err("-I and --set: a run has one set, of folders or of a file".to_string());
@@ -243,6 +271,15 @@ fn set_once<T>(name: &str, place: &mut Option<T>, value: T) -> Result<(), String
         return Err(format!("{name}: it is given twice"));
     }
     Ok(())
+}
+
+/// The name of a setting.
+fn setting(value: &OsStr) -> Result<String, String> {
+    let name = value.to_str().filter(|name| is_name(name.as_bytes()));
+    name.map(str::to_string).ok_or_else(|| {
+        let value = value.to_string_lossy();
+        format!("--get: it takes a name: a letter or underscore, then letters, digits and underscores; {value:?} is none")
+    })
 }
 
 /// Decimal digits, at most `most`.

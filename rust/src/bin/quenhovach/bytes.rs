@@ -36,6 +36,10 @@ pub fn is_in_name(byte: u8) -> bool {
     begins_name(byte) || is_digit(byte)
 }
 
+pub fn is_name(word: &[u8]) -> bool {
+    word.first().is_some_and(|&b| begins_name(b)) && word.iter().all(|&b| is_in_name(b))
+}
+
 /// The bytes of a text from `from` on that meet a test.
 pub fn run_of(text: &[u8], from: usize, test: impl Fn(u8) -> bool) -> &[u8] {
     let rest = text.get(from..).unwrap_or_default();
@@ -46,6 +50,16 @@ pub fn run_of(text: &[u8], from: usize, test: impl Fn(u8) -> bool) -> &[u8] {
 #[cfg(test)]
 mod tests {
     use super::*;
+
+    #[test]
+    fn names() {
+        for name in ["a", "_", "_9", "guy_count"] {
+            assert!(is_name(name.as_bytes()), "{name}");
+        }
+        for word in ["", "9", "9a", "a=", "a b", "é"] {
+            assert!(!is_name(word.as_bytes()), "{word}");
+        }
+    }
 
     /// What the program `vectors` writes: for each byte a line with its number, its class, and what it is in a name.
     const VECTORS: &str = include_str!("../../../../crates/vectors/stdout");

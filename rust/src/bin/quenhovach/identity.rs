@@ -9,7 +9,6 @@ use crate::standard::{self, ERRORS, INPUT, OUTPUT};
 use std::ffi::{c_int, OsStr, OsString};
 use std::fs::{self, File, Metadata};
 use std::io::{self, ErrorKind};
-use std::iter;
 use std::os::unix::ffi::OsStrExt;
 use std::os::unix::fs::{FileTypeExt, MetadataExt};
 use std::path::{Path, PathBuf};
@@ -50,7 +49,10 @@ pub struct Files {
     pub templates: Vec<Endpoint>,
     /// The set that is read, if one is.
     pub set: Option<Endpoint>,
-    pub sheet: Endpoint,
+    /// None where only readings are asked for.
+    pub sheet: Option<Endpoint>,
+    /// Where the readings go that are asked for.
+    pub readings: Option<Endpoint>,
     pub report: Option<Endpoint>,
     /// Where the set goes that is made.
     pub new_set: Option<Endpoint>,
@@ -76,10 +78,13 @@ pub fn tell_apart(options: &Options) -> Result<Files, Option<String>> {
         Included::Set(path) => Some(&**path),
         Included::Nothing | Included::Folders(_) => None,
     };
+    let asks_readings = !options.readings.is_empty();
+    let has_sheet = options.sheet.is_some() || !asks_readings;
     let parties = Parties {
         templates: options.inputs.iter().map(Party::template).collect(),
         set: set.map(|path| Party::named("set", "--set ", Some(path), INPUT)),
-        sheet: Party::named("sheet", "-o ", options.sheet.as_deref(), OUTPUT),
+        sheet: has_sheet.then(|| Party::named("sheet", "-o ", options.sheet.as_deref(), OUTPUT)),
+        readings: asks_readings.then(|| Party::named("readings", "", None, OUTPUT)),
         report: report.map(|path| Party::named("report", "--report ", Some(path), ERRORS)),
         new_set: new_set.map(|path| Party::named("new set", "--write-set ", Some(path), ERRORS)),
         streams: [INPUT, OUTPUT, ERRORS].map(Party::stream),
@@ -100,7 +105,8 @@ pub fn tell_apart(options: &Options) -> Result<Files, Option<String>> {
     Ok(Files {
         templates: endpoints(parties.templates).collect(),
         set: endpoints(parties.set).next(),
-        sheet: parties.sheet.endpoint,
+        sheet: endpoints(parties.sheet).next(),
+        readings: endpoints(parties.readings).next(),
         report: endpoints(parties.report).next(),
         new_set: endpoints(parties.new_set).next(),
         outputs,
@@ -137,7 +143,8 @@ impl Endpoint {
 struct Parties {
     templates: Vec<Party>,
     set: Option<Party>,
-    sheet: Party,
+    sheet: Option<Party>,
+    readings: Option<Party>,
     report: Option<Party>,
     new_set: Option<Party>,
     streams: [Party; 3],
@@ -183,7 +190,9 @@ impl Parties {
     }
 
     fn written(&self) -> impl Iterator<Item = &Party> {
-        iter::once(&self.sheet)
+        self.sheet
+            .iter()
+            .chain(&self.readings)
             .chain(&self.report)
             .chain(&self.new_set)
     }

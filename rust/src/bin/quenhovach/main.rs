@@ -10,14 +10,17 @@ mod hint_words;
 mod hints;
 mod identity;
 mod included;
+mod line_faults;
 mod place;
 mod progress;
 mod prose;
+mod readings;
 mod refusal;
 mod remarks;
 mod scanner;
 mod set_words;
 mod sets;
+mod sheet_words;
 mod signals;
 mod standard;
 mod suspects;
@@ -36,6 +39,8 @@ use writing::Staged;
 
 /// Exit status of bad usage.
 const USAGE: u8 = 2;
+/// Exit status where a name that was asked for is not in the sheet.
+const ABSENT: u8 = 62;
 /// Exit status of failed input or output.
 const FAILED: u8 = 63;
 /// A refusal's exit status is this and the answer's number.
@@ -71,6 +76,14 @@ fn complain(message: impl Display) {
     tell(&format!("quenhovach: {message}\n"));
 }
 
+/// A message on standard error, on a line of its own behind the error text.
+fn complain_behind(errors: &[u8], message: &str) {
+    if errors.last().is_some_and(|&b| b != b'\n') {
+        tell("\n");
+    }
+    complain(message);
+}
+
 /// Whole lines on standard error, as far as that goes.
 fn tell(lines: &str) {
     if let Ok(mut errors) = standard::file(standard::ERRORS) {
@@ -103,19 +116,31 @@ fn run(options: &Options, files: Files) -> Result<u8, String> {
         writing::stage(place, &lent.bytes)?.commit()?;
     }
     let mut expander = expander(options).with_set(lent.bytes.clone());
-    let report = progress::shown(|| expander.run(&templates.text));
+    let outcome = progress::shown(|| readings::run(options, &mut expander, &templates.text));
+    let (report, numbers) = (outcome.report, outcome.numbers());
     if options.warn {
         tell(&hint_words::warnings(&templates, &lent));
     }
     if report.answer.is_refusal() {
         complain(refusal::explain(options, &report, &templates, &lent));
-        writing::stage_report(files.report, &report)?.commit()?;
-    } else {
-        let sheet = writing::stage(files.sheet, expander.output())?;
-        let numbers = writing::stage_report(files.report, &report)?;
-        deliver(sheet, expander.errors(), numbers)?;
+        writing::stage_report(files.report, numbers)?.commit()?;
+        return Ok(status(report.answer));
     }
-    Ok(status(report.answer))
+    match readings::of(options, &outcome, &templates, &expander) {
+        Ok(readings) => {
+            let sheet = writing::stage_asked(files.sheet, expander.output())?;
+            let readings = writing::stage_asked(files.readings, &readings)?;
+            let numbers = writing::stage_report(files.report, numbers)?;
+            deliver(expander.errors(), [sheet, readings, numbers])?;
+            Ok(status(report.answer))
+        }
+        Err(unfit) => {
+            writing::write_errors(expander.errors())?;
+            complain_behind(expander.errors(), &unfit.message);
+            writing::stage_report(files.report, numbers)?.commit()?;
+            Ok(unfit.status)
+        }
+    }
 }
 
 /// The exit status that stands for an answer.
@@ -136,10 +161,9 @@ fn expander(options: &Options) -> Expander {
     })
 }
 
-/// Error text, sheet and report. The two files are whole by now, so that what fails fails before the sheet is in its place; the
-/// report comes last and never stands without its sheet.
-fn deliver(sheet: Staged, errors: &[u8], report: Staged) -> Result<(), String> {
+/// Error text, and then sheet, readings and report. The files are whole by now, so that what fails fails before the sheet is in its
+/// place; the report comes last and never stands without its sheet.
+fn deliver(errors: &[u8], texts: [Staged; 3]) -> Result<(), String> {
     writing::write_errors(errors)?;
-    sheet.commit()?;
-    report.commit()
+    texts.into_iter().try_for_each(Staged::commit)
 }

@@ -39,10 +39,9 @@ impl<'t> Places<'t> {
     /// The line up to a place, and from the place on, fit to be shown.
     pub fn line(&self, place: usize) -> (String, String) {
         let (part, Position { column, .. }) = self.find(place);
-        let (taken, ahead) = self.templates.text[..part.range.end].split_at(place);
-        let behind = ahead.split(|&b| b == b'\n').next().unwrap_or(ahead);
-        let before = &taken[place + 1 - column..];
-        (last(&shown(before)), first(&shown(behind)))
+        let text = &self.templates.text[..part.range.end];
+        let ahead = text[place..].iter().take_while(|&&b| b != b'\n').count();
+        parted(&text[place + 1 - column..place + ahead], column - 1)
     }
 
     /// Line and column in a template. Its first line may go on from the template before.
@@ -54,6 +53,19 @@ impl<'t> Places<'t> {
             column: column.min(1 + place - begin),
         })
     }
+}
+
+/// A line with its number, up to a place and from there on, and a caret under the place.
+pub fn with_caret(number: &str, before: &str, behind: &str) -> String {
+    let margin = " ".repeat(number.len());
+    let indent = " ".repeat(width::of_text(before));
+    format!(" {number} | {before}{behind}\n {margin} | {indent}^")
+}
+
+/// A line parted at a place, fit to be shown.
+pub fn parted(line: &[u8], place: usize) -> (String, String) {
+    let (before, behind) = line.split_at(place);
+    (last(&shown(before)), first(&shown(behind)))
 }
 
 /// The line's characters, as far as a terminal shows them alike everywhere: a tab is a blank, other characters that control or format

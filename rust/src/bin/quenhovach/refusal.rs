@@ -6,7 +6,7 @@ use crate::copy_words;
 use crate::hint_words;
 use crate::hints;
 use crate::included::{self, Spot};
-use crate::place::Places;
+use crate::place::{with_caret, Places};
 use crate::set_words;
 use crate::sets::{Lent, Origin};
 use crate::templates::{Part, Templates};
@@ -93,12 +93,10 @@ fn culprit<'a>(answer: Answer, templates: &'a Templates, lent: &'a Lent) -> &'a 
 fn where_it_is(report: &Report, places: &Places, giver: &str, spots: &[Spot]) -> Vec<String> {
     let (Part { name, .. }, position) = places.find(report.place);
     let (before, behind) = places.line(report.place);
-    let number = position.line.to_string();
-    let margin = " ".repeat(number.len());
     let shown = format!(
-        "{name}:{position}: refused: {}\n {number} | {before}{behind}\n {margin} | {}^",
+        "{name}:{position}: refused: {}\n{}",
         report.answer,
-        " ".repeat(width::of_text(&before)),
+        with_caret(&position.line.to_string(), &before, &behind),
     );
     let mut parts = vec![
         shown,
@@ -177,7 +175,7 @@ fn in_numbers(report: &Report, templates: &Templates) -> String {
 }
 
 /// What is left where the sheet should have gone.
-fn sheet_left(options: &Options) -> String {
+pub fn sheet_left(options: &Options) -> String {
     match &options.sheet {
         Some(path) => format!("none was written; {} is as it was", path.display()),
         None => "none was written".to_string(),
@@ -185,7 +183,7 @@ fn sheet_left(options: &Options) -> String {
 }
 
 /// A heading and words, broken into lines; later lines stand two columns in.
-fn wrapped(heading: &str, words: &str) -> String {
+pub fn wrapped(heading: &str, words: &str) -> String {
     let mut text = heading.to_string();
     let mut columns = width::of_text(heading);
     for word in words.split(' ') {
@@ -211,6 +209,8 @@ mod tests {
         Options {
             inputs: vec![Some("t.m4".into())],
             sheet: Some("t.sheet".into()),
+            only_sheets: false,
+            readings: vec![],
             report: None,
             included: Included::Nothing,
             new_set: None,

@@ -7,7 +7,6 @@
 use crate::identity::{self, Endpoint, Way};
 use crate::signals::{self, Watch};
 use crate::standard;
-use quenhovach::Report;
 use std::fs::{self, File, Metadata, OpenOptions, Permissions};
 use std::io::{self, ErrorKind, Write};
 use std::os::unix::fs::{fchown, MetadataExt, OpenOptionsExt, PermissionsExt};
@@ -59,16 +58,21 @@ pub fn stage(to: Endpoint, text: &[u8]) -> Result<Staged, String> {
     }
 }
 
-/// The six numbers on one line, if a report was asked for.
-pub fn stage_report(to: Option<Endpoint>, report: &Report) -> Result<Staged, String> {
-    let line = report.numbers().map(|n| n.to_string()).join(" ") + "\n";
+/// A text, made ready for where it goes if it was asked for.
+pub fn stage_asked(to: Option<Endpoint>, text: &[u8]) -> Result<Staged, String> {
     match to {
-        Some(to) => stage(to, line.as_bytes()),
+        Some(to) => stage(to, text),
         None => Ok(Staged {
             name: String::new(),
             step: Step::Nothing,
         }),
     }
+}
+
+/// The six numbers on one line, if a report was asked for.
+pub fn stage_report(to: Option<Endpoint>, numbers: [u32; 6]) -> Result<Staged, String> {
+    let line = numbers.map(|n| n.to_string()).join(" ") + "\n";
+    stage_asked(to, line.as_bytes())
 }
 
 /// Empties an old report, so that it can't be taken for this run's if this run fails. What others wrote through the descriptor

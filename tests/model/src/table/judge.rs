@@ -1,4 +1,4 @@
-//! Judging each line of a table in a file, for the programs `vectors` and `lines`.
+//! Judging each line of a table in a file, for the programs `vectors`, `lines` and `sheets`.
 
 use std::process::ExitCode;
 

@@ -9,7 +9,7 @@ fn parsed(arguments: &[&str]) -> Result<Request, String> {
 
 fn options(arguments: &[&str]) -> Options {
     match parsed(arguments) {
-        Ok(Request::Run(options)) => options,
+        Ok(Request::Run(options)) => *options,
         other => panic!("{arguments:?}: {other:?}"),
     }
 }
@@ -19,6 +19,8 @@ fn defaults() {
     let expected = Options {
         inputs: vec![None],
         sheet: None,
+        only_sheets: false,
+        readings: vec![],
         report: None,
         included: Included::Nothing,
         new_set: None,
@@ -65,6 +67,18 @@ fn folders_in_order_or_a_set() {
 }
 
 #[test]
+fn sheets_and_readings() {
+    let given = options(&["--sheet", "t.m4"]);
+    assert_eq!((given.only_sheets, given.readings.len()), (true, 0));
+    assert!(given.asks_for_sheet() && !options(&["t.m4"]).asks_for_sheet());
+    let given = options(&["--get", "b", "t.m4", "--get=a", "--get", "b", "-o", "s"]);
+    assert_eq!(given.readings, ["b", "a", "b"]);
+    assert!(given.asks_for_sheet() && !given.only_sheets);
+    assert_eq!(given.sheet.as_deref(), Some(Path::new("s")));
+    assert!(options(&["--sheet", "--get", "a"]).only_sheets);
+}
+
+#[test]
 fn each_length_has_its_option() {
     for buffer in Buffer::ALL {
         let lengths = options(&[option_of(buffer), "0"]).lengths;
@@ -82,7 +96,14 @@ fn bad_usage() {
         ["-", "-"].as_slice(),
         &["a", ""],
         &["-x"],
-        &["--sheet", "a"],
+        &["--letter", "a"],
+        &["--sheet", "--sheet"],
+        &["--sheet=a"],
+        &["--get"],
+        &["--get", ""],
+        &["--get", "9"],
+        &["--get", "a=1"],
+        &["--get", "a", "-o", "-"],
         &["-o"],
         &["--budget"],
         &["--budget", "4294967296"],
@@ -134,6 +155,17 @@ fn bad_usage_is_named() {
         (
             &["--write-set=a"],
             "--write-set: it writes the set that -I makes, and no -I is given",
+        ),
+        (&["-sheet"], "unknown option -sheet; did you mean --sheet?"),
+        (&["-get", "a"], "unknown option -get; did you mean --get?"),
+        (&["--sheet=a"], "--sheet takes nothing behind it"),
+        (
+            &["-o", "-", "--get", "a"],
+            "-o - and --get: readings go to standard output; give the sheet a file",
+        ),
+        (
+            &["--get", "a b"],
+            "--get: it takes a name: a letter or underscore, then letters, digits and underscores; \"a b\" is none",
         ),
         (&["-Vx"], "-V takes nothing behind it"),
         (&["--help=x"], "--help takes nothing behind it"),
