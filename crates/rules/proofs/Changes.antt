@@ -13,7 +13,7 @@ use Rattle.rules.specs.declared.Token.TheVariants as token
 use Rattle.rules.specs.declared.Reading.{Reading}
 use Rattle.rules.specs.declared.Reading.TheVariants.{Is, OpenQuote, OpenComment}
 use Rattle.rules.specs.Bytes.{Bytes, is_name, is_blank}
-use Rattle.rules.specs.Answers.{Ending, done, exit, Fault, noNumber, gone}
+use Rattle.rules.specs.Answers.{Ending, done, exit, Fault, no_number, gone}
 use Rattle.rules.specs.Marks.{MarkTexts, is_mark, is_end_mark}
 use Rattle.rules.specs.Source.{ahead}
 use Rattle.rules.specs.Tokens.{read_token}
@@ -24,7 +24,7 @@ use Rattle.rules.specs.Arguments.{arg, number_or, bounded}
 use Rattle.rules.specs.Results.{Result, yields, fails}
 use Rattle.rules.specs.Macros.{giving, marking, call_changecom, call_changequote, call_decr, naming, call_define, call_defn, call_divert, call_divnum, call_dnl, call_errprint, call_eval, call_ifdef, call_ifelse, call_incr, call_index, call_len, call_m4exit, call_m4wrap, call_popdef, call_pushdef, call_shift, call_substr, call_translit, call_undefine, undivert_numbers, call_undivert, call_include, call_sinclude, copying, call_copydef, call_nothing, macros, perform, performed, called}
 use Rattle.rules.specs.Step.{NameUse, plain, opening, bare, name_use, at_end, delivered, argument_count, opened, named, closed, comma_met, right_met, comma_at_depth, other_met, in_call, single_byte, act, reacted, step}
-use Rattle.rules.specs.Changes.{is_working, all_working, ending_change, Calling, bare_call, closed_call, right_call, byte_call, token_call, read_call, call_of, divert_changes, exit_changes, undivert_changes, no_changes, macro_changes, call_changes, own_changes, name_changes, end_changes, token_changes, read_changes, call_or, changes_of, Makes}
+use Rattle.rules.specs.Changes.{is_working, all_working, ending_change, Calling, bare_call, closed_call, right_call, byte_call, token_call, read_call, call_of, divert_changes, exit_changes, undivert_changes, no_changes, macro_changes, call_changes, own_changes, name_changes, end_changes, token_changes, read_changes, call_or, changes_of, Makes, MakesWholly}
 
 -- ---- streams that are moved
 
@@ -41,25 +41,25 @@ moves_work (n ∷ ns) = moves_work ns
 -- ---- outcomes
 
 module _ {cs : List Change} {u : Streams} where
-  works : (t : State) → t.streams ≡ changed_in_turn cs u → all_working cs ≡ true → Makes cs u (next t)
+  works : (t : State) → t.streams ≡ changed_in_turn cs u → all_working cs ≡ true → MakesWholly cs u (next t)
   works t h w =
       record { on = λ v e. let p : t ≡ v = cc in (ap (λ (z : State). z.streams) (sym p) ∙ h, w); ended = λ x v e. (cc, cc); nothing = λ f e. cc }
 
   -- both ways of a test
-  tested : (x : Bool) {o p : Outcome} → Makes cs u o → Makes cs u p → Makes cs u (elim x [ true ↦ o | false ↦ p ])
+  tested : (x : Bool) {o p : Outcome} → MakesWholly cs u o → MakesWholly cs u p → MakesWholly cs u (elim x [ true ↦ o | false ↦ p ])
   tested true h k = h
   tested false h k = k
 
 -- nothing changes
 module _ {u : Streams} where
-  goes_on : (t : State) → t.streams ≡ u → Makes [] u (next t)
+  goes_on : (t : State) → t.streams ≡ u → MakesWholly [] u (next t)
   unfolding changed_in_turn all_working
   goes_on t h = works t h refl
 
-  refuses : (f : Fault) → Makes [] u (refused f)
+  refuses : (f : Fault) → MakesWholly [] u (refused f)
   refuses f = record { on = λ v e. (cc, cc); ended = λ x v e. (cc, cc); nothing = λ g e. refl }
 
-ends : {u : Streams} (x : Ending) (t : State) → t.streams ≡ changed (ending_change x) u → Makes (ending_change x ∷ []) u (stop x t)
+ends : {u : Streams} (x : Ending) (t : State) → t.streams ≡ changed (ending_change x) u → MakesWholly (ending_change x ∷ []) u (stop x t)
 unfolding changed_in_turn
 ends x t h =
     record {
@@ -74,31 +74,31 @@ ends x t h =
 
 -- a number that a macro needs
 needed :
-    {A : Type 0} {u : Streams} {cs : A → List Change} {f : A → Outcome} (o : Option A) → ((x : A) → Makes (cs x) u (f x))
-    → Makes (elim o [ none ↦ [] | some x ↦ cs x ]) u (elim o [ none ↦ refused noNumber | some x ↦ f x ])
-needed none h = refuses noNumber
+    {A : Type 0} {u : Streams} {cs : A → List Change} {f : A → Outcome} (o : Option A) → ((x : A) → MakesWholly (cs x) u (f x))
+    → MakesWholly (elim o [ none ↦ [] | some x ↦ cs x ]) u (elim o [ none ↦ refused no_number | some x ↦ f x ])
+needed none h = refuses no_number
 needed (some x) h = h x
 
 -- ---- the macros
 
 -- a macro makes these changes
 abbrev Changing : (List Bytes → State → Outcome) → (List Bytes → List Change) → Type 0
-Changing f g = (args : List Bytes) (s : State) → Makes (g args) s.streams (f args s)
+Changing f g = (args : List Bytes) (s : State) → MakesWholly (g args) s.streams (f args s)
 
-giving_makes : (r : Result) (s : State) → Makes [] s.streams (giving r s)
+giving_makes : (r : Result) (s : State) → MakesWholly [] s.streams (giving r s)
 unfolding giving resulting with_source
 giving_makes (yields w) s = goes_on _ refl
 giving_makes (fails f) s = refuses f
 
-marking_makes : (f : Bytes → Bytes → MarkTexts → MarkTexts) (b e : Bytes) (s : State) → Makes [] s.streams (marking f b e s)
+marking_makes : (f : Bytes → Bytes → MarkTexts → MarkTexts) (b e : Bytes) (s : State) → MakesWholly [] s.streams (marking f b e s)
 unfolding marking with_marks
 marking_makes f b e s = tested (is_mark b && is_end_mark e) (goes_on _ refl) (refuses _)
 
-naming_makes : (f : Bytes → Meaning → Table → Table) (args : List Bytes) (s : State) → Makes [] s.streams (naming f args s)
+naming_makes : (f : Bytes → Meaning → Table → Table) (args : List Bytes) (s : State) → MakesWholly [] s.streams (naming f args s)
 unfolding naming with_table
 naming_makes f args s = tested (is_name (arg 1 args)) (goes_on _ refl) (refuses _)
 
-copying_makes : (o : Option Meaning) (w : Bytes) (s : State) → Makes [] s.streams (copying o w s)
+copying_makes : (o : Option Meaning) (w : Bytes) (s : State) → MakesWholly [] s.streams (copying o w s)
 unfolding copying with_table
 copying_makes none w s = refuses _
 copying_makes (some m) w s = goes_on _ refl
@@ -184,7 +184,7 @@ macros_make =
     also copydef_makes
     also tt
 
-call_makes : (m : Meaning) (name : Bytes) (args : List Bytes) (s : State) → Makes (call_changes m args) s.streams (performed m name args s)
+call_makes : (m : Meaning) (name : Bytes) (args : List Bytes) (s : State) → MakesWholly (call_changes m args) s.streams (performed m name args s)
 unfolding call_changes no_changes performed perform call_nothing
 call_makes (text x) name args s = giving_makes _ s
 call_makes (predefined zero) name args s = refuses gone
@@ -192,24 +192,24 @@ call_makes (predefined (suc i)) name args s = one_of macros macro_changes macros
 
 -- ---- a step
 
-deliver_makes : (w : Bytes) (cs : List Call) (s : State) → Makes (own_changes w cs) s.streams (next (delivered w cs s))
+deliver_makes : (w : Bytes) (cs : List Call) (s : State) → MakesWholly (own_changes w cs) s.streams (next (delivered w cs s))
 unfolding own_changes delivered emitting changing with_streams with_calls is_working all_working
 deliver_makes w [] s = works _ refl refl
 deliver_makes w (c ∷ cs) s = goes_on _ refl
 
-end_makes : (cs : List Call) (w : Bytes) (s : State) → Makes (end_changes cs w) s.streams (at_end cs w s)
+end_makes : (cs : List Call) (w : Bytes) (s : State) → MakesWholly (end_changes cs w) s.streams (at_end cs w s)
 unfolding end_changes at_end changing with_streams with_wrap resulting with_source changed_in_turn ending_change
 end_makes [] [] s = ends done _ refl
 end_makes [] (x ∷ xs) s = goes_on _ refl
 end_makes (c ∷ cs) w s = refuses _
 
-opened_makes : (name : Bytes) (s : State) → Makes [] s.streams (opened name s)
+opened_makes : (name : Bytes) (s : State) → MakesWholly [] s.streams (opened name s)
 unfolding opened with_calls
 opened_makes name s = tested (leb 64 (length s.calls) || leb 256 (argument_count s.calls)) (refuses _) (goes_on _ refl)
 
 name_makes :
     (u : NameUse) (name : Bytes) (end : ℕ) (s : State)
-    → Makes (call_or (bare_call u name end s) (name_changes u name s.calls)) s.streams (named u name end s)
+    → MakesWholly (call_or (bare_call u name end s) (name_changes u name s.calls)) s.streams (named u name end s)
 unfolding call_or bare_call name_changes named called taking with_source
 name_makes plain name end s = deliver_makes name s.calls (taking end s)
 name_makes opening name end s = opened_makes name (taking (suc end) s)
@@ -217,46 +217,46 @@ name_makes (bare m) name end s = call_makes m name [] (taking end s)
 
 -- a byte in an argument
 module _ (c : Call) (cs : List Call) (s : State) where
-  closed_makes : (o : Option Meaning) → Makes (call_or (closed_call c cs o s) []) s.streams (called o c.name (c.finished ++ (c.current ∷ [])) (with_calls cs s))
+  closed_makes : (o : Option Meaning) → MakesWholly (call_or (closed_call c cs o s) []) s.streams (called o c.name (c.finished ++ (c.current ∷ [])) (with_calls cs s))
   unfolding call_or closed_call called with_calls
   closed_makes none = refuses _
   closed_makes (some m) = call_makes m c.name (c.finished ++ (c.current ∷ [])) (with_calls cs s)
 
-  right_makes : (d : ℕ) → Makes (call_or (right_call d c cs s) []) s.streams (right_met d c cs s)
+  right_makes : (d : ℕ) → MakesWholly (call_or (right_call d c cs s) []) s.streams (right_met d c cs s)
   unfolding call_or right_call right_met closed with_calls
   right_makes zero = closed_makes (meaning_of c.name s.table)
   right_makes (suc d) = goes_on _ refl
 
-  comma_makes : (d : ℕ) → Makes [] s.streams (comma_at_depth d c cs s)
+  comma_makes : (d : ℕ) → MakesWholly [] s.streams (comma_at_depth d c cs s)
   unfolding comma_at_depth comma_met with_calls
   comma_makes zero = tested (leb 256 (argument_count (c ∷ cs))) (refuses _) (goes_on _ refl)
   comma_makes (suc d) = goes_on _ refl
 
-  other_makes : (x : ℕ) → Makes [] s.streams (other_met x c cs s)
+  other_makes : (x : ℕ) → MakesWholly [] s.streams (other_met x c cs s)
   unfolding other_met with_calls
   other_makes x = tested (is_blank x) (tested c.collected (goes_on _ refl) (goes_on _ refl)) (goes_on _ refl)
 
-  in_call_makes : (x : ℕ) → Makes (call_or (byte_call x (c ∷ cs) s) []) s.streams (in_call x c cs s)
+  in_call_makes : (x : ℕ) → MakesWholly (call_or (byte_call x (c ∷ cs) s) []) s.streams (in_call x c cs s)
   unfolding call_or byte_call in_call with_calls
   in_call_makes x = go (eqb x 40) refl
     where
       behind : (y z : Bool)
-          → Makes (call_or (elim y [ true ↦ right_call c.depth c cs s | false ↦ none ]) []) s.streams
+          → MakesWholly (call_or (elim y [ true ↦ right_call c.depth c cs s | false ↦ none ]) []) s.streams
           (elim y [ true ↦ right_met c.depth c cs s | false ↦ elim z [ true ↦ comma_at_depth c.depth c cs s | false ↦ other_met x c cs s ] ])
       behind true z = right_makes c.depth
       behind false true = comma_makes c.depth
       behind false false = other_makes x
 
-      go : (b : Bool) → eqb x 40 ≡ b → Makes (call_or (byte_call x (c ∷ cs) s) []) s.streams (in_call x c cs s)
-      go true e = subst (λ (z : ℕ). Makes (call_or (byte_call z (c ∷ cs) s) []) s.streams (in_call z c cs s)) (sym (eqb-true x 40 e)) (goes_on _ refl)
+      go : (b : Bool) → eqb x 40 ≡ b → MakesWholly (call_or (byte_call x (c ∷ cs) s) []) s.streams (in_call x c cs s)
+      go true e = subst (λ (z : ℕ). MakesWholly (call_or (byte_call z (c ∷ cs) s) []) s.streams (in_call z c cs s)) (sym (eqb-true x 40 e)) (goes_on _ refl)
       go false e = rw (e, in_call) (behind (eqb x 41) (eqb x 44))
 
-byte_makes : (x : ℕ) (cs : List Call) (s : State) → Makes (call_or (byte_call x cs s) (own_changes (x ∷ []) cs)) s.streams (single_byte x cs s)
+byte_makes : (x : ℕ) (cs : List Call) (s : State) → MakesWholly (call_or (byte_call x cs s) (own_changes (x ∷ []) cs)) s.streams (single_byte x cs s)
 unfolding call_or byte_call own_changes single_byte emitting changing with_streams is_working all_working
 byte_makes x [] s = works _ refl refl
 byte_makes x (c ∷ cs) s = in_call_makes c cs s x
 
-act_makes : (t : Token) (s : State) → Makes (call_or (token_call t s) (token_changes t s)) s.streams (act t s)
+act_makes : (t : Token) (s : State) → MakesWholly (call_or (token_call t s) (token_changes t s)) s.streams (act t s)
 unfolding call_or token_call token_changes act taking with_source
 act_makes token.End s = end_makes s.calls s.wrap s
 act_makes (token.Comment end) s = deliver_makes _ s.calls (taking end s)
@@ -264,16 +264,21 @@ act_makes (token.Quoted begins ends end) s = deliver_makes _ s.calls (taking end
 act_makes (token.Name end) s = name_makes (name_use (take end (ahead s.source)) end s) (take end (ahead s.source)) end s
 act_makes (token.Byte x) s = byte_makes x s.calls (taking 1 s)
 
-read_makes : (r : Reading) (s : State) → Makes (call_or (read_call r s) (read_changes r s)) s.streams (reacted r s)
+read_makes : (r : Reading) (s : State) → MakesWholly (call_or (read_call r s) (read_changes r s)) s.streams (reacted r s)
 unfolding call_or read_call read_changes reacted
 read_makes (Is t) s = act_makes t s
 read_makes (OpenQuote n) s = refuses _
 read_makes OpenComment s = refuses _
 
--- a step makes the changes that the state before it says, and no other
-pub step_makes : (s : State) → Makes (changes_of s) s.streams (step s)
+-- a step makes the changes that the state before it says, and no other; which changes they are says whether the run goes on
+pub step_makes_wholly : (s : State) → MakesWholly (changes_of s) s.streams (step s)
 unfolding changes_of call_of step
-step_makes s = read_makes (read_token s.marks (ahead s.source)) s
+step_makes_wholly s = read_makes (read_token s.marks (ahead s.source)) s
+
+pub step_makes : (s : State) → Makes (changes_of s) s.streams (step s)
+step_makes s =
+    let w = step_makes_wholly s in
+    record { on = λ t e. (w.on t e).0; ended = λ x t e. (w.ended x t e).0; nothing = w.nothing }
 
 -- ---- the call of a step
 

@@ -11,7 +11,7 @@ use Rattle.rules.specs.Changes.{changes_of, is_working, all_working, ending_chan
 use Rattle.rules.specs.Run.{Setting, lengths, held, overfull, Ended, ended_with, run_from, all_lendable, started, admitted, run}
 use Rattle.rules.specs.History.{following, states_from, items_or, states_of, changes_along, history_of}
 use Rattle.rules.proofs.Run.{run_spent, run_refused, run_on, run_room, run_ends, run_ends_room, fault_number}
-use Rattle.rules.proofs.Changes.{step_makes}
+use Rattle.rules.proofs.Changes.{step_makes_wholly}
 
 -- ---- changes in turn
 
@@ -70,14 +70,14 @@ module _ (k : ℕ) (s t : State) (e : Ended) (p : step s ≡ next t) (w : Went (
         counted = omega (arith, w.counted);
         whole = rw (p, following) (ap suc w.whole);
         made =
-            w.made ∙ ap (changed_in_turn (history_from w.more t)) ((step_makes s).on t p).0
+            w.made ∙ ap (changed_in_turn (history_from w.more t)) ((step_makes_wholly s).on t p).0
             ∙ sym (turns-append (changes_of s) (history_from w.more t) s.streams) ∙ ap (λ (h : List Change). changed_in_turn h s.streams) (sym history_on);
         closed =
             λ q.
             let r = w.closed q in (
               changes_of s ++ r.0,
               history_on ∙ ap (◌++◌ (changes_of s)) r.1 ∙ sym (append_assoc (changes_of s) r.0 (closing_change (answer_number e.answer) ∷ [])),
-              working_append (changes_of s) r.0 ((step_makes s).on t p).1 r.2,
+              working_append (changes_of s) r.0 ((step_makes_wholly s).on t p).1 r.2,
             );
       }
 
@@ -99,8 +99,8 @@ module _ (k : ℕ) (s t : State) (x : Ending) (p : step s ≡ stop x t) where
         more = 1;
         counted = omega arith;
         whole = rw (p, following);
-        made = ((step_makes s).ended x t p).0 ∙ ap (λ (h : List Change). changed_in_turn h s.streams) (sym history_last);
-        closed = λ q. ([], history_last ∙ ((step_makes s).ended x t p).1 ∙ ap (λ (c : Change). c ∷ []) (closing x), refl);
+        made = ((step_makes_wholly s).ended x t p).0 ∙ ap (λ (h : List Change). changed_in_turn h s.streams) (sym history_last);
+        closed = λ q. ([], history_last ∙ ((step_makes_wholly s).ended x t p).1 ∙ ap (λ (c : Change). c ∷ []) (closing x), refl);
       }
 
 went : (ls : List ℕ) (n k : ℕ) (s : State) → Went k s (run_from ls n k s)

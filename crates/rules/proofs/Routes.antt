@@ -1,7 +1,7 @@
 -- The routes of the numbers along a history that does not end: each number stands once, in the stream where its route ends, and those of one route stand in
 -- order.
 use Rattle.rules.proofs.Base.{◌≤◌, ◌<◌, ◌+◌, ℕ, ◌∙◌, refl, sym, ◌≡◌, subst, true, Bool, false, true≢false, cond, ◌&&◌, List, [], ◌++◌, ◌∷◌, add-zero, arith, leb, ltb, pos, ℤ, negsuc, length, ne_eqb, eqb-true, le-leb, lt-leb, le-ltb, dec_le}
-use Rattle.rules.specs.Streams.{Streams, is_current, placed, diverted, Change, diverts, changed}
+use Rattle.rules.specs.Streams.{Streams, is_current, diverted, Change, diverts, changed}
 use Rattle.rules.specs.History.{first_placed, current_after, Tally, tallied, numbered_change, takes, target, gives, route_after, stands_in, occurrences}
 use Rattle.rules.proofs.StreamLaws.{stream_in, diverted_stream}
 use Rattle.rules.proofs.Occurrences.{All, all_occurring, Ordered}

@@ -1,7 +1,7 @@
 -- What is kept along every history that does not end, from the first step on.
 use Rattle.rules.proofs.Base.{◌≤◌, ◌<◌, ℕ, suc, zero, ◌∙◌, refl, sym, ap, ◌≡◌, true, Bool, false, true≢false, ◌&&◌, not, List, [], ◌∷◌, arith, eqb, leb, pos, ℤ, negsuc, get_or, replicate, List·getD-eq-default, get_or-replicate, eqb-true, leb-true, dec_le, dec_lt}
 use Rattle.rules.specs.Bytes.{Bytes}
-use Rattle.rules.specs.Streams.{Streams, empty_streams, discards, is_current, placed, Change, places, moves, finishes, drops, diverts, changed, changed_in_turn}
+use Rattle.rules.specs.Streams.{Streams, empty_streams, discards, is_current, Change, places, moves, finishes, drops, diverts, changed, changed_in_turn}
 use Rattle.rules.specs.Changes.{is_working, all_working}
 use Rattle.rules.specs.History.{Tally, tallied, first_tally, numbered_change, numbered_from, is_waiting, takes, route_after, route_from, stands_in, occurrences}
 use Rattle.rules.proofs.StreamLaws.{stream_in, one_of_ten, moved_skips, moved_no_stream}

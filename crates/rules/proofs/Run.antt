@@ -7,7 +7,7 @@ use mathlib.Core.Option.{Option, none, some}
 use native.Mathlib.Omega.{arith}
 use lib.ListN.{length}
 use Rattle.rules.specs.declared.Answer.TheVariants as answer
-use Rattle.rules.specs.Answers.{answer_number, Ending, done, exit, ending_answer, Fault, unclosedQuote, unclosedComment, unclosedCall, noName, noNumber, noExpression, divisor, badMark, noText, gone, deep, no_item, noDefinition, fault_answer}
+use Rattle.rules.specs.Answers.{answer_number, Ending, done, exit, ending_answer, Fault, unclosed_quote, unclosed_comment, unclosed_call, no_name, no_number, no_expression, divisor, bad_mark, no_text, gone, deep, no_item, no_definition, fault_answer}
 use Rattle.rules.specs.State.{State, Outcome, next, stop, refused, Start, start_state}
 use Rattle.rules.specs.Sets.{Item, set_items}
 use Rattle.rules.specs.Step.{step}
@@ -60,19 +60,19 @@ module _ (ls : List ℕ) (n k : ℕ) (s : State) where
 -- refusals of a step have the numbers from 5 on
 pub fault_number : (f : Fault) → 5 ≤ answer_number (fault_answer f)
 unfolding answer_number fault_answer
-fault_number unclosedQuote = omega arith
-fault_number unclosedComment = omega arith
-fault_number unclosedCall = omega arith
-fault_number noName = omega arith
-fault_number noNumber = omega arith
-fault_number noExpression = omega arith
+fault_number unclosed_quote = omega arith
+fault_number unclosed_comment = omega arith
+fault_number unclosed_call = omega arith
+fault_number no_name = omega arith
+fault_number no_number = omega arith
+fault_number no_expression = omega arith
 fault_number divisor = omega arith
-fault_number badMark = omega arith
-fault_number noText = omega arith
+fault_number bad_mark = omega arith
+fault_number no_text = omega arith
 fault_number gone = omega arith
 fault_number deep = omega arith
 fault_number no_item = omega arith
-fault_number noDefinition = omega arith
+fault_number no_definition = omega arith
 
 -- 01 "spent: a step is due and the budget's number is completed": an answer 3 has completed exactly the budget
 ending_not_spent : (x : Ending) → answer_number (ending_answer x) ≡ 3 → ⊥

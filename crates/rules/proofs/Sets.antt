@@ -1,5 +1,5 @@
 -- Texts in chunks, items and sets: what is read was written so, and what is written is read back. So a set has one form (02, request 1). Assumes nothing.
-use Rattle.rules.proofs.Base.{◌≤◌, ◌+◌, ℕ, ◌-◌, ◌<◌, suc, zero, ◌*◌, ◌/◌, ◌%◌, ◌^◌, min, ◌∙◌, refl, sym, ap, ◌≡◌, ap₂, subst, true, Bool, false, true≢false, ◌&&◌, and-eq-true_iff, some, none, Option, Option·none-ne-some, Option·some-injective, List, [], ◌++◌, ◌∷◌, append_assoc, pow-suc, ℕ_discrete, dec_lt, arith, eqb, leb, length, drop, take, get_or, length-append, length-drop, length-take, length-take-le, List·getD-eq-default, take-append-drop, drop-drop, take-append-le, drop-append-le, drop-append-add, take-append_seam, drop-append_seam, take_at, drop_at, get_or-drop, get_or-take, eq-eqb, ne_eqb, eqb-true, le-leb, lt-leb, leb-true}
+use Rattle.rules.proofs.Base.{◌≤◌, ◌+◌, ℕ, ◌-◌, ◌<◌, suc, zero, ◌*◌, ◌/◌, ◌%◌, ◌^◌, min, ◌∙◌, refl, sym, ap, ◌≡◌, ap₂, subst, true, Bool, false, ◌&&◌, and-eq-true_iff, some, none, Option, Option·none-ne-some, Option·some-injective, List, [], ◌++◌, ◌∷◌, append_assoc, pow-suc, ℕ_discrete, dec_lt, arith, eqb, leb, length, drop, take, get_or, length-append, length-drop, length-take, length-take-le, List·getD-eq-default, take-append-drop, drop-drop, take-append-le, drop-append-le, drop-append-add, take-append_seam, drop-append_seam, take_at, drop_at, get_or-drop, get_or-take, eq-eqb, ne_eqb, eqb-true, le-leb, lt-leb, leb-true}
 use Rattle.rules.specs.Bytes.{Bytes, same_bytes}
 use Rattle.rules.specs.Chunks.{least_first, bytes_least_first, chunk_kind, Carried, and_byte, carried, chunks_read, chunked_from, chunked}
 use Rattle.rules.specs.Sets.{end_kind, item_kind, longest_set, Item, ItemRead, parted, body_read, item_read, is_end, and_item, items_from, set_items, item_text, item_form, set_form}

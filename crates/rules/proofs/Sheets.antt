@@ -6,7 +6,7 @@ use Rattle.rules.specs.declared.Lookup.{Lookup}
 use Rattle.rules.specs.declared.Lookup.TheVariants as lookup
 use Rattle.rules.specs.declared.SheetAnswer.TheVariants as answer
 use Rattle.rules.specs.Bytes.{Bytes, same_bytes, continues_name, name_length, is_name}
-use Rattle.rules.specs.Sheets.{in_first_line, lines_of, value_at, entry_of, behind_name, entry_at, name_in, is_named, first_named, question, unused_line, most_lines, Judged, good, malformed, twice, tooMany, judged_lines, sheet_of, sheet_judged, sheet_read, line_name, lookup_of, line_value, line_named, line_start, Answered}
+use Rattle.rules.specs.Sheets.{in_first_line, lines_of, value_at, entry_of, behind_name, entry_at, name_in, is_named, first_named, question, unused_line, most_lines, Judged, good, malformed, twice, too_many, judged_lines, sheet_of, sheet_judged, sheet_read, line_name, lookup_of, line_value, line_named, line_start, Answered}
 use Rattle.rules.proofs.SameBytes.{same_self}
 
 -- ---- where lines stand
@@ -90,13 +90,13 @@ entry_reads place l e k = by_name (is_name (take (name_length l) l)) k
         let f : record { name = place; length = name_length l; value = y } ≡ e = cc in
         record { at = sym (ap (λ (r : Entry). r.name) f); long = sym (ap (λ (r : Entry). r.length) f); value_is = v ∙ ap (λ (r : Entry). some r.value) f }
 
-    by_byte : (x : ℕ) (w : Bytes) → drop (name_length l) l ≡ x ∷ w → (t : Bool) → elim t [ true ↦ entry_of place (name_length l) (value_at (suc (place + name_length l)) w) | false ↦ none ] ≡ some e → Reads place l e
-    by_byte x w d true q = by_value (value_at (suc (place + name_length l)) w) q (ap (value_at (suc (place + name_length l))) (behind_byte l (name_length l) x w d))
-    by_byte x w d false q = let w : ◌≡◌ {A = ℕ} 0 1 = cc in absurd (omega arith)
+    by_byte : (x : ℕ) (w : Bytes) → drop (name_length l) l ≡ x ∷ w → (o : Option Value) (t : Bool) → elim t [ true ↦ entry_of place (name_length l) o | false ↦ none ] ≡ some e → value_at (suc (place + name_length l)) w ≡ o → Reads place l e
+    by_byte x w d o true q v = by_value o q (ap (value_at (suc (place + name_length l))) (behind_byte l (name_length l) x w d) ∙ v)
+    by_byte x w d o false q v = let w : ◌≡◌ {A = ℕ} 0 1 = cc in absurd (omega arith)
 
     by_rest : (w : Bytes) → drop (name_length l) l ≡ w → behind_name place (name_length l) w ≡ some e → Reads place l e
     by_rest [] d q = let w : ◌≡◌ {A = ℕ} 0 1 = cc in absurd (omega arith)
-    by_rest (x ∷ w) d q = by_byte x w d (eqb x 61) q
+    by_rest (x ∷ w) d q = by_byte x w d _ (eqb x 61) q refl
 
     by_name : (t : Bool) → elim t [ true ↦ behind_name place (name_length l) (drop (name_length l) l) | false ↦ none ] ≡ some e → Reads place l e
     by_name true q = by_rest (drop (name_length l) l) refl q
@@ -156,24 +156,28 @@ record Went (text : Bytes) (es : List Entry) (place : ℕ) (l : Bytes) (ls : Lis
 
 went : (text : Bytes) (es : List Entry) (place : ℕ) (l : Bytes) (ls : List Bytes) (fs : List Entry) → judged_lines text es place (l ∷ ls) ≡ good fs → Went text es place l ls fs
 unfolding judged_lines
-went text es place l ls fs h = by_count (ltb (length es) 256) h
+went text es place l ls fs h = by_count (ltb (length es) 256) _ h refl
   where
-    by_name : (e : Entry) → entry_at place l ≡ some e → (a : Lookup) → first_named text (name_in text e) es ≡ a
-        → elim a [ lookup.Found v ↦ twice (suc (length es)) | lookup.Absent ↦ judged_lines text (es ++ (e ∷ [])) (place + suc (length l)) ls ] ≡ good fs → Went text es place l ls fs
-    by_name e k lookup.Absent a q = record { line = e; reads = entry_reads place l e k; first = a; others = q }
-    by_name e k (lookup.Found v) a q = let w : ◌≡◌ {A = ℕ} 0 1 = cc in absurd (omega arith)
+    by_name : (e : Entry) → entry_at place l ≡ some e → (a : Lookup) → first_named text (name_in text e) es ≡ a → (bad : Judged)
+        → elim a [ lookup.Found v ↦ bad | lookup.Absent ↦ judged_lines text (es ++ (e ∷ [])) (place + suc (length l)) ls ] ≡ good fs
+        → (bad ≡ good fs → ◌≡◌ {A = ℕ} 0 1) → Went text es place l ls fs
+    by_name e k lookup.Absent a bad q n = record { line = e; reads = entry_reads place l e k; first = a; others = q }
+    by_name e k (lookup.Found v) a bad q n = let w : ◌≡◌ {A = ℕ} 0 1 = n q in absurd (omega arith)
 
-    by_line : (o : Option Entry) → entry_at place l ≡ o
-        → elim o [ none ↦ malformed (suc (length es)) | some e ↦ elim (first_named text (name_in text e) es) [ lookup.Found v ↦ twice (suc (length es)) | lookup.Absent ↦ judged_lines text (es ++ (e ∷ [])) (place + suc (length l)) ls ] ] ≡ good fs
-        → Went text es place l ls fs
-    by_line none k q = let w : ◌≡◌ {A = ℕ} 0 1 = cc in absurd (omega arith)
-    by_line (some e) k q = by_name e k (first_named text (name_in text e) es) refl q
+    given_twice : (bad : Judged) → bad ≡ twice (suc (length es)) → bad ≡ good fs → ◌≡◌ {A = ℕ} 0 1
+    given_twice bad t q = cc
 
-    by_count : (t : Bool)
-        → elim t [ false ↦ tooMany (suc (length es)) | true ↦ elim (entry_at place l) [ none ↦ malformed (suc (length es)) | some e ↦ elim (first_named text (name_in text e) es) [ lookup.Found v ↦ twice (suc (length es)) | lookup.Absent ↦ judged_lines text (es ++ (e ∷ [])) (place + suc (length l)) ls ] ] ] ≡ good fs
-        → Went text es place l ls fs
-    by_count true q = by_line (entry_at place l) refl q
-    by_count false q = let w : ◌≡◌ {A = ℕ} 0 1 = cc in absurd (omega arith)
+    by_line : (o : Option Entry) → entry_at place l ≡ o → (bad : Judged)
+        → elim o [ none ↦ malformed (suc (length es)) | some e ↦ elim (first_named text (name_in text e) es) [ lookup.Found v ↦ bad | lookup.Absent ↦ judged_lines text (es ++ (e ∷ [])) (place + suc (length l)) ls ] ] ≡ good fs
+        → bad ≡ twice (suc (length es)) → Went text es place l ls fs
+    by_line none k bad q t = let w : ◌≡◌ {A = ℕ} 0 1 = cc in absurd (omega arith)
+    by_line (some e) k bad q t = by_name e k (first_named text (name_in text e) es) refl bad q (given_twice bad t)
+
+    by_count : (t : Bool) (bad : Judged)
+        → elim t [ false ↦ too_many (suc (length es)) | true ↦ elim (entry_at place l) [ none ↦ malformed (suc (length es)) | some e ↦ elim (first_named text (name_in text e) es) [ lookup.Found v ↦ bad | lookup.Absent ↦ judged_lines text (es ++ (e ∷ [])) (place + suc (length l)) ls ] ] ] ≡ good fs
+        → bad ≡ twice (suc (length es)) → Went text es place l ls fs
+    by_count true bad q t = by_line (entry_at place l) refl bad q t
+    by_count false bad q t = let w : ◌≡◌ {A = ℕ} 0 1 = cc in absurd (omega arith)
 
 module _ (text : Bytes) where
   -- where the first of the lines from a place on stands, and the others
@@ -265,4 +269,4 @@ answered text = go (judged_lines text [] 0 (lines_of text)) refl
         }
     go (malformed n) h e = let w : ◌≡◌ {A = ℕ} 0 1 = cc in absurd (omega arith)
     go (twice n) h e = let w : ◌≡◌ {A = ℕ} 0 1 = cc in absurd (omega arith)
-    go (tooMany n) h e = let w : ◌≡◌ {A = ℕ} 0 1 = cc in absurd (omega arith)
+    go (too_many n) h e = let w : ◌≡◌ {A = ℕ} 0 1 = cc in absurd (omega arith)

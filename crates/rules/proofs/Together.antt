@@ -1,6 +1,6 @@
 -- Bytes that were first placed in one stream and make every move together have one route.
 use Rattle.rules.proofs.Base.{◌≤◌, ◌<◌, ℕ, ◌∙◌, refl, sym, ap, ◌≡◌, true, Bool, false, cond, and-eq-true_iff, some, List, [], ◌∷◌, arith, leb, ltb, ℤ, le-leb, ltb-true, ltb-false}
-use Rattle.rules.specs.Streams.{placed, moved, Change}
+use Rattle.rules.specs.Streams.{Change}
 use Rattle.rules.specs.History.{Tally, tallied, first_tally, takes, target, gives, route_after, route_from, route_of, first_stream, is_taken, moves_from, moves_of, Together}
 use Rattle.rules.proofs.Routes.{first_route, no_route, route_left}
 

@@ -70,19 +70,19 @@ ending_answer (exit code) = answer.Exit code
 
 -- why a step is refused, apart from room: the answers 5 to 13, 15 of 02, request 1, and 16 of request 7
 pub data Fault : Type 0 where
-  unclosedQuote unclosedComment unclosedCall noName noNumber noExpression divisor badMark noText gone deep no_item noDefinition : Fault
+  unclosed_quote unclosed_comment unclosed_call no_name no_number no_expression divisor bad_mark no_text gone deep no_item no_definition : Fault
 
 unfoldable pub fault_answer : Fault → Answer
-fault_answer unclosedQuote = answer.Unclosed 1
-fault_answer unclosedComment = answer.Unclosed 2
-fault_answer unclosedCall = answer.Unclosed 3
-fault_answer noName = answer.Name
-fault_answer noNumber = answer.Number
-fault_answer noExpression = answer.Expression
+fault_answer unclosed_quote = answer.Unclosed 1
+fault_answer unclosed_comment = answer.Unclosed 2
+fault_answer unclosed_call = answer.Unclosed 3
+fault_answer no_name = answer.Name
+fault_answer no_number = answer.Number
+fault_answer no_expression = answer.Expression
 fault_answer divisor = answer.Divisor
-fault_answer badMark = answer.Mark
-fault_answer noText = answer.NoText
+fault_answer bad_mark = answer.Mark
+fault_answer no_text = answer.NoText
 fault_answer gone = answer.Gone
 fault_answer deep = answer.Deep
 fault_answer no_item = answer.NoItem
-fault_answer noDefinition = answer.NoDefinition
+fault_answer no_definition = answer.NoDefinition

@@ -175,6 +175,12 @@ ending_change (exit code) = drops
 
 -- an outcome makes these changes of the streams and no other; a refusal makes none
 pub record Makes (cs : List Change) (u : Streams) (o : Outcome) : Type 0 where
+  pub on : (t : State) → o ≡ next t → t.streams ≡ changed_in_turn cs u
+  pub ended : (x : Ending) (t : State) → o ≡ stop x t → t.streams ≡ changed_in_turn cs u
+  pub nothing : (f : Fault) → o ≡ refused f → cs ≡ []
+
+-- and the changes say whether the run goes on: those of a step that ends it are its ending's alone
+pub record MakesWholly (cs : List Change) (u : Streams) (o : Outcome) : Type 0 where
   pub on : (t : State) → o ≡ next t → (t.streams ≡ changed_in_turn cs u) × (all_working cs ≡ true)
   pub ended : (x : Ending) (t : State) → o ≡ stop x t → (t.streams ≡ changed_in_turn cs u) × (cs ≡ ending_change x ∷ [])
   pub nothing : (f : Fault) → o ≡ refused f → cs ≡ []

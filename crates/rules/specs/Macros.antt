@@ -2,7 +2,7 @@
 use Rattle.std.specs.Prelude.{ℕ, zero, suc, true, false, ◌&&◌, List, [], ◌∷◌, ◌++◌, map, eqb, pos, get_or}
 use Rattle.std.proofs.Math.Option.{Option, none, some}
 use Rattle.rules.specs.Bytes.{Bytes, is_name}
-use Rattle.rules.specs.Answers.{exit, noName, noNumber, badMark, gone, noDefinition}
+use Rattle.rules.specs.Answers.{exit, no_name, no_number, bad_mark, gone, no_definition}
 use Rattle.rules.specs.Marks.{MarkTexts, newline_mark, default_marks, is_mark, is_end_mark, with_quotes, with_comments}
 use Rattle.rules.specs.Source.{ahead}
 use Rattle.rules.specs.Numerals.{number}
@@ -19,7 +19,7 @@ giving (fails f) s = refused f
 
 -- new marks, if they are good: refusal 10 if not
 unfoldable pub marking : (Bytes → Bytes → MarkTexts → MarkTexts) → Bytes → Bytes → State → Outcome
-marking f b e s = elim (is_mark b && is_end_mark e) [ true ↦ next (with_marks (f b e s.marks) s) | false ↦ refused badMark ]
+marking f b e s = elim (is_mark b && is_end_mark e) [ true ↦ next (with_marks (f b e s.marks) s) | false ↦ refused bad_mark ]
 
 -- 01 "changecom without arguments turns comments off; one argument sets the begin mark and newline ends"
 unfoldable pub call_changecom : List Bytes → State → Outcome
@@ -39,7 +39,7 @@ call_decr args s = giving (decr_result args) s
 -- refusal 6: define or pushdef of what is not a name
 unfoldable pub naming : (Bytes → Meaning → Table → Table) → List Bytes → State → Outcome
 naming f args s =
-    elim (is_name (arg 1 args)) [ true ↦ next (with_table (f (arg 1 args) (text (arg 2 args)) s.table) s) | false ↦ refused noName ]
+    elim (is_name (arg 1 args)) [ true ↦ next (with_table (f (arg 1 args) (text (arg 2 args)) s.table) s) | false ↦ refused no_name ]
 
 unfoldable pub call_define : List Bytes → State → Outcome
 call_define args s = naming defined args s
@@ -48,7 +48,7 @@ unfoldable pub call_defn : List Bytes → State → Outcome
 call_defn args s = giving (defn_result s.marks s.table args) s
 
 unfoldable pub call_divert : List Bytes → State → Outcome
-call_divert args s = elim (number_or (pos 0) 1 args) [ none ↦ refused noNumber | some n ↦ next (changing (diverts n ∷ []) s) ]
+call_divert args s = elim (number_or (pos 0) 1 args) [ none ↦ refused no_number | some n ↦ next (changing (diverts n ∷ []) s) ]
 
 unfoldable pub call_divnum : List Bytes → State → Outcome
 call_divnum args s = giving (divnum_result s.streams.current) s
@@ -87,7 +87,7 @@ call_len args s = giving (len_result args) s
 unfoldable pub call_m4exit : List Bytes → State → Outcome
 call_m4exit args s =
     elim (bounded 0 255 (number_or (pos 0) 1 args)) [
-      | none ↦ refused noNumber
+      | none ↦ refused no_number
       | some code ↦ stop (exit code) (with_wrap [] (changing (drops ∷ []) s))
     ]
 
@@ -130,7 +130,7 @@ undivert_numbers (a ∷ more) = stream_numbers (a ∷ more)
 
 unfoldable pub call_undivert : List Bytes → State → Outcome
 call_undivert args s =
-    elim (undivert_numbers args) [ none ↦ refused noNumber | some ns ↦ next (changing (map moves ns) s) ]
+    elim (undivert_numbers args) [ none ↦ refused no_number | some ns ↦ next (changing (map moves ns) s) ]
 
 -- 02, request 1 "The contents become pending text and count there"
 unfoldable pub call_include : List Bytes → State → Outcome
@@ -141,13 +141,13 @@ call_sinclude args s = giving (sinclude_result s.set args) s
 
 -- 02, request 7: a name gets a meaning "as define would set it"; refusal 16: there is none, since "the first argument has no definition"
 unfoldable pub copying : Option Meaning → Bytes → State → Outcome
-copying none w s = refused noDefinition
+copying none w s = refused no_definition
 copying (some m) w s = next (with_table (defined w m s.table) s)
 
 -- "the second argument gets the meaning of the first, predefined or text"; "the new name is judged first (6), then 16"
 unfoldable pub call_copydef : List Bytes → State → Outcome
 call_copydef args s =
-    elim (is_name (arg 2 args)) [ true ↦ copying (meaning_of (arg 1 args) s.table) (arg 2 args) s | false ↦ refused noName ]
+    elim (is_name (arg 2 args)) [ true ↦ copying (meaning_of (arg 1 args) s.table) (arg 2 args) s | false ↦ refused no_name ]
 
 -- no macro has another number than those of `predefined_names`
 unfoldable pub call_nothing : List Bytes → State → Outcome

@@ -6,7 +6,7 @@ use Rattle.std.specs.Int.Signed.{le_z}
 use Rattle.rules.specs.declared.Evaluated.{Evaluated}
 use Rattle.rules.specs.declared.Evaluated.TheVariants as evaluated
 use Rattle.rules.specs.Bytes.{Bytes, same_bytes}
-use Rattle.rules.specs.Answers.{Fault, noNumber, noExpression, divisor, noText, no_item}
+use Rattle.rules.specs.Answers.{Fault, no_number, no_expression, divisor, no_text, no_item}
 use Rattle.rules.specs.Marks.{MarkTexts, quoted}
 use Rattle.rules.specs.Tokens.{first_place}
 use Rattle.rules.specs.Words.{largest, signed_value}
@@ -22,7 +22,7 @@ pub data Result : Type 0 where
 
 -- a number is needed: refusal 7 where there is none
 unfoldable pub needing : Option ℕ → (ℕ → Result) → Result
-needing none f = fails noNumber
+needing none f = fails no_number
 needing (some n) f = f n
 
 -- 01 "within -2147483648 to 2147483647"
@@ -31,8 +31,8 @@ is_number z = le_z (negsuc largest) z && le_z z (pos largest)
 
 -- 01 "Also 7: an incr or decr result outside that range"
 unfoldable pub changed_number : (ℤ → ℤ) → Option ℤ → Result
-changed_number f none = fails noNumber
-changed_number f (some z) = elim (is_number (f z)) [ true ↦ yields (decimal (f z)) | false ↦ fails noNumber ]
+changed_number f none = fails no_number
+changed_number f (some z) = elim (is_number (f z)) [ true ↦ yields (decimal (f z)) | false ↦ fails no_number ]
 
 unfoldable pub decr_result : List Bytes → Result
 decr_result args = changed_number pred_ℤ (number (arg 1 args))
@@ -51,7 +51,7 @@ defn_result m t (w ∷ ws) =
     elim (meaning_of w t) [
       | none ↦ defn_result m t ws
       | some (text x) ↦ in_front (quoted m x) (defn_result m t ws)
-      | some (predefined k) ↦ fails noText
+      | some (predefined k) ↦ fails no_text
     ]
 
 -- 004: the number of the current stream
@@ -60,7 +60,7 @@ divnum_result current = yields (decimal current)
 
 -- a value in a radix with a least count of digits
 unfoldable pub shown_result : Evaluated → ℕ → ℕ → Result
-shown_result evaluated.Unreadable radix least = fails noExpression
+shown_result evaluated.Unreadable radix least = fails no_expression
 shown_result evaluated.Divisor radix least = fails divisor
 shown_result (evaluated.Number x) radix least = yields (written_in radix least (signed_value x))
 
@@ -74,7 +74,7 @@ unfoldable pub eval_result : List Bytes → Result
 eval_result args =
     let v = evaluation (arg 1 args) in
     elim (is_unreadable v) [
-      | true ↦ fails noExpression
+      | true ↦ fails no_expression
       | false ↦
           needing (bounded 2 36 (number_or (pos 10) 2 args))
           (λ radix. needing (bounded 0 largest (number_or (pos 0) 3 args)) (λ least. shown_result v radix least))

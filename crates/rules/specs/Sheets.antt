@@ -131,7 +131,7 @@ most_lines = 256
 -- what a text is: a sheet of lines, or bad at a line
 pub data Judged : Type 0 where
   good : List Entry → Judged
-  malformed twice tooMany : ℕ → Judged
+  malformed twice too_many : ℕ → Judged
 
 -- the lines ls of a text, the first of them at a place, behind those that gave es: "the first bad line counts, judged 22, 20, 21", "with the line number
 -- as detail"
@@ -139,7 +139,7 @@ unfoldable pub judged_lines : Bytes → List Entry → ℕ → List Bytes → Ju
 judged_lines text es place [] = good es
 judged_lines text es place (l ∷ ls) =
     elim (ltb (length es) most_lines) [
-      | false ↦ tooMany (suc (length es))
+      | false ↦ too_many (suc (length es))
       | true ↦ elim (entry_at place l) [
         | none ↦ malformed (suc (length es))
         | some e ↦ elim (first_named text (name_in text e) es) [
@@ -164,7 +164,7 @@ unfoldable pub sheet_judged : Judged → SheetRead
 sheet_judged (good es) = record { answer = answer.Good; sheet = sheet_of es }
 sheet_judged (malformed line) = record { answer = answer.Malformed line; sheet = sheet_of [] }
 sheet_judged (twice line) = record { answer = answer.Twice line; sheet = sheet_of [] }
-sheet_judged (tooMany line) = record { answer = answer.TooMany line; sheet = sheet_of [] }
+sheet_judged (too_many line) = record { answer = answer.TooMany line; sheet = sheet_of [] }
 
 -- a text, read as a sheet
 unfoldable pub sheet_read : Bytes → SheetRead

@@ -6,7 +6,7 @@ use Rattle.rules.specs.declared.Token.TheVariants as token
 use Rattle.rules.specs.declared.Reading.{Reading}
 use Rattle.rules.specs.declared.Reading.TheVariants.{Is, OpenQuote, OpenComment}
 use Rattle.rules.specs.Bytes.{Bytes, is_blank, left_parenthesis, comma, right_parenthesis}
-use Rattle.rules.specs.Answers.{done, unclosedQuote, unclosedComment, unclosedCall, deep}
+use Rattle.rules.specs.Answers.{done, unclosed_quote, unclosed_comment, unclosed_call, deep}
 use Rattle.rules.specs.Source.{ahead}
 use Rattle.rules.specs.Tokens.{read_token}
 use Rattle.rules.specs.Table.{Meaning, text, predefined, needs_parenthesis, meaning_of}
@@ -17,7 +17,7 @@ use Rattle.rules.specs.Macros.{called}
 -- 01 "At end: an open call is refused; else waiting wrap text of one byte or more .. becomes pending; else streams 1 to 9 are appended
 -- to the output in order and the run is done"
 unfoldable pub at_end : List Call → Bytes → State → Outcome
-at_end (c ∷ cs) wrap s = refused unclosedCall
+at_end (c ∷ cs) wrap s = refused unclosed_call
 at_end [] (x ∷ xs) s = next (resulting (x ∷ xs) (with_wrap [] s))
 at_end [] [] s = stop done (changing (finishes ∷ []) s)
 
@@ -142,8 +142,8 @@ act (token.Byte x) s = single_byte x s.calls (taking 1 s)
 -- 01 "An unclosed quote or comment is refused"
 unfoldable pub reacted : Reading → State → Outcome
 reacted (Is t) s = act t s
-reacted (OpenQuote n) s = refused unclosedQuote
-reacted OpenComment s = refused unclosedComment
+reacted (OpenQuote n) s = refused unclosed_quote
+reacted OpenComment s = refused unclosed_comment
 
 unfoldable pub step : State → Outcome
 step s = reacted (read_token s.marks (ahead s.source)) s

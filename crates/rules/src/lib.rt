@@ -1,8 +1,9 @@
 // The Rattle types that several crates share. What they mean is defined in specs/; the laws of that are proved in proofs/.
 // No function has a body here.
+#![tactic(auto)]
 
 // 02, request 5, "each of the 256 bytes gets just its class there, or `other`".
-#[derive(Drop)]
+#[derive(Clone, Copy)]
 pub enum Class {
     Letter,
     Digit,
@@ -12,14 +13,14 @@ pub enum Class {
 }
 
 // 01 "A mark is 1 to 5 bytes long": the first `len` bytes are the mark. No mark (comments turned off): `len` is 0.
-#[derive(Drop)]
+#[derive(Clone, Copy)]
 pub struct Mark {
     pub bytes: [u8; 5],
     pub len: u8,
 }
 
 // The four marks in force.
-#[derive(Drop)]
+#[derive(Clone, Copy)]
 pub struct Marks {
     pub begin_quote: Mark,
     pub end_quote: Mark,
@@ -28,7 +29,7 @@ pub struct Marks {
 }
 
 // 01 "There are five kinds of token": places count from the front of the text ahead, and the first byte behind is an `end`.
-#[derive(Drop)]
+#[derive(Clone, Copy)]
 pub enum Token {
     End,
     // Both marks belong to it.
@@ -48,7 +49,7 @@ pub enum Token {
 }
 
 // What reading the text ahead gives: a token, or a quote or comment that does not close.
-#[derive(Drop)]
+#[derive(Clone, Copy)]
 pub enum Reading {
     Is(Token),
     // So many quotes are open at the end.
@@ -57,21 +58,21 @@ pub enum Reading {
 }
 
 // What a part of an expression of eval comes to: the bits of a 32-bit number, or a zero divisor or a shift count outside 0 to 31.
-#[derive(Drop)]
+#[derive(Clone, Copy)]
 pub enum Worked {
     Number(u32),
     Divisor,
 }
 
 // A part of an expression that was read, with the place behind it, or one that can't be read.
-#[derive(Drop)]
+#[derive(Clone, Copy)]
 pub enum Parsed {
     Value(Worked, usize),
     Unreadable,
 }
 
 // A whole expression.
-#[derive(Drop)]
+#[derive(Clone, Copy)]
 pub enum Evaluated {
     Number(u32),
     Divisor,
@@ -79,7 +80,7 @@ pub enum Evaluated {
 }
 
 // - + ! ~
-#[derive(Drop)]
+#[derive(Clone, Copy)]
 pub enum Unary {
     Minus,
     Plus,
@@ -88,7 +89,7 @@ pub enum Unary {
 }
 
 // What an operand begins with, and the place behind that token (of a literal, its own place).
-#[derive(Drop)]
+#[derive(Clone, Copy)]
 pub enum Leading {
     Literal(usize),
     Parenthesis(usize),
@@ -97,7 +98,7 @@ pub enum Leading {
 }
 
 // The binary operators that work out both sides.
-#[derive(Drop)]
+#[derive(Clone, Copy)]
 pub enum Strict {
     Mul,
     Div,
@@ -118,7 +119,7 @@ pub enum Strict {
 }
 
 // && || and the others.
-#[derive(Drop)]
+#[derive(Clone, Copy)]
 pub enum Binary {
     And,
     Or,
@@ -126,7 +127,7 @@ pub enum Binary {
 }
 
 // A binary operator, how closely it binds (10 closest; 0: there is none) and the place behind it.
-#[derive(Drop)]
+#[derive(Clone, Copy)]
 pub struct Operator {
     pub op: Binary,
     pub level: u32,
@@ -134,7 +135,7 @@ pub struct Operator {
 }
 
 // How a run ends: a case for each row of 01's table of answers, with its detail where it has one.
-#[derive(Drop)]
+#[derive(Clone, Copy)]
 pub enum Answer {
     Done,
     Exit(u32),
@@ -156,7 +157,7 @@ pub enum Answer {
 }
 
 // What a call of the expander returns: with the answer's number and detail these are the six numbers of 01.
-#[derive(Drop)]
+#[derive(Clone, Copy)]
 pub struct Report {
     pub answer: Answer,
     pub steps: u32,
@@ -166,7 +167,7 @@ pub struct Report {
 }
 
 // 02, request 6: what the index of lines answers.
-#[derive(Drop)]
+#[derive(Clone, Copy)]
 pub enum IndexAnswer {
     // The words and totals of the text stand.
     Built,
@@ -180,7 +181,7 @@ pub enum IndexAnswer {
 
 // 02, request 4: a reading of a sheet, "a number as 01 has it, a decimal length or gain, or a word shaped like a name". A word has its place in the
 // written text.
-#[derive(Drop)]
+#[derive(Clone, Copy)]
 pub enum Value {
     Number(i32),
     Decimal(f64),
@@ -188,7 +189,7 @@ pub enum Value {
 }
 
 // A line of a sheet: the place and length of its name in the written text, and its reading.
-#[derive(Drop)]
+#[derive(Clone, Copy)]
 pub struct Entry {
     pub name: usize,
     pub length: usize,
@@ -196,21 +197,21 @@ pub struct Entry {
 }
 
 // 02 "A sheet is lines": the first `count` of them; at most 256, "22 a 257th line".
-#[derive(Drop)]
+#[derive(Clone, Copy)]
 pub struct Sheet {
     pub lines: [Entry; 256],
     pub count: usize,
 }
 
 // 02 "returns its reading or `absent`".
-#[derive(Drop)]
+#[derive(Clone, Copy)]
 pub enum Lookup {
     Found(Value),
     Absent,
 }
 
 // How reading a sheet ends; a refusal has the number of its line.
-#[derive(Drop)]
+#[derive(Clone, Copy)]
 pub enum SheetAnswer {
     Good,
     Malformed(u32),
@@ -221,14 +222,14 @@ pub enum SheetAnswer {
 }
 
 // What reading a text as a sheet returns.
-#[derive(Drop)]
+#[derive(Clone, Copy)]
 pub struct SheetRead {
     pub answer: SheetAnswer,
     pub sheet: Sheet,
 }
 
 // What expanding and reading returns: the six numbers of 01, by the answer's number and detail, and the sheet.
-#[derive(Drop)]
+#[derive(Clone, Copy)]
 pub struct SheetReport {
     pub answer: SheetAnswer,
     pub steps: u32,
