@@ -1,4 +1,6 @@
 // The numbers of an answer, as 01's table has them.
+#![tactic(auto)]
+
 ghost use Rattle.std.specs.Prelude.{◌≡◌};
 ghost use Rattle.rules.specs.Answers.{answer_number, answer_detail, numbers};
 

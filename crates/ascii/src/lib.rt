@@ -1,4 +1,6 @@
 // What class a byte has, and the shape of a name; and two slices compared and copied.
+#![tactic(auto)]
+
 ghost use Rattle.std.specs.Prelude.{◌≡◌};
 ghost use Rattle.rules.specs.Bytes.{is_upper, is_lower, class_of, is_letter, is_digit, is_underscore, is_blank, begins_name, continues_name, name_length, is_name, same_bytes};
 ghost use Rattle.ascii.specs.Copied.{Copied};

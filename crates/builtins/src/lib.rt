@@ -1,5 +1,7 @@
 // The predefined macros, 1 to 27: the number of a name, and what the macro of a number does. Whoever asks something of a predefined macro asks
 // it here, by its number.
+#![tactic(auto)]
+
 ghost use Rattle.std.specs.Prelude.{◌≡◌, cond};
 ghost use Rattle.rules.specs.Table.{needs_parenthesis};
 ghost use Rattle.builtins.specs.Numbers.{candidate_in, has_number, HasNumber};
@@ -9,7 +11,7 @@ use ascii::same;
 
 // What a predefined macro does: it only gives a result; it is index, which gives one by a search that takes much stack; or it changes other
 // things, or reads what those that do are lent.
-#[derive(Drop)]
+#[derive(Clone, Copy)]
 pub enum Kind {
     Result,
     Index,
@@ -17,7 +19,7 @@ pub enum Kind {
 }
 
 // The macros that only give a result, but for index.
-#[derive(Drop)]
+#[derive(Clone, Copy)]
 pub enum ResultMacro {
     Decr,
     Defn,
@@ -34,7 +36,7 @@ pub enum ResultMacro {
 
 // The macros that change other things, and three that are performed with these for what they read: divnum the current stream, include and
 // sinclude the set that is lent to the run.
-#[derive(Drop)]
+#[derive(Clone, Copy)]
 pub enum ChangeMacro {
     Changecom,
     Changequote,

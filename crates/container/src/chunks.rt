@@ -8,7 +8,7 @@ ghost use Rattle.container.specs.Items.{behind};
 pub(crate) const FULL: usize = 128;
 
 // The chunks can't be read, or the place behind them.
-#[derive(Drop)]
+#[derive(Clone, Copy)]
 pub(crate) enum Behind {
     Bad,
     At(usize),

@@ -1,5 +1,7 @@
 // Named texts in the form that 02, request 1, calls the house form: whether a set of them is good, the item at a place, the first item with a
 // name, and an item's text copied out. A text lies in chunks, so no part of the set is the text.
+#![tactic(auto)]
+
 mod chunks;
 
 ghost use Rattle.std.specs.Prelude.{◌≡◌, ◌+◌, ◌≤◌, length, take, drop};
@@ -19,7 +21,7 @@ const ITEM: u8 = 129;
 const HEAD: usize = 9;
 
 // An item that can't be read, or one with the lengths of its name and text, and the place behind it.
-#[derive(Drop)]
+#[derive(Clone, Copy)]
 pub enum ItemAt {
     Bad,
     Is {
@@ -30,7 +32,7 @@ pub enum ItemAt {
 }
 
 // No item, or the place of one and the length of its text.
-#[derive(Drop)]
+#[derive(Clone, Copy)]
 pub enum Found {
     Nothing,
     At { place: usize, length: usize },

@@ -4,7 +4,7 @@ use Rattle.rules.specs.declared.Worked.TheVariants.{Number}
 use Rattle.rules.specs.declared.Parsed.{Parsed}
 use Rattle.rules.specs.declared.Parsed.TheVariants.{Value, Unreadable}
 use Rattle.rules.specs.Bytes.{Bytes, continues_name, name_length}
-use Rattle.rules.specs.Numerals.{natural as naturalIn, up_to}
+use Rattle.rules.specs.Numerals.{natural as natural_in, up_to}
 use Rattle.numerals.specs.declared.Natural.TheVariants as natural
 use Rattle.numerals.specs.Answers.{natural_of}
 use Rattle.rules.specs.Expression.{is_x, behind_zero, literal, literal_read, literal_at}
@@ -29,7 +29,7 @@ unfolding literal
 literal_empty [] h = refl
 literal_empty (x ∷ xs) h = absurd (omega arith)
 
-pub literal-decimal : (s : Bytes) → (length s ≡ 0 → ⊥) → (get_or s 0 0 ≡ 48 → ⊥) → literal s ≡ up_to 4294967295 (naturalIn 10 s)
+pub literal-decimal : (s : Bytes) → (length s ≡ 0 → ⊥) → (get_or s 0 0 ≡ 48 → ⊥) → literal s ≡ up_to 4294967295 (natural_in 10 s)
 unfolding literal
 literal-decimal [] l h = absurd (l refl)
 literal-decimal (x ∷ xs) l h = rw (ne_eqb x 48 h)
@@ -41,13 +41,13 @@ literal_zero (x ∷ []) l h = rw (eq-eqb x 48 h)
 literal_zero (x ∷ y ∷ ys) l h = absurd (omega arith)
 
 -- behind a zero stands x or X, or another byte
-pub literal_hexadecimal : (s : Bytes) → 1 < length s → get_or s 0 0 ≡ 48 → is_x (get_or s 1 0) ≡ true → literal s ≡ up_to 4294967295 (naturalIn 16 (part s 2))
+pub literal_hexadecimal : (s : Bytes) → 1 < length s → get_or s 0 0 ≡ 48 → is_x (get_or s 1 0) ≡ true → literal s ≡ up_to 4294967295 (natural_in 16 (part s 2))
 unfolding literal behind_zero
 literal_hexadecimal [] l h e = absurd (omega arith)
 literal_hexadecimal (x ∷ []) l h e = absurd (omega arith)
 literal_hexadecimal (x ∷ y ∷ ys) l h e = rw (part_drop (x ∷ y ∷ ys) 2, eq-eqb x 48 h, e)
 
-pub literal_octal : (s : Bytes) → 1 < length s → get_or s 0 0 ≡ 48 → is_x (get_or s 1 0) ≡ false → literal s ≡ up_to 4294967295 (naturalIn 8 (part s 1))
+pub literal_octal : (s : Bytes) → 1 < length s → get_or s 0 0 ≡ 48 → is_x (get_or s 1 0) ≡ false → literal s ≡ up_to 4294967295 (natural_in 8 (part s 1))
 unfolding literal behind_zero
 literal_octal [] l h e = absurd (omega arith)
 literal_octal (x ∷ []) l h e = absurd (omega arith)

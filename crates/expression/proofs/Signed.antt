@@ -1,6 +1,6 @@
 -- 32-bit numbers by their bits: what is done to bits below 2 ^ 32 is the operation on the signed numbers, wrapped. One law for each
 -- way out of a function of src/words.rt. Assumes nothing.
-use Rattle.rules.proofs.Base.{◌≤◌, ◌+◌, ℕ, ◌-◌, ◌<◌, suc, zero, ◌*◌, ◌^◌, ◌/◌, ◌%◌, ◌∙◌, refl, sym, ap, ◌≡◌, true, Bool, false, cond, le_of_lt, add-mul, mul-le-mul_left, div-le_self, mod-le, mul-add, lt_of_le_of_lt, mul-lt-mul_of_pos_right, arith, ltb, lit<, pos, ℤ, negsuc, neg_ℤ, nat_abs, sub_ℕ, ◌+ℤ◌, ◌-ℤ◌, ◌*ℤ◌, ltb-true, ltb-false, lt-ltb, le-ltb}
+use Rattle.rules.proofs.Base.{◌≤◌, ◌+◌, ℕ, ◌-◌, ◌<◌, suc, zero, ◌*◌, ◌^◌, ◌/◌, ◌%◌, ◌∙◌, refl, sym, ap, ◌≡◌, true, Bool, false, cond, le_of_lt, add-mul, mul-le-mul_left, div-le_self, mod-le, mul-add, lt_of_le_of_lt, mul-lt-mul_of_pos_right, arith, ltb, lit<, pos, negsuc, neg_ℤ, nat_abs, sub_ℕ, ◌+ℤ◌, ◌-ℤ◌, ◌*ℤ◌, ltb-true, ltb-false, lt-ltb, le-ltb}
 use lib.Signed.{quot_z, rem_z, shr_z, lt_z}
 use Rattle.rules.specs.Words.{signed_value, wrapped}
 

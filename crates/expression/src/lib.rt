@@ -1,4 +1,6 @@
 // eval's expressions: what the bytes of one come to.
+#![tactic(auto)]
+
 ghost use Rattle.std.specs.Prelude.{◌≡◌};
 ghost use Rattle.rules.specs.Expression.{evaluation};
 

@@ -1,9 +1,11 @@
 // The bucket of a name, one of 199, by a hash of all its bytes; and the end of a name found and its hash taken in one pass.
+#![tactic(auto)]
+
 ghost use Rattle.std.specs.Prelude.{◌≡◌, ◌+◌};
 ghost use Rattle.hashing.specs.Hashing.{hash_on, bucket_at, bucket_of, ScannedFrom};
 
 // Where a name ends, and its hash.
-#[derive(Drop)]
+#[derive(Clone, Copy)]
 pub struct Scanned {
     pub end: usize,
     pub hash: u32,

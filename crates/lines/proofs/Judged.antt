@@ -1,5 +1,5 @@
 -- What is refused before anything else: 30, then 33. Assumes nothing.
-use Rattle.rules.proofs.Base.{◌≤◌, ℕ, ◌<◌, suc, ◌/◌, ◌∙◌, refl, sym, ◌≡◌, true, Bool, false, not, and-eq-true_iff, List, leb, ltb, length, le-leb, leb-true, lt-ltb, not-true, not-false, le-ltb}
+use Rattle.rules.proofs.Base.{◌≤◌, ℕ, ◌<◌, suc, ◌/◌, ◌∙◌, refl, sym, ◌≡◌, true, Bool, false, and-eq-true_iff, List, leb, ltb, length, le-leb, leb-true, lt-ltb, le-ltb}
 use Rattle.rules.specs.declared.IndexAnswer.{IndexAnswer}
 use Rattle.rules.specs.declared.IndexAnswer.TheVariants.{TooLong, NoRoom}
 use Rattle.rules.specs.Run.{most_lent}
@@ -23,11 +23,11 @@ module _ (n words totals : ℕ) where
       (leb-true (suc (n / 64)) words b.0, leb-true (suc (n / 64)) totals b.1)
 
 -- what a test of `has_room` told
-pub has : {r t : Bool} → r ≡ t → not r ≡ false → t ≡ true
-has {r} e f = sym e ∙ not-false r f
+pub has : {r t : Bool} → r ≡ t → r ≡ true → t ≡ true
+has e f = sym e ∙ f
 
-pub lacks : {r t : Bool} → r ≡ t → not r ≡ true → t ≡ false
-lacks {r} e f = sym e ∙ not-true r f
+pub lacks : {r t : Bool} → r ≡ t → r ≡ false → t ≡ false
+lacks e f = sym e ∙ f
 
 -- ---- the order
 

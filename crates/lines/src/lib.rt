@@ -1,5 +1,7 @@
 // The index of lines (02, request 6): which line a place of a text is on, and where a line starts. Once it is built, the text itself is not
 // needed any more: only its length.
+#![tactic(auto)]
+
 ghost use Rattle.std.specs.Prelude.{◌≡◌, ◌%◌};
 ghost use Rattle.std.specs.Int.Count.{ones_in};
 ghost use Rattle.rules.specs.Lines.{index_number, index_value, has_room, Indexed, line_of, start_of};

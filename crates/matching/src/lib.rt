@@ -1,4 +1,6 @@
 // Where a text first stands in another, and bytes replaced by their partners.
+#![tactic(auto)]
+
 ghost use Rattle.std.specs.Prelude.{◌≡◌, [], ◌∷◌, ◌<◌, length};
 ghost use Rattle.matching.specs.Places.{placed};
 ghost use Rattle.matching.specs.Partners.{nothing, partner_table, entry_for, replaced, Fitted};
@@ -6,7 +8,7 @@ ghost use Rattle.matching.specs.Partners.{nothing, partner_table, entry_for, rep
 mod borders;
 
 // Where a text stands in another; too long: it was not looked for.
-#[derive(Drop)]
+#[derive(Clone, Copy)]
 pub enum Place {
     At(usize),
     Nowhere,

@@ -1,4 +1,6 @@
 // Numbers in texts: digits read, and 32-bit signed numbers, kept as their bits, read and written.
+#![tactic(auto)]
+
 ghost use Rattle.std.specs.Prelude.{◌≡◌, ℕ, ◌+◌, ◌-◌, ◌<◌, ◌≤◌, max, true, [], ◌∷◌, ◌++◌, length, take, replicate, pos, neg_ℤ, unsigned_abs};
 ghost use Rattle.rules.specs.Words.{largest, largest_bits, signed_value};
 ghost use Rattle.rules.specs.Numerals.{digit_worth, natural_from, natural, up_to, as_signed, number, digit_byte, digits_in, zero_filled, written_in, decimal};
@@ -13,21 +15,21 @@ const LOWEST: u32 = 2147483648;
 const LARGEST_BITS: u32 = 4294967295;
 
 // One or more digits: the number that they write, where it is below 2 ^ 32.
-#[derive(Drop)]
+#[derive(Clone, Copy)]
 pub enum Natural {
     Number(u32),
     NoNumber,
 }
 
 // A decimal argument: the bits of its number.
-#[derive(Drop)]
+#[derive(Clone, Copy)]
 pub enum Decimal {
     Number(u32),
     NoNumber,
 }
 
 // How long the text of a number is.
-#[derive(Drop)]
+#[derive(Clone, Copy)]
 pub enum Length {
     Bytes(usize),
     BadRadix,

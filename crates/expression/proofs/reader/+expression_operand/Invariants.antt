@@ -1,0 +1,16 @@
+-- The readers `reader::operand` and `reader::expression`, which call each other, meet their contracts: the bytes that remain fall. Assumes nothing.
+use Rattle.rules.proofs.Base.{◌≤◌, ◌+◌, ◌-◌, ◌*◌, length}
+use Rattle.expression.proofs.Chains.{Kept}
+use Rattle.expression.proofs.reader.+expression_operand.Given as goal
+
+abbrev pub decreases-expression : goal.decreases-expression
+decreases-expression l = 2 * length l.s.now + 1
+
+abbrev pub decreases-operand : goal.decreases-operand
+decreases-operand l = 2 * length l.s.now
+
+abbrev pub invariant-expression-loop-o : goal.invariant-expression-loop-o
+invariant-expression-loop-o l = (l.at ≤ length l.s) × Kept l.s l.level l.left l.w l.at
+
+abbrev pub decreases-expression-loop-o : goal.decreases-expression-loop-o
+decreases-expression-loop-o l = length l.s - l.at
