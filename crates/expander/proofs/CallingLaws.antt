@@ -5,7 +5,7 @@ use Rattle.rules.specs.declared.Answer.TheVariants as answer
 use Rattle.rules.specs.Arguments.{substituted}
 use Rattle.rules.specs.Results.{yields}
 use Rattle.rules.specs.Streams.{total_length}
-use Rattle.rules.specs.Table.{Meaning, text, predefined, Table, predefined_names, number_from, predefined_number, keeps_own, own_meaning, newest_place, meaning_at, meaning_of}
+use Rattle.rules.specs.Table.{Meaning, predefined, Table, predefined_names, number_from, predefined_number, keeps_own, own_meaning, newest_place, meaning_at, meaning_of}
 use Rattle.rules.specs.Source.{ahead, advance}
 use Rattle.rules.specs.State.{Call, State, Outcome, with_calls, with_source, taking}
 use Rattle.rules.specs.Macros.{giving, perform, performed, called}

@@ -3,7 +3,7 @@ use Rattle.rules.proofs.Base.{◌≤◌, ℕ, ◌∙◌, refl, sym, ap, ◌≡�
 use Rattle.rules.specs.declared.Answer.TheVariants as answer
 use Rattle.rules.specs.declared.Mark.{Mark}
 use Rattle.rules.specs.declared.Marks.{Marks}
-use Rattle.rules.specs.Answers.{badMark, fault_answer}
+use Rattle.rules.specs.Answers.{bad_mark, fault_answer}
 use Rattle.rules.specs.Arguments.{arg}
 use Rattle.rules.specs.Bytes.{Bytes, same_bytes}
 use Rattle.rules.specs.Macros.{marking, call_changecom, call_changequote}
@@ -87,7 +87,7 @@ module _ {a : Setting} {b : Memory} {m : Machine} (f : Bytes → Bytes → MarkT
   unfolding marking fault_answer
   badly_marked n g =
       let h : is_mark x && is_end_mark y ≡ false = sym e ∙ not-true r n in
-      stepped_refused {m = m} badMark (rw (h, marking)) g
+      stepped_refused {m = m} bad_mark (rw (h, marking)) g
 
   pub well_marked :
       not r ≡ false → Represents a b m s → {m' : Machine} {c : Marks} (v w : Mark) → mark_text v ≡ x → mark_text w ≡ y → mark_texts c ≡ f (mark_text v) (mark_text w) (mark_texts m.marks) → GoodMarks c

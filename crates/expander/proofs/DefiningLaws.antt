@@ -1,7 +1,7 @@
 -- define, copydef, pushdef, popdef and undefine: a table that is changed once, or in turn by each argument.
 use Rattle.rules.proofs.Base.{◌≤◌, ◌+◌, ℕ, ◌<◌, suc, zero, ◌∙◌, refl, sym, ap, ◌≡◌, subst, true, Bool, false, not, some, none, Option, List, [], ◌++◌, ◌∷◌, set, add-one, arith, length, drop, drop_of_length-le, drop-cons, not-true, not-false}
 use Rattle.rules.specs.declared.Answer.TheVariants as answer
-use Rattle.rules.specs.Answers.{noName, noDefinition, fault_answer}
+use Rattle.rules.specs.Answers.{no_name, no_definition, fault_answer}
 use Rattle.rules.specs.Arguments.{arg}
 use Rattle.rules.specs.Bytes.{Bytes, is_name}
 use Rattle.rules.specs.Macros.{naming, call_define, call_popdef, call_pushdef, call_undefine, copying, call_copydef}
@@ -87,11 +87,11 @@ module _ {w : Bytes} {q : Bool} (i : q ≡ is_name w) where
     none_is : {v : Bytes} → w ≡ v → is_name v ≡ false
     none_is e = ap is_name (sym e) ∙ sym i ∙ not-true q n
 
-    pub naming_none : (f : Bytes → Meaning → Table → Table) (args : List Bytes) (s : State) {o : Outcome} → o ≡ naming f args s → w ≡ arg 1 args → o ≡ refused noName
+    pub naming_none : (f : Bytes → Meaning → Table → Table) (args : List Bytes) (s : State) {o : Outcome} → o ≡ naming f args s → w ≡ arg 1 args → o ≡ refused no_name
     unfolding naming
     naming_none f args s is e = let h = none_is e in is ∙ rw (h, naming)
 
-    pub copydef_none : (args : List Bytes) (s : State) → w ≡ arg 2 args → call_copydef args s ≡ refused noName
+    pub copydef_none : (args : List Bytes) (s : State) → w ≡ arg 2 args → call_copydef args s ≡ refused no_name
     unfolding call_copydef
     copydef_none args s e = let h = none_is e in rw (h, call_copydef)
 
@@ -117,17 +117,17 @@ pub copying_some : (m : Meaning) (w : Bytes) (s : State) → copying (some m) w 
 unfolding copying
 copying_some m w s = refl
 
-pub copying_none : (w : Bytes) (s : State) → copying none w s ≡ refused noDefinition
+pub copying_none : (w : Bytes) (s : State) → copying none w s ≡ refused no_definition
 unfolding copying
 copying_none w s = refl
 
-pub refines_name : {a : Setting} {b : Memory} {m : Machine} {o : Outcome} {t : Stepped} → o ≡ refused noName → t ≡ stepped (progress.Refused answer.Name) m → Refines a b o b t
+pub refines_name : {a : Setting} {b : Memory} {m : Machine} {o : Outcome} {t : Stepped} → o ≡ refused no_name → t ≡ stepped (progress.Refused answer.Name) m → Refines a b o b t
 unfolding fault_answer
-refines_name {m = m} e g = stepped_refused {m = m} noName e g
+refines_name {m = m} e g = stepped_refused {m = m} no_name e g
 
-pub refines_no_definition : {a : Setting} {b : Memory} {m : Machine} {o : Outcome} {t : Stepped} → o ≡ refused noDefinition → t ≡ stepped (progress.Refused answer.NoDefinition) m → Refines a b o b t
+pub refines_no_definition : {a : Setting} {b : Memory} {m : Machine} {o : Outcome} {t : Stepped} → o ≡ refused no_definition → t ≡ stepped (progress.Refused answer.NoDefinition) m → Refines a b o b t
 unfolding fault_answer
-refines_no_definition {m = m} e g = stepped_refused {m = m} noDefinition e g
+refines_no_definition {m = m} e g = stepped_refused {m = m} no_definition e g
 
 -- ---- the table u comes next
 
@@ -149,9 +149,9 @@ module _
 
     -- the buffers hold it
     pub changed :
-        {before : Memory} {definitions' : Bytes} {tableEnds' : List ℕ} {d : Definitions} {m' : Machine} → TableIn definitions' tableEnds' d.packed d.own u
-        → length definitions' ≡ length definitions → length tableEnds' ≡ length table_ends → m' ≡ table_set d m → t ≡ stepped progress.On m'
-        → Refines a before o (memory text' set pending calls call_ends stack definitions' tableEnds' streams owners wrap errors output) t
+        {before : Memory} {definitions' : Bytes} {table_ends' : List ℕ} {d : Definitions} {m' : Machine} → TableIn definitions' table_ends' d.packed d.own u
+        → length definitions' ≡ length definitions → length table_ends' ≡ length table_ends → m' ≡ table_set d m → t ≡ stepped progress.On m'
+        → Refines a before o (memory text' set pending calls call_ends stack definitions' table_ends' streams owners wrap errors output) t
     changed h j k y g = stepped_on (with_table_lem r h j k) is (g ∙ ap (stepped progress.On) y)
 
 pub popdef_is : (args : List Bytes) (s : State) → call_popdef args s ≡ next (with_table (in_turn popped args s.table) s)

@@ -1,7 +1,7 @@
 -- Laws of the result of defn, argument by argument. Assumes nothing.
 use Rattle.rules.proofs.Base.{◌≤◌, ◌+◌, ℕ, ◌<◌, ◌*◌, ◌^◌, ◌∙◌, refl, sym, ap, ◌≡◌, subst, some, none, Option, List, [], ◌++◌, ◌∷◌, append_assoc, append-nil, add-one, arith, length, drop, take, get_or, length-append, drop_of_length-le, length-take-le, drop-cons, take_all}
 use Rattle.rules.specs.Bytes.{Bytes}
-use Rattle.rules.specs.Answers.{Fault, noText}
+use Rattle.rules.specs.Answers.{Fault, no_text}
 use Rattle.rules.specs.Marks.{MarkTexts, quoted}
 use Rattle.rules.specs.Table.{Meaning, text, predefined, Table, meaning_of}
 use Rattle.rules.specs.Arguments.{arg}
@@ -14,7 +14,7 @@ use Rattle.expander.specs.declared.packed.Packed.{Packed}
 use Rattle.expander.specs.declared.table.Meaning.{Meaning as Looked}
 use Rattle.expander.specs.declared.table.Meaning.TheVariants as looked
 use Rattle.expander.specs.declared.defn.DefnLength.{DefnLength}
-use Rattle.expander.specs.declared.defn.DefnLength.TheVariants as defnLength
+use Rattle.expander.specs.declared.defn.DefnLength.TheVariants as defn_length
 use Rattle.expander.proofs.ArgumentLaws.{arg_next}
 use Rattle.expander.proofs.FilledLaws.{filled_front, filled_nothing}
 use Rattle.expander.proofs.Rows.{finds_within}
@@ -33,41 +33,41 @@ front_twice v w (fails f) = refl
 
 measured_front : (w : Bytes) (r : Result) → measured_as (in_front w r) ≡ longer (length w) (measured_as r)
 unfolding in_front measured_as longer
-measured_front w (yields x) = ap defnLength.Bytes (length-append w x)
+measured_front w (yields x) = ap defn_length.Bytes (length-append w x)
 measured_front w (fails f) = refl
 
 longer_twice : (a b : ℕ) (l : DefnLength) → longer a (longer b l) ≡ longer (a + b) l
 unfolding longer
-longer_twice a b (defnLength.Bytes k) = ap defnLength.Bytes (omega arith)
-longer_twice a b defnLength.NoText = refl
+longer_twice a b (defn_length.Bytes k) = ap defn_length.Bytes (omega arith)
+longer_twice a b defn_length.NoText = refl
 
 longer_zero : (l : DefnLength) → longer 0 l ≡ l
 unfolding longer
-longer_zero (defnLength.Bytes k) = ap defnLength.Bytes (omega arith)
-longer_zero defnLength.NoText = refl
+longer_zero (defn_length.Bytes k) = ap defn_length.Bytes (omega arith)
+longer_zero defn_length.NoText = refl
 
-pub no_length : {n : ℕ} → defnLength.Bytes n ≡ defnLength.NoText → ⊥
+pub no_length : {n : ℕ} → defn_length.Bytes n ≡ defn_length.NoText → ⊥
 no_length e = let z : ◌≡◌ {A = ℕ} 0 1 = cc in omega arith
 
-pub same_bytes_lem : {a b : ℕ} → defnLength.Bytes a ≡ defnLength.Bytes b → a ≡ b
+pub same_bytes_lem : {a b : ℕ} → defn_length.Bytes a ≡ defn_length.Bytes b → a ≡ b
 same_bytes_lem e = cc
 
-longer_none : (n : ℕ) (l : DefnLength) → longer n l ≡ defnLength.NoText → l ≡ defnLength.NoText
+longer_none : (n : ℕ) (l : DefnLength) → longer n l ≡ defn_length.NoText → l ≡ defn_length.NoText
 unfolding longer
-longer_none n (defnLength.Bytes k) e = absurd (no_length e)
-longer_none n defnLength.NoText e = refl
+longer_none n (defn_length.Bytes k) e = absurd (no_length e)
+longer_none n defn_length.NoText e = refl
 
-longer_least : (n : ℕ) (l : DefnLength) {k : ℕ} → longer n l ≡ defnLength.Bytes k → n ≤ k
+longer_least : (n : ℕ) (l : DefnLength) {k : ℕ} → longer n l ≡ defn_length.Bytes k → n ≤ k
 unfolding longer
-longer_least n (defnLength.Bytes j) e = omega (arith, same_bytes_lem e)
-longer_least n defnLength.NoText e = absurd (no_length (sym e))
+longer_least n (defn_length.Bytes j) e = omega (arith, same_bytes_lem e)
+longer_least n defn_length.NoText e = absurd (no_length (sym e))
 
-followed_long : (q r : Result) {n : ℕ} → measured_as q ≡ defnLength.Bytes n → measured_as (followed_by q r) ≡ longer n (measured_as r)
+followed_long : (q r : Result) {n : ℕ} → measured_as q ≡ defn_length.Bytes n → measured_as (followed_by q r) ≡ longer n (measured_as r)
 unfolding followed_by measured_as
 followed_long (yields w) r e = measured_front w r ∙ ap (λ (k : ℕ). longer k (measured_as r)) (same_bytes_lem e)
 followed_long (fails f) r e = absurd (no_length (sym e))
 
-followed_none : (q r : Result) → measured_as q ≡ defnLength.NoText → measured_as (followed_by q r) ≡ defnLength.NoText
+followed_none : (q r : Result) → measured_as q ≡ defn_length.NoText → measured_as (followed_by q r) ≡ defn_length.NoText
 unfolding followed_by measured_as
 followed_none (yields w) r e = absurd (no_length e)
 followed_none (fails f) r e = refl
@@ -79,21 +79,21 @@ module _ (m : MarkTexts) (t : Table) where
   defn_cons w ws = go (meaning_of w t)
     where
       go : (o : Option Meaning)
-          → ◌≡◌ {A = Result} (elim o [ none ↦ defn_result m t ws | some (text x) ↦ in_front (quoted m x) (defn_result m t ws) | some (predefined k) ↦ fails noText ])
-          (followed_by (elim o [ none ↦ yields [] | some (text x) ↦ yields (quoted m x) | some (predefined k) ↦ fails noText ]) (defn_result m t ws))
+          → ◌≡◌ {A = Result} (elim o [ none ↦ defn_result m t ws | some (text x) ↦ in_front (quoted m x) (defn_result m t ws) | some (predefined k) ↦ fails no_text ])
+          (followed_by (elim o [ none ↦ yields [] | some (text x) ↦ yields (quoted m x) | some (predefined k) ↦ fails no_text ]) (defn_result m t ws))
       go none = sym (front_nothing (defn_result m t ws))
       go (some (text x)) = refl
       go (some (predefined k)) = refl
 
   -- a result without a length is refused for want of a text
-  pub defn_fails : (args : List Bytes) → measured_as (defn_result m t args) ≡ defnLength.NoText → defn_result m t args ≡ fails noText
+  pub defn_fails : (args : List Bytes) → measured_as (defn_result m t args) ≡ defn_length.NoText → defn_result m t args ≡ fails no_text
   unfolding defn_result measured_as in_front
   defn_fails [] e = absurd (no_length e)
   defn_fails (w ∷ ws) e = go (meaning_of w t) (defn_fails ws) e
     where
-      go : (o : Option Meaning) → (measured_as (defn_result m t ws) ≡ defnLength.NoText → defn_result m t ws ≡ fails noText)
-          → measured_as (elim o [ none ↦ defn_result m t ws | some (text x) ↦ in_front (quoted m x) (defn_result m t ws) | some (predefined k) ↦ fails noText ]) ≡ defnLength.NoText
-          → ◌≡◌ {A = Result} (elim o [ none ↦ defn_result m t ws | some (text x) ↦ in_front (quoted m x) (defn_result m t ws) | some (predefined k) ↦ fails noText ]) (fails noText)
+      go : (o : Option Meaning) → (measured_as (defn_result m t ws) ≡ defn_length.NoText → defn_result m t ws ≡ fails no_text)
+          → measured_as (elim o [ none ↦ defn_result m t ws | some (text x) ↦ in_front (quoted m x) (defn_result m t ws) | some (predefined k) ↦ fails no_text ]) ≡ defn_length.NoText
+          → ◌≡◌ {A = Result} (elim o [ none ↦ defn_result m t ws | some (text x) ↦ in_front (quoted m x) (defn_result m t ws) | some (predefined k) ↦ fails no_text ]) (fails no_text)
       go none f e = f e
       go (some (text x)) f e = ap (in_front (quoted m x)) (f (longer_none (length (quoted m x)) _ (sym (measured_front (quoted m x) (defn_result m t ws)) ∙ e)))
       go (some (predefined k)) f e = refl
@@ -120,19 +120,19 @@ pub measured_begins : (m : MarkTexts) (t : Table) (args : List Bytes) → Measur
 measured_begins m t args = record { so_far = sym (longer_zero (measured_as (defn_result m t args))) }
 
 module _ {m : MarkTexts} {t : Table} {args : List Bytes} {k total : ℕ} (s : Measured m t args k total) where
-  pub measured_ends : length args ≤ k → defnLength.Bytes total ≡ measured_as (defn_result m t args)
+  pub measured_ends : length args ≤ k → defn_length.Bytes total ≡ measured_as (defn_result m t args)
   unfolding measured_as longer
-  measured_ends h = sym (s.so_far ∙ ap (λ (r : Result). longer total (measured_as r)) (past m t args k h) ∙ ap defnLength.Bytes (omega arith))
+  measured_ends h = sym (s.so_far ∙ ap (λ (r : Result). longer total (measured_as r)) (past m t args k h) ∙ ap defn_length.Bytes (omega arith))
 
   module _ {name : Bytes} {r : DefnLength} (e : name ≡ arg (k + 1) args) (h : k < length args) (f : r ≡ measured_as (named_result m t name)) where
     measured_turn : measured_as (defn_result m t args) ≡ longer total (measured_as (followed_by (named_result m t name) (defn_result m t (drop (k + 1) args))))
     measured_turn = s.so_far ∙ ap (λ (q : Result). longer total (measured_as q)) (turn m t args k e h)
 
-    pub measured_on : {n : ℕ} → r ≡ defnLength.Bytes n → Measured m t args (k + 1) (total + n)
+    pub measured_on : {n : ℕ} → r ≡ defn_length.Bytes n → Measured m t args (k + 1) (total + n)
     measured_on {n} g =
         record { so_far = measured_turn ∙ ap (longer total) (followed_long (named_result m t name) _ (sym f ∙ g)) ∙ longer_twice total n _ }
 
-    pub measured_none : r ≡ defnLength.NoText → defnLength.NoText ≡ measured_as (defn_result m t args)
+    pub measured_none : r ≡ defn_length.NoText → defn_length.NoText ≡ measured_as (defn_result m t args)
     unfolding longer
     measured_none g = sym (measured_turn ∙ ap (longer total) (followed_none (named_result m t name) _ (sym f ∙ g)))
 
@@ -140,10 +140,10 @@ module _ {m : MarkTexts} {t : Table} {args : List Bytes} {k total : ℕ} (s : Me
 
 pub record Joining (m : MarkTexts) (t : Table) (args : List Bytes) (k : ℕ) (dst : Bytes) (at : ℕ) : Type 0 where
   pub in_buffer : at ≤ length dst
-  pub long : measured_as (defn_result m t args) ≡ defnLength.Bytes (length dst)
+  pub long : measured_as (defn_result m t args) ≡ defn_length.Bytes (length dst)
   pub so_far : defn_result m t args ≡ in_front (take at dst) (defn_result m t (drop k args))
 
-pub joining_begins : {m : MarkTexts} {t : Table} {args : List Bytes} {dst : Bytes} → measured_as (defn_result m t args) ≡ defnLength.Bytes (length dst) → Joining m t args 0 dst 0
+pub joining_begins : {m : MarkTexts} {t : Table} {args : List Bytes} {dst : Bytes} → measured_as (defn_result m t args) ≡ defn_length.Bytes (length dst) → Joining m t args 0 dst 0
 joining_begins {m} {t} {args} e = record { in_buffer = omega arith; long = e; so_far = sym (front_nothing (defn_result m t args)) }
 
 module _ {m : MarkTexts} {t : Table} {args : List Bytes} {k : ℕ} {dst : Bytes} {at : ℕ} (s : Joining m t args k dst at) where
@@ -184,7 +184,7 @@ module _ {m : MarkTexts} {t : Table} {args : List Bytes} {k : ℕ} {dst : Bytes}
             let l = f w g in
             record {
               in_buffer = omega (arith, l.behind, l.filled.fits, d);
-              long = s.long ∙ ap defnLength.Bytes (sym d);
+              long = s.long ∙ ap defn_length.Bytes (sym d);
               so_far =
                   with_text g
                   ∙ ap (λ (v : Bytes). in_front v (defn_result m t (drop (k + 1) args))) (sym (ap (λ (j : ℕ). take j dst') l.behind ∙ filled_front l.filled));
@@ -198,7 +198,7 @@ module _ (m : MarkTexts) (t : Table) (w : Bytes) {r : Looked} (f : Finds t.defin
   unfolding named_result meaning_for
   named_text e g = rw (f.is ∙ ap (meaning_for (rows t.definitions)) e, named_result) (ap (λ (v : Bytes). yields (quoted m v)) (sym g))
 
-  pub named_predefined : {k : ℕ} → r ≡ looked.Predefined k → named_result m t w ≡ fails noText
+  pub named_predefined : {k : ℕ} → r ≡ looked.Predefined k → named_result m t w ≡ fails no_text
   unfolding named_result meaning_for
   named_predefined e = rw (f.is ∙ ap (meaning_for (rows t.definitions)) e, named_result)
 
@@ -222,8 +222,8 @@ module _ {bytes : Bytes} {ends : List ℕ} {p : Packed} {own : ℕ} (d : ValidDe
 pub same_text : {r : Result} {v w : Bytes} → r ≡ yields v → r ≡ yields w → v ≡ w
 same_text e f = cc
 
-pub no_text : {r : Result} {f : Fault} {w : Bytes} → r ≡ fails f → r ≡ yields w → ⊥
-no_text e g = let z : ◌≡◌ {A = ℕ} 0 1 = cc in omega arith
+pub no_text_lem : {r : Result} {f : Fault} {w : Bytes} → r ≡ fails f → r ≡ yields w → ⊥
+no_text_lem e g = let z : ◌≡◌ {A = ℕ} 0 1 = cc in omega arith
 
 -- no text: the buffer is as it was
 pub nothing_lays : (d : Bytes) (at : ℕ) → at ≤ length d → Lays d at [] d at

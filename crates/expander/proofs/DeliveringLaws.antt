@@ -1,6 +1,6 @@
 -- Laws of tokens that stand for themselves, and of calls that are opened: what fits, and what is represented then. Assumes nothing.
 use Rattle.expander.specs.Limits.{most_lent}
-use Rattle.rules.proofs.Base.{◌*◌, ◌≤◌, ◌+◌, ℕ, ◌-◌, ◌<◌, suc, zero, ◌∙◌, refl, sym, ap, ◌≡◌, subst, true, Bool, false, ◌||◌, or_true, some, List, [], ◌++◌, ◌∷◌, add-one, ℕ_discrete, arith, leb, ltb, ℤ, length, drop, take, get_or, length-append, length-drop, set, length-take, le-leb, lt-leb, ltb-true, ltb-false}
+use Rattle.rules.proofs.Base.{◌*◌, ◌≤◌, ◌+◌, ℕ, ◌-◌, ◌<◌, suc, zero, ◌∙◌, refl, sym, ap, ◌≡◌, subst, true, Bool, false, ◌||◌, or-true, some, List, [], ◌++◌, ◌∷◌, add-one, ℕ_discrete, arith, leb, ltb, ℤ, length, drop, take, get_or, length-append, length-drop, set, length-take, le-leb, lt-leb, ltb-true, ltb-false}
 use Rattle.rules.specs.declared.Answer.TheVariants as answer
 use Rattle.rules.specs.Bytes.{Bytes}
 use Rattle.rules.specs.Answers.{deep, fault_answer}
@@ -302,7 +302,7 @@ module _ {a : Setting} {b : Memory} {m : Machine} {s : State} (r : Represents a 
   unfolding taking with_source
   open_many name width h =
       refuses_deep
-      (opened_deep name (taking width s) (rw (le-leb 256 (argument_count s.calls) (omega (arith, calls_counted r.calls))) (or_true (leb 64 (length s.calls)))))
+      (opened_deep name (taking width s) (rw (le-leb 256 (argument_count s.calls) (omega (arith, calls_counted r.calls))) (or-true (leb 64 (length s.calls)))))
 
   open_free :
       (name : Bytes) (width : ℕ) → m.calls.opens < 64 → m.calls.strings.count - m.calls.opens < 256

@@ -6,7 +6,7 @@ use Rattle.numerals.specs.Answers.{decimal_of}
 use Rattle.rules.specs.declared.Answer.TheVariants as answer
 use Rattle.rules.specs.Bytes.{Bytes}
 use Rattle.rules.specs.Words.{signed_value}
-use Rattle.rules.specs.Answers.{done, ending_answer, noNumber, fault_answer}
+use Rattle.rules.specs.Answers.{done, ending_answer, no_number, fault_answer}
 use Rattle.rules.specs.Arguments.{number_or}
 use Rattle.rules.specs.Streams.{Streams, total_length, moved, moved_in_turn, joined, finished_streams, diverted, changed, changed_in_turn, discards}
 use Rattle.rules.specs.Macros.{call_divert, call_undivert}
@@ -286,7 +286,7 @@ module _ {streams : Bytes} {owners : List ℕ} {output : Bytes} {k : Sinks} {see
 -- ---- divert
 
 module _ (args : List Bytes) (s : State) where
-  divert_none : number_or (pos 0) 1 args ≡ none → call_divert args s ≡ refused noNumber
+  divert_none : number_or (pos 0) 1 args ≡ none → call_divert args s ≡ refused no_number
   unfolding call_divert
   divert_none e = rw (e, call_divert)
 
@@ -297,7 +297,7 @@ module _ (args : List Bytes) (s : State) where
 module _ {a : Setting} {b : Memory} {m : Machine} {s : State} (r : Represents a b m s) (args : List Bytes) where
   pub divert_unread : decimal_of (number_or (pos 0) 1 args) ≡ decimal.NoNumber → Refines a b (call_divert args s) b (stepped (progress.Refused answer.Number) m)
   unfolding fault_answer
-  divert_unread e = stepped_refused noNumber (divert_none args s (decimal_none refl e)) refl
+  divert_unread e = stepped_refused no_number (divert_none args s (decimal_none refl e)) refl
 
   pub divert_read :
       (bits : ℕ) → decimal_of (number_or (pos 0) 1 args) ≡ decimal.Number bits
@@ -318,7 +318,7 @@ module _ {a : Setting} {b : Memory} {m : Machine} {s : State} (r : Represents a 
 -- ---- undivert
 
 module _ (args : List Bytes) (s : State) where
-  undivert_none : all_named args ≡ false → call_undivert args s ≡ refused noNumber
+  undivert_none : all_named args ≡ false → call_undivert args s ≡ refused no_number
   unfolding call_undivert
   undivert_none e = rw (undivert_unnamed args e, call_undivert)
 
@@ -329,7 +329,7 @@ module _ (args : List Bytes) (s : State) where
 module _ {a : Setting} {b : Memory} {m : Machine} {s : State} (r : Represents a b m s) (args : List Bytes) where
   pub undivert_bad : all_named args ≡ false → Refines a b (call_undivert args s) b (stepped (progress.Refused answer.Number) m)
   unfolding fault_answer
-  undivert_bad e = stepped_refused noNumber (undivert_none args s e) refl
+  undivert_bad e = stepped_refused no_number (undivert_none args s e) refl
 
   module _ (e : all_named args ≡ true) where
     pub undivert_full : leb (length (moved_in_turn (turns args) s.streams).output) (length b.output) ≡ false → Refines a b (call_undivert args s) b (stepped (progress.Refused (answer.Room 7)) m)

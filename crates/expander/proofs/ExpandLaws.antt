@@ -42,15 +42,15 @@ all_lent t p c d s w e o q =
 
 -- the lent lengths, for a run that gets as much of its own texts as is lent
 pub lent_limits :
-    (text set pending calls definitions streams wrap errors output errorText outputText : Bytes) (ends stack table_ends owners : List ℕ) (budget : ℕ)
+    (text set pending calls definitions streams wrap errors output error_text output_text : Bytes) (ends stack table_ends owners : List ℕ) (budget : ℕ)
     → Lent (length text) (length pending) (length calls) (length definitions) (length streams) (length wrap) (length errors) (length output)
-    → LinkLengths ends stack table_ends owners → length errorText ≡ most_lent → length outputText ≡ most_lent
+    → LinkLengths ends stack table_ends owners → length error_text ≡ most_lent → length output_text ≡ most_lent
     → Limits (setting_of (record { pending = pending; calls = calls; definitions = definitions; streams = streams; wrap = wrap; errors = errors; output = output }) budget)
-    (memory text set pending calls ends stack definitions table_ends streams owners wrap (take (length errors) errorText) (take (length output) outputText))
+    (memory text set pending calls ends stack definitions table_ends streams owners wrap (take (length errors) error_text) (take (length output) output_text))
 unfolding setting_of
-lent_limits text set pending calls definitions streams wrap errors output errorText outputText ends stack table_ends owners budget l k e o =
-    let p = length-take-le (length errors) errorText (omega (arith, l.errors_in)) in
-    let q = length-take-le (length output) outputText (omega (arith, l.output_in)) in
+lent_limits text set pending calls definitions streams wrap errors output error_text output_text ends stack table_ends owners budget l k e o =
+    let p = length-take-le (length errors) error_text (omega (arith, l.errors_in)) in
+    let q = length-take-le (length output) output_text (omega (arith, l.output_in)) in
     record {
       text = l.text_in;
       pending = refl;
@@ -84,23 +84,23 @@ front_longer {buffer} {n} more f =
     record { text_is = take-append-le n buffer more f.inside ∙ f.text_is; inside = omega (arith, length-append buffer more, f.inside) }
 
 -- what the run wrote, in longer buffers, is as short as its own
-module _ {e : Ended} {errors output : Bytes} {r : Report} (x : Ran e errors output r) (moreErrors moreOutput : Bytes) where
-  pub ran_longer : Ran e (errors ++ moreErrors) (output ++ moreOutput) r
-  ran_longer = record { report = x.report; errors_are = front_longer moreErrors x.errors_are; output_are = front_longer moreOutput x.output_are }
+module _ {e : Ended} {errors output : Bytes} {r : Report} (x : Ran e errors output r) (more_errors more_output : Bytes) where
+  pub ran_longer : Ran e (errors ++ more_errors) (output ++ more_output) r
+  ran_longer = record { report = x.report; errors_are = front_longer more_errors x.errors_are; output_are = front_longer more_output x.output_are }
 
-  pub output_few : (k : ℕ) → length output ≡ k → length (take r.output (output ++ moreOutput)) ≤ k
-  output_few k q = omega (arith, length-take-le r.output (output ++ moreOutput) ran_longer.output_are.inside, x.output_are.inside)
+  pub output_few : (k : ℕ) → length output ≡ k → length (take r.output (output ++ more_output)) ≤ k
+  output_few k q = omega (arith, length-take-le r.output (output ++ more_output) ran_longer.output_are.inside, x.output_are.inside)
 
-  pub errors_few : (k : ℕ) → length errors ≡ k → length (take r.errors (errors ++ moreErrors)) ≤ k
-  errors_few k q = omega (arith, length-take-le r.errors (errors ++ moreErrors) ran_longer.errors_are.inside, x.errors_are.inside)
+  pub errors_few : (k : ℕ) → length errors ≡ k → length (take r.errors (errors ++ more_errors)) ≤ k
+  errors_few k q = omega (arith, length-take-le r.errors (errors ++ more_errors) ran_longer.errors_are.inside, x.errors_are.inside)
 
 -- all zero, for a buffer that kept its length
 pub zeros : {before after : Bytes} (k : ℕ) → Zeroed before after → length before ≡ k → after ≡ replicate k 0
 zeros k z q = z.is ∙ ap (λ (i : ℕ). replicate i 0) q
 
 pub wrote :
-    {e : Ended} {errorText outputText errors output errors' output' : Bytes} {r : Report} → Ran e errorText outputText r
-    → errors' ≡ fronted (take r.errors errorText) errors → output' ≡ fronted (take r.output outputText) output → Wrote e errors output errors' output' r
+    {e : Ended} {error_text output_text errors output errors' output' : Bytes} {r : Report} → Ran e error_text output_text r
+    → errors' ≡ fronted (take r.errors error_text) errors → output' ≡ fronted (take r.output output_text) output → Wrote e errors output errors' output' r
 wrote {errors} {output} x p q =
     record {
       report = x.report;

@@ -3,12 +3,12 @@ use Rattle.rules.proofs.Base.{◌≤◌, ◌+◌, ℕ, ◌-◌, ◌<◌, ◌∙�
 use borrow.Rule.Slice.PartMut.{put_mid}
 use Rattle.rules.specs.declared.Answer.TheVariants as answer
 use Rattle.rules.specs.Bytes.{Bytes}
-use Rattle.rules.specs.Answers.{Fault, fault_answer, noNumber, noText}
+use Rattle.rules.specs.Answers.{Fault, fault_answer, no_number, no_text}
 use Rattle.rules.specs.Marks.{MarkTexts}
 use Rattle.rules.specs.Source.{push_back}
 use Rattle.rules.specs.State.{State, Outcome, next, refused, resulting, with_source}
 use Rattle.rules.specs.Run.{Setting}
-use Rattle.rules.specs.Table.{Definition, text}
+use Rattle.rules.specs.Table.{Definition}
 use Rattle.rules.specs.Words.{signed_value}
 use Rattle.rules.specs.Numerals.{written_in}
 use Rattle.rules.specs.Arguments.{arg, commas, quoted_each, substituted}
@@ -22,7 +22,7 @@ use Rattle.matching.proofs.Partners.{table_puts}
 use Rattle.expander.specs.declared.arguments.Arguments.{Arguments}
 use Rattle.expander.specs.declared.part_results.PartResult.{PartResult}
 use Rattle.expander.specs.declared.part_results.PartResult.TheVariants as part_result
-use Rattle.expander.specs.declared.defn.DefnLength.TheVariants as defnLength
+use Rattle.expander.specs.declared.defn.DefnLength.TheVariants as defn_length
 use Rattle.expander.specs.declared.number_results.NumberResult.{NumberResult}
 use Rattle.expander.specs.declared.number_results.NumberResult.TheVariants as number-result
 use Rattle.expander.specs.declared.giving.Pushed.TheVariants as pushed
@@ -159,7 +159,7 @@ pub part_result_yields : {bytes : Bytes} {v : Result} {c : PartResult} {start en
 unfolding result_of_part
 part_result_yields {bytes} h e = h.is ∙ ap (result_of_part bytes) e
 
-pub part_result_fails : {bytes : Bytes} {v : Result} {c : PartResult} → ShowsPart bytes v c → c ≡ part_result.NoNumber → v ≡ fails noNumber
+pub part_result_fails : {bytes : Bytes} {v : Result} {c : PartResult} → ShowsPart bytes v c → c ≡ part_result.NoNumber → v ≡ fails no_number
 unfolding result_of_part
 part_result_fails {bytes} h e = h.is ∙ ap (result_of_part bytes) e
 
@@ -190,7 +190,7 @@ module _ (s : State) (args : List Bytes) where
     unfolding call_defn
     defn_refines h = giving_yields s (ap (λ (x : MarkTexts). defn_result x s.table args) e ∙ h)
 
-    pub defn_refused : defn_result k s.table args ≡ fails noText → call_defn args s ≡ refused noText
+    pub defn_refused : defn_result k s.table args ≡ fails no_text → call_defn args s ≡ refused no_text
     unfolding call_defn
     defn_refused h = giving_fails s (ap (λ (x : MarkTexts). defn_result x s.table args) e ∙ h)
 
@@ -207,7 +207,7 @@ pub record Measured (v : Result) (n : ℕ) : Type 0 where
   pub is : v ≡ yields text
   pub long : length text ≡ n
 
-pub defn_measured : (v : Result) (n : ℕ) → measured_as v ≡ defnLength.Bytes n → Measured v n
+pub defn_measured : (v : Result) (n : ℕ) → measured_as v ≡ defn_length.Bytes n → Measured v n
 unfolding measured_as
 defn_measured (yields w) n e = record { text = w; is = refl; long = cc }
 defn_measured (fails f) n e = let z : ◌≡◌ {A = ℕ} 0 1 = cc in absurd (omega arith)

@@ -1,5 +1,5 @@
 -- The contents of an item in front of the text ahead. Assumes nothing.
-use Rattle.rules.proofs.Base.{ℕ, ◌≤◌, ◌∙◌, refl, sym, ap, ◌≡◌, true, Bool, false, some, none, Option, List, [], ◌++◌, arith, length, drop, drop-length, append-nil, le-leb}
+use Rattle.rules.proofs.Base.{ℕ, ◌∙◌, sym, ap, ◌≡◌, Bool, some, none, Option, List, ◌++◌, arith, length, drop, drop-length, append-nil, le-leb}
 use Rattle.rules.specs.Bytes.{Bytes}
 use Rattle.rules.specs.Sets.{Item, item_text}
 use Rattle.rules.specs.Arguments.{arg}

@@ -131,3 +131,14 @@ tested false false = (refl, refl)
 pub met_tests : (a b s : Bytes) (m : Met) → met_at a b s ≡ m → Tests m (at_mark a s) (at_mark b s)
 unfolding met_at
 met_tests a b s m e = subst (λ (k : Met). Tests k (at_mark a s) (at_mark b s)) e (tested (at_mark a s) (at_mark b s))
+
+-- the mark that stands at the front, whichever it is, lies in the text
+abbrev pub met_mark : Met → Bytes → Bytes → Bytes
+met_mark First a b = a
+met_mark Second a b = b
+met_mark Neither a b = []
+
+pub met_reach : (a b text : Bytes) (i : ℕ) (m : Met) → i ≤ length text → met_at a b (drop i text) ≡ m → i + length (met_mark m a b) ≤ length text
+met_reach a b text i First h e = omega (arith, at_long a (drop i text) (met_tests a b (drop i text) First e), length-drop i text)
+met_reach a b text i Second h e = omega (arith, at_long b (drop i text) (met_tests a b (drop i text) Second e).1, length-drop i text)
+met_reach a b text i Neither h e = omega arith

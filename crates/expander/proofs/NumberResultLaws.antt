@@ -10,7 +10,7 @@ use Rattle.rules.specs.declared.Evaluated.{Evaluated}
 use Rattle.rules.specs.contracts.Evaluated.{the_type}
 use Rattle.rules.specs.declared.Evaluated.TheVariants as evaluated
 use Rattle.rules.specs.Bytes.{Bytes}
-use Rattle.rules.specs.Answers.{noNumber}
+use Rattle.rules.specs.Answers.{no_number}
 use Rattle.rules.specs.Streams.{joined}
 use Rattle.rules.specs.Words.{largest, signed_value, wrapped}
 use Rattle.rules.specs.Numerals.{number, decimal}
@@ -52,7 +52,7 @@ unfolding changed_number divnum_result
 counted_in f z bits h e = rw (e, is_number_lem (f z) h, changed_number)
 
 module _ (args : List Bytes) {d : Decimal} (e : d ≡ decimal_of (number (arg 1 args))) where
-  counts_none : (f : ℤ → ℤ) → d ≡ read.NoNumber → changed_number f (number (arg 1 args)) ≡ fails noNumber
+  counts_none : (f : ℤ → ℤ) → d ≡ read.NoNumber → changed_number f (number (arg 1 args)) ≡ fails no_number
   unfolding changed_number
   counts_none f k = ap (changed_number f) (decimal_none e k)
 
@@ -70,17 +70,17 @@ module _ (args : List Bytes) {d : Decimal} (e : d ≡ decimal_of (number (arg 1 
 
     pub decr_least : bits ≡ 2147483648 → Shows (decr_result args) number-result.NoNumber
     unfolding decr_result result_of_number GoodRadix changed_number is_number wrapped
-    decr_least b = record { is = counts_some pred_ℤ (fails noNumber) go; radix = tt }
+    decr_least b = record { is = counts_some pred_ℤ (fails no_number) go; radix = tt }
       where
-        go : (z : ℤ) → Signed z → bits ≡ wrapped z → changed_number pred_ℤ (some z) ≡ fails noNumber
+        go : (z : ℤ) → Signed z → bits ≡ wrapped z → changed_number pred_ℤ (some z) ≡ fails no_number
         go (pos n) h m = absurd (omega arith)
         go (negsuc n) h m = let t : n ≡ largest = omega arith in rw t
 
     pub incr_greatest : bits ≡ 2147483647 → Shows (incr_result args) number-result.NoNumber
     unfolding incr_result result_of_number GoodRadix changed_number is_number wrapped
-    incr_greatest b = record { is = counts_some suc_ℤ (fails noNumber) go; radix = tt }
+    incr_greatest b = record { is = counts_some suc_ℤ (fails no_number) go; radix = tt }
       where
-        go : (z : ℤ) → Signed z → bits ≡ wrapped z → changed_number suc_ℤ (some z) ≡ fails noNumber
+        go : (z : ℤ) → Signed z → bits ≡ wrapped z → changed_number suc_ℤ (some z) ≡ fails no_number
         go (pos n) h m = let t : n ≡ largest = omega arith in rw t
         go (negsuc n) h m = absurd (omega arith)
 

@@ -5,7 +5,7 @@ use Rattle.numerals.specs.Answers.{natural_of}
 use Rattle.numerals.specs.declared.Natural.{Natural}
 use Rattle.numerals.specs.declared.Natural.TheVariants as found
 use Rattle.rules.specs.Bytes.{Bytes, same_bytes}
-use Rattle.rules.specs.Answers.{noNumber}
+use Rattle.rules.specs.Answers.{no_number}
 use Rattle.rules.specs.Numerals.{number}
 use Rattle.rules.specs.Table.{Table, Definition, meaning_of, is_defined}
 use Rattle.rules.specs.Arguments.{arg, number_or, bounded}
@@ -211,7 +211,7 @@ module _ {size : ℕ} (few : size ≤ 2147483647) where
   size_good = rw (le-leb 0 size (omega arith), le-leb size 2147483647 few, bounded)
 
   shortened_fails :
-      (rest : List Bytes) (w : Bytes) → bounded 0 2147483647 (elim rest [ [] ↦ some (pos size) | a ∷ more ↦ number a ]) ≡ none → shortened rest w ≡ fails noNumber
+      (rest : List Bytes) (w : Bytes) → bounded 0 2147483647 (elim rest [ [] ↦ some (pos size) | a ∷ more ↦ number a ]) ≡ none → shortened rest w ≡ fails no_number
   unfolding shortened needing
   shortened_fails [] w e = let q : some size ≡ none = sym size_good ∙ e in let z : ◌≡◌ {A = ℕ} 0 1 = cc in absurd (omega arith)
   shortened_fails (a ∷ more) w e = rw e refl

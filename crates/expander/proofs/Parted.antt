@@ -78,8 +78,8 @@ module _
         }
 
     pub with_calls_lem :
-        {calls' : Bytes} {callEnds' : List ℕ} {stack' : List ℕ} {x : Calls} {y : List Call} → CallsIn calls' callEnds' stack' x y → length calls' ≡ length calls → length callEnds' ≡ length call_ends → length stack' ≡ length stack
-        → Represents a (memory text set pending calls' callEnds' stack' definitions table_ends streams owners wrap errors output) (calls_set x m) (with_calls y s)
+        {calls' : Bytes} {call_ends' : List ℕ} {stack' : List ℕ} {x : Calls} {y : List Call} → CallsIn calls' call_ends' stack' x y → length calls' ≡ length calls → length call_ends' ≡ length call_ends → length stack' ≡ length stack
+        → Represents a (memory text set pending calls' call_ends' stack' definitions table_ends streams owners wrap errors output) (calls_set x m) (with_calls y s)
     unfolding with_calls
     with_calls_lem h e-calls e-callEnds e-stack =
         record {
@@ -96,8 +96,8 @@ module _
         }
 
     pub with_table_lem :
-        {definitions' : Bytes} {tableEnds' : List ℕ} {x : Definitions} {y : Table} → TableIn definitions' tableEnds' x.packed x.own y → length definitions' ≡ length definitions → length tableEnds' ≡ length table_ends
-        → Represents a (memory text set pending calls call_ends stack definitions' tableEnds' streams owners wrap errors output) (table_set x m) (with_table y s)
+        {definitions' : Bytes} {table_ends' : List ℕ} {x : Definitions} {y : Table} → TableIn definitions' table_ends' x.packed x.own y → length definitions' ≡ length definitions → length table_ends' ≡ length table_ends
+        → Represents a (memory text set pending calls call_ends stack definitions' table_ends' streams owners wrap errors output) (table_set x m) (with_table y s)
     unfolding with_table
     with_table_lem h e-definitions e-tableEnds =
         record {

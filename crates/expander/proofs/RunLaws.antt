@@ -6,7 +6,7 @@ use Rattle.rules.specs.declared.Answer.TheVariants as answer
 use Rattle.rules.specs.declared.Report.{Report}
 use Rattle.rules.specs.Bytes.{Bytes}
 use Rattle.rules.specs.Answers.{is_finished, answer_number}
-use Rattle.rules.specs.State.{State, stop, fresh_start, start_state}
+use Rattle.rules.specs.State.{State, fresh_start, start_state}
 use Rattle.rules.specs.Sets.{Item, set_items}
 use Rattle.rules.specs.Step.{step}
 use Rattle.rules.specs.Run.{Setting, lengths, Ended, ended_with, run_from, all_lendable}

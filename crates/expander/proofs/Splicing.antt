@@ -5,7 +5,7 @@ use Rattle.rules.specs.Streams.{joined}
 use Rattle.expander.specs.Packed.{ends_from, Packs, start_of, overlaid, rebased}
 use Rattle.expander.proofs.Overwriting.{length-overlaid, take-overlaid, drop-overlaid, mapped_length}
 use Rattle.expander.proofs.Parts.{drop-take}
-use Rattle.expander.proofs.Packing.{joined-append, joined_one, ends_append, drop_ends, packs, count_is, used_is, start_is, start_next, start_in_lem, front, Lies, lies}
+use Rattle.expander.proofs.Packing.{joined-append, joined_one, ends_append, drop_ends, packs, count_is, used_is, start_is, start_next, start_in_lem, front, lies}
 
 -- ends that start elsewhere
 rebased_ends : (at less more : ℕ) (ss : List Bytes) → map (rebased less more) (ends_from (at + less) ss) ≡ ends_from (at + more) ss

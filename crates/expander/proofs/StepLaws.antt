@@ -6,7 +6,7 @@ use Rattle.rules.specs.declared.Reading.TheVariants.{Is, OpenQuote, OpenComment}
 use Rattle.rules.specs.declared.Token.{Token}
 use Rattle.rules.specs.declared.Token.TheVariants as token
 use Rattle.rules.specs.Bytes.{Bytes, is_blank}
-use Rattle.rules.specs.Answers.{done, unclosedQuote, unclosedComment, unclosedCall, fault_answer}
+use Rattle.rules.specs.Answers.{done, unclosed_quote, unclosed_comment, unclosed_call, fault_answer}
 use Rattle.rules.specs.Marks.{MarkTexts, mark_texts}
 use Rattle.rules.specs.Source.{Source, ahead, push_back}
 use Rattle.rules.specs.Streams.{finished_streams, changed, changed_in_turn}
@@ -253,7 +253,7 @@ not_second (inr e) f = omega arith
 
 -- ---- the end
 
-end_open : (c : Call) (cs : List Call) (w : Bytes) (s : State) → at_end (c ∷ cs) w s ≡ refused unclosedCall
+end_open : (c : Call) (cs : List Call) (w : Bytes) (s : State) → at_end (c ∷ cs) w s ≡ refused unclosed_call
 unfolding at_end
 end_open c cs w s = refl
 
@@ -273,7 +273,7 @@ module _ {a : Setting} {b : Memory} {m : Machine} {s : State} (r : Represents a 
   unfolding fault_answer
   end_refused f =
       let i = some_calls r (omega (arith, f)) in
-      refines_as (ap (λ (cs : List Call). at_end cs s.wrap s) i.is ∙ end_open i.top i.rest s.wrap s) (refines_refused unclosedCall)
+      refines_as (ap (λ (cs : List Call). at_end cs s.wrap s) i.is ∙ end_open i.top i.rest s.wrap s) (refines_refused unclosed_call)
 
   module _ (e : m.calls.opens ≡ 0) where
     -- no wrap text waits
@@ -351,11 +351,11 @@ module _ {a : Setting} {b : Memory} {m : Machine} {s : State} (r : Represents a 
     unfolding reacted
     step_token q = step_reads ∙ ap (λ (y : Reading). reacted y s) q
 
-    pub step_quote : {n : ℕ} → g ≡ OpenQuote n → step s ≡ refused unclosedQuote
+    pub step_quote : {n : ℕ} → g ≡ OpenQuote n → step s ≡ refused unclosed_quote
     unfolding reacted
     step_quote q = step_reads ∙ ap (λ (y : Reading). reacted y s) q
 
-    pub step_comment : g ≡ OpenComment → step s ≡ refused unclosedComment
+    pub step_comment : g ≡ OpenComment → step s ≡ refused unclosed_comment
     unfolding reacted
     step_comment q = step_reads ∙ ap (λ (y : Reading). reacted y s) q
 

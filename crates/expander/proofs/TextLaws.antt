@@ -4,7 +4,7 @@ use Rattle.numerals.specs.Answers.{natural_of}
 use Rattle.numerals.specs.declared.Natural.{Natural}
 use Rattle.numerals.specs.declared.Natural.TheVariants as natural
 use Rattle.rules.specs.declared.Answer.TheVariants as answer
-use Rattle.rules.specs.Answers.{exit, noNumber, fault_answer, ending_answer}
+use Rattle.rules.specs.Answers.{exit, no_number, fault_answer, ending_answer}
 use Rattle.rules.specs.Arguments.{arg, bounded, number_or, separated}
 use Rattle.rules.specs.Bytes.{Bytes}
 use Rattle.rules.specs.Macros.{call_dnl, call_errprint, call_m4exit, call_m4wrap}
@@ -102,7 +102,7 @@ module _
       unfolding call_m4exit fault_answer
       exit_refused h f =
           let q : bounded 0 255 (number_or (pos 0) 1 args) ≡ none = reads_none e h in
-          stepped_refused {m = m} noNumber (rw (q, call_m4exit)) f
+          stepped_refused {m = m} no_number (rw (q, call_m4exit)) f
 
       pub exited :
           {before : Memory} {m' m'' : Machine} (code : ℕ) → c ≡ natural.Number code → m' ≡ sinks_set (record { current = m.sinks.current; waiting = 0; output = m.sinks.output }) m

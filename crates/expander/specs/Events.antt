@@ -1,6 +1,6 @@
 -- What the token ahead calls for: where it lies, and what the step comes to.
 use Rattle.std.specs.Prelude.{◌≡◌, ℕ, suc, ◌+◌, ◌<◌, ◌≤◌, List, [], ◌∷◌, length, take, drop}
-use Rattle.rules.specs.Answers.{unclosedQuote, unclosedComment}
+use Rattle.rules.specs.Answers.{unclosed_quote, unclosed_comment}
 use Rattle.rules.specs.Bytes.{Bytes}
 use Rattle.rules.specs.Macros.{called}
 use Rattle.rules.specs.Source.{ahead}
@@ -63,8 +63,8 @@ SpecialIs s special.Close = (c : Call) (cs : List Call) → s.calls ≡ c ∷ cs
 SpecialIs s (special.Bare n meaning) =
     let name = take n (ahead s.source) in
     NameFound s n meaning × (step s ≡ called (meaning_of name s.table) name [] (taking n s))
-SpecialIs s special.OpenQuote = step s ≡ refused unclosedQuote
-SpecialIs s special.OpenComment = step s ≡ refused unclosedComment
+SpecialIs s special.OpenQuote = step s ≡ refused unclosed_quote
+SpecialIs s special.OpenComment = step s ≡ refused unclosed_comment
 
 unfoldable pub EventIs : State → Event → Type 0
 EventIs s (event.Plain p) = PlainIs s p

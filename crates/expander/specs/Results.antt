@@ -2,7 +2,7 @@
 use Rattle.std.specs.Prelude.{◌≡◌, ◌-◌, ◌≤◌, Bool, true, false, List, [], length, take, drop, pos}
 use Rattle.rules.specs.declared.Evaluated.{Evaluated}
 use Rattle.rules.specs.Bytes.{Bytes}
-use Rattle.rules.specs.Answers.{noNumber, noExpression, divisor, no_item}
+use Rattle.rules.specs.Answers.{no_number, no_expression, divisor, no_item}
 use Rattle.rules.specs.Words.{largest, signed_value}
 use Rattle.rules.specs.Numerals.{written_in}
 use Rattle.rules.specs.Results.{Result, yields, fails, needing, shown_result}
@@ -16,8 +16,8 @@ use Rattle.expander.specs.declared.part_results.PartResult.TheVariants as part_r
 -- the result that a number stands for
 unfoldable pub result_of_number : NumberResult → Result
 result_of_number (number-result.Number bits radix least) = yields (written_in radix least (signed_value bits))
-result_of_number number-result.NoNumber = fails noNumber
-result_of_number number-result.NoExpression = fails noExpression
+result_of_number number-result.NoNumber = fails no_number
+result_of_number number-result.NoExpression = fails no_expression
 result_of_number number-result.Divisor = fails divisor
 
 unfoldable pub GoodRadix : NumberResult → Type 0
@@ -33,7 +33,7 @@ pub record Shows (w : Result) (f : NumberResult) : Type 0 where
 -- the result that a part of a buffer stands for
 unfoldable pub result_of_part : Bytes → PartResult → Result
 result_of_part bytes (part_result.Part start end) = yields (take (end - start) (drop start bytes))
-result_of_part bytes part_result.NoNumber = fails noNumber
+result_of_part bytes part_result.NoNumber = fails no_number
 
 unfoldable pub PartInside : Bytes → PartResult → Type 0
 PartInside bytes (part_result.Part start end) = (start ≤ end) × (end ≤ length bytes)

@@ -1,6 +1,8 @@
 -- Streams 1 to 9 in one lent buffer, in order of arrival. Beside each byte stands its owner, the number of its stream.
 use Rattle.std.specs.Prelude.{◌≡◌, ℕ, zero, suc, ◌+◌, ◌-◌, ◌<◌, ◌≤◌, true, false, List, [], ◌∷◌, ◌++◌, length, take, ◌==◌, slice_index, slice_index_or, slice_set}
 use Rattle.rules.specs.Bytes.{Bytes}
+-- a stream that discards what it is given
+pub use Rattle.rules.specs.Streams.{discards}
 
 -- the bytes that stream i owns, in order
 unfoldable pub owned_by : ℕ → List ℕ → Bytes → Bytes

@@ -13,14 +13,14 @@ use crate::packed::Packed;
 use numerals::{Decimal, Natural};
 
 // The strings from `base` on.
-#[derive(Drop)]
+#[derive(Clone, Copy)]
 pub(crate) struct Arguments {
     pub(crate) strings: Packed,
     pub(crate) base: usize,
 }
 
 // A part of a buffer.
-#[derive(Drop)]
+#[derive(Clone, Copy)]
 pub(crate) struct Span {
     pub(crate) start: usize,
     pub(crate) end: usize,

@@ -14,7 +14,7 @@ ghost use Rattle.expander.specs.Limits.{most_lent, most_calls, most_arguments, s
 use crate::packed::Packed;
 use crate::{packed, source};
 
-#[derive(Drop)]
+#[derive(Clone, Copy)]
 pub(crate) struct Calls {
     pub(crate) strings: Packed,
     pub(crate) opens: usize,

@@ -9,7 +9,7 @@ ghost use Rattle.expander.specs.Table.{TableIn, ValidDefinitions};
 ghost use Rattle.expander.specs.Substitution.{Lays};
 ghost use Rattle.expander.specs.Defn.{measured_as, named_result};
 ghost use Rattle.expander.specs.Limits.{macro_count, most_lent};
-ghost use Rattle.expander.specs.declared.defn.DefnLength.TheVariants as defnLength;
+ghost use Rattle.expander.specs.declared.defn.DefnLength.TheVariants as defn_length;
 
 use crate::arguments::Arguments;
 use crate::table::{Definitions, Meaning};
@@ -17,7 +17,7 @@ use crate::{arguments, lists, packed, table};
 use rules::Marks;
 
 // How long texts are, or that one of the meanings is predefined and has no text.
-#[derive(Drop)]
+#[derive(Clone, Copy)]
 pub(crate) enum DefnLength {
     Bytes(usize),
     NoText,
@@ -41,7 +41,7 @@ fn named_length(
 ) -> DefnLength
     requires { ShortQuotes marks × ValidDefinitions definitions.now table_ends.now t.packed × (t.own < 2 ^ macro_count) }
     ensures value { (u : Table) → TableIn definitions.now table_ends.now t.packed t.own u → result ≡ measured_as (named_result (mark_texts marks) u name.now) }
-    ensures by_index { (n : ℕ) → result ≡ defnLength.Bytes n → n ≤ most_lent + 10 }
+    ensures by_index { (n : ℕ) → result ≡ defn_length.Bytes n → n ≤ most_lent + 10 }
 {
     let p = t.packed;
     let own = t.own;
@@ -129,7 +129,7 @@ pub(crate) fn fill_defn(
     dst: &mut [u8],
 )
     requires some_arguments { SomeArguments bytes.now ends.now x × ShortQuotes marks × ValidDefinitions definitions.now table_ends.now t.packed × (t.own < 2 ^ macro_count) }
-    requires args_value { (args : List Bytes) (u : Table) → ArgumentsIn bytes.now ends.now x args → TableIn definitions.now table_ends.now t.packed t.own u → measured_as (defn_result (mark_texts marks) u args) ≡ defnLength.Bytes (length dst.old) }
+    requires args_value { (args : List Bytes) (u : Table) → ArgumentsIn bytes.now ends.now x args → TableIn definitions.now table_ends.now t.packed t.own u → measured_as (defn_result (mark_texts marks) u args) ≡ defn_length.Bytes (length dst.old) }
     ensures { (args : List Bytes) (u : Table) → ArgumentsIn bytes.now ends.now x args → TableIn definitions.now table_ends.now t.packed t.own u → defn_result (mark_texts marks) u args ≡ yields dst.new }
 {
     let have = arguments::count(x);

@@ -27,7 +27,7 @@ use rules::{Reading, Token};
 // n bytes ahead from `start` on go where text goes, and `width` bytes are taken; a byte goes to the current stream; the innermost call
 // collects a byte, with so many parentheses open then; a blank is skipped; the next argument begins; a call is opened whose name is the first n bytes ahead,
 // of this bucket.
-#[derive(Drop)]
+#[derive(Clone, Copy)]
 pub(crate) enum Plain {
     Deliver {
         start: usize,
@@ -48,7 +48,7 @@ pub(crate) enum Plain {
 }
 
 // Nothing is ahead; the innermost call is closed; the name of n bytes ahead is called without arguments; a quoted text or a comment does not end.
-#[derive(Drop)]
+#[derive(Clone, Copy)]
 pub(crate) enum Special {
     End,
     Close,
@@ -57,7 +57,7 @@ pub(crate) enum Special {
     OpenComment,
 }
 
-#[derive(Drop)]
+#[derive(Clone, Copy)]
 pub(crate) enum Event {
     Plain(Plain),
     Special(Special),
@@ -85,7 +85,7 @@ fn opens(text: &[u8], pending: &[u8], p: Position, n: usize) -> bool
 }
 
 // What a byte does in a call: nothing, it is collected at a depth of parentheses, it closes the call, or it ends the argument.
-#[derive(Drop)]
+#[derive(Clone, Copy)]
 enum Role {
     Dropped,
     Collected(u32),

@@ -29,7 +29,7 @@ use numerals::Length;
 use rules::{Answer, Marks};
 
 // What is given: the result was written before the text ahead, which begins at a place now; or why not.
-#[derive(Drop)]
+#[derive(Clone, Copy)]
 pub(crate) enum Pushed {
     At(usize),
     Refused(Answer),

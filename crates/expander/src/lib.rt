@@ -1,5 +1,7 @@
 // The expander: the run of a text in the seven lent buffers. Its links and its own error text and output are local, and what it wrote is
 // copied out at the end.
+#![tactic(auto)]
+
 mod appending;
 mod arguments;
 mod buckets;
@@ -74,7 +76,7 @@ fn work(
     budget: u32,
 ) -> Report
     requires { Lent (length text.now) (length pending.old) (length calls.old) (length definitions.old) (length streams.old) (length wrap.old) (length errors.old) (length output.old) }
-    ensures { Wrote (started (set_items set.now) (fresh_start text.now set.now) (setting_of (record { pending = pending.entry.now; calls = calls.old; definitions = definitions.old; streams = streams.old; wrap = wrap.old; errors = errors.old; output = output.old }) budget)) errors.old output.old errors.new output.new result }
+    ensures { Wrote (started (set_items set.now) (fresh_start text.now set.now) (setting_of (record { pending = pending.old; calls = calls.old; definitions = definitions.old; streams = streams.old; wrap = wrap.old; errors = errors.old; output = output.old }) budget)) errors.old output.old errors.new output.new result }
 {
     if !container::is_good(set) {
         return not_started(Answer::BadSet);
@@ -169,7 +171,7 @@ pub fn expand(
     output: &mut [u8],
     budget: u32,
 ) -> Report
-    ensures { Expanded text.now set.now budget (record { pending = pending.entry.now; calls = calls.old; definitions = definitions.old; streams = streams.old; wrap = wrap.old; errors = errors.old; output = output.old }) (record { pending = pending.exit.now; calls = calls.new; definitions = definitions.new; streams = streams.new; wrap = wrap.new; errors = errors.new; output = output.new }) result }
+    ensures { Expanded text.now set.now budget (record { pending = pending.old; calls = calls.old; definitions = definitions.old; streams = streams.old; wrap = wrap.old; errors = errors.old; output = output.old }) (record { pending = pending.new; calls = calls.new; definitions = definitions.new; streams = streams.new; wrap = wrap.new; errors = errors.new; output = output.new }) result }
 {
     if lendable(
         text.len(),

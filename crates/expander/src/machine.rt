@@ -14,7 +14,7 @@ use rules::{Answer, Mark, Marks};
 
 // The marks in force; where the text ahead, the open calls, the definitions and the streams stand; how many bytes wait in the wrap text
 // and are written to the error text.
-#[derive(Drop)]
+#[derive(Clone, Copy)]
 pub(crate) struct Machine {
     pub(crate) marks: Marks,
     pub(crate) source: Position,
@@ -26,7 +26,7 @@ pub(crate) struct Machine {
 }
 
 // Whether a run goes on after a step, ends with it, or the step is refused.
-#[derive(Drop)]
+#[derive(Clone, Copy)]
 pub(crate) enum Progress {
     On,
     Ended(Answer),
@@ -34,7 +34,7 @@ pub(crate) enum Progress {
 }
 
 // What a step gives.
-#[derive(Drop)]
+#[derive(Clone, Copy)]
 pub(crate) struct Stepped {
     pub(crate) progress: Progress,
     pub(crate) machine: Machine,

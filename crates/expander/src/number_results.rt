@@ -15,7 +15,7 @@ use numerals::{Decimal, Natural};
 use rules::Evaluated;
 
 // A number by its bits, with the radix and the least count of digits that it is written with.
-#[derive(Drop)]
+#[derive(Clone, Copy)]
 pub(crate) enum NumberResult {
     Number { bits: u32, radix: u32, least: u32 },
     NoNumber,

@@ -6,7 +6,7 @@ ghost use Rattle.expander.specs.Packed.{Packs, Formed, HasString, start_of, last
 use crate::buffers;
 
 // How many strings there are, and how many bytes they have.
-#[derive(Drop)]
+#[derive(Clone, Copy)]
 pub(crate) struct Packed {
     pub(crate) count: usize,
     pub(crate) used: usize,

@@ -16,7 +16,7 @@ use crate::{arguments, table};
 use numerals::Natural;
 
 // From `start` up to `end`.
-#[derive(Drop)]
+#[derive(Clone, Copy)]
 pub(crate) enum PartResult {
     Part { start: usize, end: usize },
     NoNumber,

@@ -14,14 +14,14 @@ use crate::{delivering, events};
 use rules::Answer;
 
 // Why plain steps that follow one another end: the run stops here, its budget spent or a step refused; or the next step is special.
-#[derive(Drop)]
+#[derive(Clone, Copy)]
 pub(crate) enum Stop {
     Stopped(Answer),
     Special(Special),
 }
 
 // Where they end, with so many steps left.
-#[derive(Drop)]
+#[derive(Clone, Copy)]
 pub(crate) struct PlainSteps {
     pub(crate) stop: Stop,
     pub(crate) left: u32,

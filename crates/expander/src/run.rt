@@ -21,7 +21,7 @@ use crate::{marks, plain_steps, special_steps};
 use rules::Answer;
 
 // How a run ended: its answer, the completed steps, and the by-value part of the standing state.
-#[derive(Drop)]
+#[derive(Clone, Copy)]
 pub(crate) struct Halted {
     pub(crate) answer: Answer,
     pub(crate) steps: u32,

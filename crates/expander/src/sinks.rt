@@ -6,7 +6,7 @@ ghost use Rattle.expander.specs.Sinks.{SinksIn, Fits, full_buffer};
 use crate::{source, streams};
 
 // The bits of the current stream's number, how many bytes wait in streams 1 to 9, and how many are written.
-#[derive(Drop)]
+#[derive(Clone, Copy)]
 pub(crate) struct Sinks {
     pub(crate) current: u32,
     pub(crate) waiting: usize,

@@ -9,7 +9,7 @@ ghost use Rattle.expander.specs.Ahead.{plain_length, AheadLength, NextEither, Li
 ghost use Rattle.expander.specs.Filled.{Filled};
 
 // Where the text ahead stands.
-#[derive(Drop)]
+#[derive(Clone, Copy)]
 pub(crate) struct Position {
     pub(crate) from: usize,
     pub(crate) taken: usize,

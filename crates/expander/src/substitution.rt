@@ -15,7 +15,7 @@ use rules::Marks;
 
 // What the bytes at a place of a defined text stand for: `$` and the byte behind it for the name, an argument by its number, how many
 // there are, all of them, all in quote marks; or a single byte for itself.
-#[derive(Drop)]
+#[derive(Clone, Copy)]
 enum Parameter {
     Name,
     Argument(usize),

@@ -16,7 +16,7 @@ use crate::packed::Packed;
 use crate::{buckets, meanings, packed};
 
 // The place of a definition, in order of arrival.
-#[derive(Drop)]
+#[derive(Clone, Copy)]
 pub(crate) enum Found {
     At(usize),
     Nowhere,
@@ -24,14 +24,14 @@ pub(crate) enum Found {
 
 // What a step of a search through a bucket comes to: the definition is of the name, or the next older one of the bucket is next, told as its place and one;
 // 0 where there is none.
-#[derive(Drop)]
+#[derive(Clone, Copy)]
 pub(crate) enum Visited {
     Named,
     Older(usize),
 }
 
 // What a name means: the predefined macro of a number, nothing, or the text of the definition at a place. (In this order the run's loop came out cheapest.)
-#[derive(Drop)]
+#[derive(Clone, Copy)]
 pub(crate) enum Meaning {
     Predefined(u8),
     Undefined,
@@ -39,7 +39,7 @@ pub(crate) enum Meaning {
 }
 
 // A table: its packed strings and its mask.
-#[derive(Drop)]
+#[derive(Clone, Copy)]
 pub(crate) struct Definitions {
     pub(crate) packed: Packed,
     pub(crate) own: u32,

@@ -11,7 +11,7 @@ use hashing::Scanned;
 use rules::{Mark, Marks, Reading, Token};
 
 // The first of two marks stands at a place, or else the second, or neither.
-#[derive(Drop)]
+#[derive(Clone, Copy)]
 enum Met {
     First,
     Second,
@@ -19,14 +19,14 @@ enum Met {
 }
 
 // So many quotes are open at a place.
-#[derive(Drop)]
+#[derive(Clone, Copy)]
 struct Open {
     depth: usize,
     place: usize,
 }
 
 // What was read, and of a name the hash; of another token the hash says nothing.
-#[derive(Drop)]
+#[derive(Clone, Copy)]
 pub(crate) struct Read {
     pub(crate) reading: Reading,
     pub(crate) hash: u32,

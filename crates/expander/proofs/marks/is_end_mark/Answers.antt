@@ -1,0 +1,10 @@
+-- `expander::marks::is_end_mark` meets its contract. Assumes nothing.
+use Rattle.rules.proofs.Base.{◌∙◌, sym}
+use Rattle.expander.proofs.MarkTests.{end_mark_is, end_mark_newline}
+use Rattle.expander.proofs.marks.is_end_mark.Goals as goal
+
+pub returns-then-is_mark : goal.returns-then-is_mark
+returns-then-is_mark c = end_mark_is _ (sym c.is_mark.ensures ∙ c.if-is_mark.true)
+
+pub returns : goal.returns
+returns c = c.same.ensures ∙ sym (end_mark_newline _ (sym c.is_mark.ensures ∙ c.if-is_mark.false))
