@@ -1,4 +1,6 @@
 // The library for C and Rust: `expander::expand` with its answer as six numbers, and the index of lines. include/quenhovach.h declares both.
+#![tactic(auto)]
+
 ghost use Rattle.quenhovach.specs.Reported.{Reported};
 
 pub mod index;
@@ -20,7 +22,7 @@ pub extern "C" fn quenhovach_expand(
     budget: u32,
     report: &mut [u32; 6],
 ) -> u32
-    ensures { Reported text.now set.now budget (record { pending = pending.entry.now; calls = calls.old; definitions = definitions.old; streams = streams.old; wrap = wrap.old; errors = errors.old; output = output.old }) (record { pending = pending.exit.now; calls = calls.new; definitions = definitions.new; streams = streams.new; wrap = wrap.new; errors = errors.new; output = output.new }) result report.new }
+    ensures { Reported text.now set.now budget (record { pending = pending.old; calls = calls.old; definitions = definitions.old; streams = streams.old; wrap = wrap.old; errors = errors.old; output = output.old }) (record { pending = pending.new; calls = calls.new; definitions = definitions.new; streams = streams.new; wrap = wrap.new; errors = errors.new; output = output.new }) result report.new }
 {
     let r = expander::expand(
         text,

@@ -125,7 +125,7 @@ pub extern "C" fn quenhovach_sheet_expand(
     report: &mut [u32; 6],
     words: &mut [u64; 1281],
 ) -> u32
-    ensures { SheetInWords text.now set.now budget (record { pending = pending.entry.now; calls = calls.old; definitions = definitions.old; streams = streams.old; wrap = wrap.old; errors = errors.old; output = output.old }) (record { pending = pending.exit.now; calls = calls.new; definitions = definitions.new; streams = streams.new; wrap = wrap.new; errors = errors.new; output = output.new }) result report.new words.new }
+    ensures { SheetInWords text.now set.now budget (record { pending = pending.old; calls = calls.old; definitions = definitions.old; streams = streams.old; wrap = wrap.old; errors = errors.old; output = output.old }) (record { pending = pending.new; calls = calls.new; definitions = definitions.new; streams = streams.new; wrap = wrap.new; errors = errors.new; output = output.new }) result report.new words.new }
 {
     let r = sheet::expand(
         text,

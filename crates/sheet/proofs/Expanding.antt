@@ -1,12 +1,9 @@
 -- Laws of a run that is read as a sheet. Assumes nothing.
-use Rattle.rules.proofs.Base.{ℕ, ◌≤◌, ◌∙◌, refl, sym, ap, ap₂, ◌≡◌, true, false, Bool, List, [], ◌∷◌, arith, eqb, length, take, drop, length-append, take_at}
-use types.Run.{OneOf, miss}
-use denote.Enum.Declared.{tag_of}
+use Rattle.rules.proofs.Base.{ℕ, ◌≤◌, ◌∙◌, refl, sym, ap, ap₂, ◌≡◌, true, false, Bool, [], arith, eqb, length, take, drop, length-append, take_at}
 use Rattle.rules.specs.declared.Answer.{Answer}
 use Rattle.rules.specs.declared.Answer.TheVariants as answer
-use Rattle.rules.specs.contracts.Answer.{the_type}
 use Rattle.rules.specs.declared.Report.{Report}
-use Rattle.rules.specs.declared.SheetAnswer.TheVariants as sheetAnswer
+use Rattle.rules.specs.declared.SheetAnswer.TheVariants as sheet_answer
 use Rattle.rules.specs.declared.SheetRead.{SheetRead}
 use Rattle.rules.specs.declared.SheetReport.{SheetReport}
 use Rattle.rules.specs.Bytes.{Bytes}
@@ -49,26 +46,23 @@ module _ (text set : Bytes) (budget : ℕ) (before after : Buffers) (r : Report)
   unfolding sheet_after answer_number
   done_read d t e f =
       record {
-        report = reported t f (e ∙ ap sheet_read written_front ∙ sym (ap (λ (b : Bool). elim b [ true ↦ sheet_read (output_of run) | false ↦ record { answer = sheetAnswer.NotDone run.answer; sheet = sheet_of [] } ]) (ap (λ a. eqb (answer_number a) 0) (sym answer_is ∙ d))));
+        report = reported t f (e ∙ ap sheet_read written_front ∙ sym (ap (λ (b : Bool). elim b [ true ↦ sheet_read (output_of run) | false ↦ record { answer = sheet_answer.NotDone run.answer; sheet = sheet_of [] } ]) (ap (λ a. eqb (answer_number a) 0) (sym answer_is ∙ d))));
         buffers = x.buffers;
       }
 
   -- any other is not
-  pub not_done : eqb (answer_number r.answer) 0 ≡ false → (t : SheetRead) → t ≡ record { answer = sheetAnswer.NotDone r.answer; sheet = sheet_of [] } → {s : SheetReport} → s ≡ with_sheet r t → SheetExpanded text set budget before after s
+  pub not_done : eqb (answer_number r.answer) 0 ≡ false → (t : SheetRead) → t ≡ record { answer = sheet_answer.NotDone r.answer; sheet = sheet_of [] } → {s : SheetReport} → s ≡ with_sheet r t → SheetExpanded text set budget before after s
   unfolding sheet_after
   not_done n t e f =
       record {
-        report = reported t f (e ∙ ap (λ a. record { answer = sheetAnswer.NotDone a; sheet = sheet_of [] }) answer_is ∙ sym (ap (λ (b : Bool). elim b [ true ↦ sheet_read (output_of run) | false ↦ record { answer = sheetAnswer.NotDone run.answer; sheet = sheet_of [] } ]) (ap (λ a. eqb (answer_number a) 0) (sym answer_is) ∙ n)));
+        report = reported t f (e ∙ ap (λ a. record { answer = sheet_answer.NotDone a; sheet = sheet_of [] }) answer_is ∙ sym (ap (λ (b : Bool). elim b [ true ↦ sheet_read (output_of run) | false ↦ record { answer = sheet_answer.NotDone run.answer; sheet = sheet_of [] } ]) (ap (λ a. eqb (answer_number a) 0) (sym answer_is) ∙ n)));
         buffers = x.buffers;
       }
 
--- the answers but done, by their places among the variants
-abbrev others : List ℕ
-others = 1 ∷ 2 ∷ 3 ∷ 4 ∷ 5 ∷ 6 ∷ 7 ∷ 8 ∷ 9 ∷ 10 ∷ 11 ∷ 12 ∷ 13 ∷ 14 ∷ 15 ∷ 16 ∷ []
-
-pub another : (a : Answer) → OneOf others (tag_of the_type a) → eqb (answer_number a) 0 ≡ false
+-- the answers but done
+pub another : (a : Answer) → (a ≡ answer.Done → ⊥) → eqb (answer_number a) 0 ≡ false
 unfolding answer_number
-another answer.Done h = absurd (miss others 0 tt h)
+another answer.Done h = absurd (h refl)
 another (answer.Exit code) h = refl
 another answer.Lend h = refl
 another answer.Spent h = refl

@@ -69,7 +69,7 @@ module _ (w : Bytes) (n : ℕ) (d : n ≡ digit_count w) where
   module _ (h : n < length w) where
     behind : unsigned_decimal w ≡ elim (eqb (get_or w n 0) 46) [ true ↦ fraction (take n w) (drop (suc n) w) | false ↦ none ]
     unfolding unsigned_decimal pointed
-    behind = rw (unsigned_decimal, ← d, drop-cons w n 0 h, pointed)
+    behind = ap (λ (k : ℕ). pointed (take k w) (drop k w)) (sym d) ∙ ap (pointed (take n w)) (drop-cons w n 0 h)
 
     pub no_point : (get_or w n 0 ≡ 46 → ⊥) → unsigned_decimal w ≡ none
     no_point f = behind ∙ rw (ne_eqb (get_or w n 0) 46 f)

@@ -5,7 +5,6 @@ use Rattle.numerals.specs.declared.Decimal.{Decimal}
 use Rattle.numerals.specs.declared.Decimal.TheVariants as read
 use Rattle.numerals.specs.Answers.{decimal_of}
 use Rattle.numerals.proofs.Numbers.{signed_bits, number_range, decimal_none, decimal_some}
-use Rattle.rules.specs.declared.Value.{Value}
 use Rattle.rules.specs.declared.Value.TheVariants as value
 use Rattle.rules.specs.Bytes.{Bytes, is_name}
 use Rattle.rules.specs.Words.{signed_value}
@@ -14,7 +13,7 @@ use Rattle.rules.specs.Sheets.{decimal_value, word_value, decimal_or, value_at}
 use Rattle.sheet.specs.declared.decimals.Decimal.{Decimal as Fraction}
 use Rattle.sheet.specs.declared.decimals.Decimal.TheVariants as fraction
 use Rattle.sheet.specs.declared.values.Parsed.TheVariants as parsed
-use Rattle.sheet.specs.Answers.{decimal_of as fractionOf, parsed_of}
+use Rattle.sheet.specs.Answers.{decimal_of as fraction_of, parsed_of}
 use Rattle.sheet.proofs.Fractions.{found_none, found_some}
 
 module _ (place : ℕ) (w : Bytes) {n : Decimal} (e : n ≡ decimal_of (number w)) where
@@ -24,7 +23,7 @@ module _ (place : ℕ) (w : Bytes) {n : Decimal} (e : n ≡ decimal_of (number w
       let v = decimal_some e bits k in
       rw (value_at, v.is) (ap (λ z. parsed.Value (value.Number z)) (ap signed_value v.by_bits ∙ signed_bits v.value (number_range w v.value v.is)))
 
-  module _ (k : n ≡ read.NoNumber) {d : Fraction} (f : d ≡ fractionOf (decimal_value w)) where
+  module _ (k : n ≡ read.NoNumber) {d : Fraction} (f : d ≡ fraction_of (decimal_value w)) where
     pub decimal_read : (x : Float) → d ≡ fraction.Value x → parsed.Value (value.Decimal x) ≡ parsed_of (value_at place w)
     unfolding value_at decimal_or parsed_of
     decimal_read x q = rw (value_at, decimal_none e k, found_some f q)

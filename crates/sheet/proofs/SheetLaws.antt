@@ -7,7 +7,7 @@ use Rattle.rules.specs.declared.Lookup.{Lookup}
 use Rattle.rules.specs.declared.Lookup.TheVariants as lookup
 use Rattle.rules.specs.declared.SheetAnswer.TheVariants as answer
 use Rattle.rules.specs.Bytes.{Bytes}
-use Rattle.rules.specs.Sheets.{front_length, in_first_line, lines_of, entry_at, name_in, first_named, question, unused_line, malformed, twice, tooMany, judged_lines, sheet_of, sheet_judged, sheet_read}
+use Rattle.rules.specs.Sheets.{front_length, in_first_line, lines_of, entry_at, name_in, first_named, question, unused_line, malformed, twice, too_many, judged_lines, sheet_of, sheet_judged, sheet_read}
 use Rattle.rules.proofs.Sheets.{Reads, name_within, entry_reads}
 use Rattle.sheet.specs.declared.entries.Line.{Line}
 use Rattle.sheet.specs.declared.entries.Line.TheVariants as parsed
@@ -35,7 +35,7 @@ until_within s = front_le is_in_line s
 
 -- a line, judged behind the lines es
 module _ (text : Bytes) (es : List Entry) (place : ℕ) (l : Bytes) (ls : List Bytes) where
-  full_up : 256 ≤ length es → judged_lines text es place (l ∷ ls) ≡ tooMany (suc (length es))
+  full_up : 256 ≤ length es → judged_lines text es place (l ∷ ls) ≡ too_many (suc (length es))
   unfolding judged_lines
   full_up h = rw (judged_lines, le-ltb (length es) 256 h)
 
@@ -92,9 +92,9 @@ module _ (text : Bytes) (lines : List Entry) (count place : ℕ) (u : Upto text 
     at_line : judged_lines text [] 0 (lines_of text) ≡ judged_lines text (take count lines) place (line ∷ others)
     at_line = u.judged ∙ ap (judged_lines text (take count lines) place) (lines_first left (omega (arith, length-drop place text)))
 
-    pub too_many : 256 ≤ count → record { answer = answer.TooMany 257; sheet = sheet_of [] } ≡ sheet_read text
+    pub too_many_lem : 256 ≤ count → record { answer = answer.TooMany 257; sheet = sheet_of [] } ≡ sheet_read text
     unfolding sheet_read sheet_judged
-    too_many k = sym (ap sheet_judged (at_line ∙ full_up text (take count lines) place line others (omega (arith, k, read_lines)) ∙ ap tooMany (omega (arith, k, u.few, read_lines))))
+    too_many_lem k = sym (ap sheet_judged (at_line ∙ full_up text (take count lines) place line others (omega (arith, k, read_lines)) ∙ ap too_many (omega (arith, k, u.few, read_lines))))
 
     module _ (k : count < 256) where
       more : length (take count lines) < 256

@@ -8,13 +8,13 @@ ghost use Rattle.sheet.specs.Answers.{decimal_of};
 use crate::MOST_DIGITS;
 
 // Digits at the front of a slice: how many, and the number that they write.
-#[derive(Drop)]
+#[derive(Clone, Copy)]
 struct Digits {
     count: usize,
     number: u64,
 }
 
-#[derive(Drop)]
+#[derive(Clone, Copy)]
 pub(crate) enum Decimal {
     Value(f64),
     NoDecimal,

@@ -8,7 +8,7 @@ use crate::values;
 use crate::values::Parsed;
 use rules::Entry;
 
-#[derive(Drop)]
+#[derive(Clone, Copy)]
 pub(crate) enum Line {
     Is(Entry),
     Malformed,

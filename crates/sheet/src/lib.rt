@@ -1,4 +1,6 @@
 // The sheet (02, request 4): a text read as lines of names and readings, expanding and reading in one call, and a question by name.
+#![tactic(auto)]
+
 mod decimals;
 mod entries;
 mod values;
@@ -48,7 +50,7 @@ fn refused(answer: SheetAnswer) -> SheetRead
 
 // A name of so many bytes at a place lies in the text, and has these bytes. A place and a length that go beyond the end are told without their sum.
 pub fn is_named(text: &[u8], place: usize, length: usize, name: &[u8]) -> bool
-    ensures { result ≡ is_named text.now name.entry.now (record { name = place; length = length; value = unused_line.value }) }
+    ensures { result ≡ is_named text.now name.now (record { name = place; length = length; value = unused_line.value }) }
 {
     if text.len() < place {
         return false;
@@ -138,7 +140,7 @@ pub fn expand(
     output: &mut [u8],
     budget: u32,
 ) -> SheetReport
-    ensures { SheetExpanded text.now set.now budget (record { pending = pending.entry.now; calls = calls.old; definitions = definitions.old; streams = streams.old; wrap = wrap.old; errors = errors.old; output = output.old }) (record { pending = pending.exit.now; calls = calls.new; definitions = definitions.new; streams = streams.new; wrap = wrap.new; errors = errors.new; output = output.new }) result }
+    ensures { SheetExpanded text.now set.now budget (record { pending = pending.old; calls = calls.old; definitions = definitions.old; streams = streams.old; wrap = wrap.old; errors = errors.old; output = output.old }) (record { pending = pending.new; calls = calls.new; definitions = definitions.new; streams = streams.new; wrap = wrap.new; errors = errors.new; output = output.new }) result }
 {
     let r = expander::expand(
         text,

@@ -7,7 +7,7 @@ ghost use Rattle.sheet.specs.Answers.{parsed_of};
 use crate::decimals::Decimal;
 use rules::Value;
 
-#[derive(Drop)]
+#[derive(Clone, Copy)]
 pub(crate) enum Parsed {
     Value(Value),
     NoValue,

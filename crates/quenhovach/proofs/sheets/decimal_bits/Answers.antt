@@ -1,10 +1,9 @@
 -- `quenhovach::sheets::decimal_bits` meets its contract. Assumes nothing.
-use Rattle.rules.proofs.Base.{◌∙◌, sym, ap, subst, ◌≡◌, true, false, true≢false, not, needs}
+use Rattle.rules.proofs.Base.{◌∙◌, sym, ap, subst, ◌≡◌, true, false, true≢false, not}
 use lib.Dec.{T}
 use lib.Ieee.{Float, binary64, nan, inf, fin, to_bits, ne, is_nan}
 use lib.Ieee.Compare.{differs_from_itself, nan_differs}
-use Rattle.quenhovach.proofs.sheets.decimal_bits.Statement.{statement}
-use Rattle.quenhovach.proofs.sheets.decimal_bits.Tie as tie
+use Rattle.quenhovach.proofs.sheets.decimal_bits.Goals as goal
 
 -- a NaN, and nothing else, differs from itself
 nan_bits : (x : Float) → ne x x ≡ true → 9221120237041090560 ≡ to_bits binary64 x
@@ -17,11 +16,8 @@ no_nan nan e = absurd (true≢false (sym (nan_differs) ∙ e))
 no_nan (inf s) e = tt
 no_nan (fin s m k) e = tt
 
-returns : tie.Need-returns
-returns c = nan_bits c.before.args.x c.if1.true
+pub returns-then-x : goal.returns-then-x
+returns-then-x c = nan_bits c.args.x c.if-x.true
 
-float-to-bits-result : tie.Need-float-to-bits-result
-float-to-bits-result c = no_nan c.before.args.x c.if1.false
-
-pub decimal_bits_spec : {M : Type 1} → statement M
-decimal_bits_spec = tie.close (tie.spec returns float-to-bits-result (λ c. search needs))
+pub float_to_bits-result : goal.float_to_bits-result
+float_to_bits-result c = no_nan c.args.x c.if-x.false

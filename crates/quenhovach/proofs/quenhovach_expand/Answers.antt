@@ -1,0 +1,37 @@
+-- `quenhovach::quenhovach_expand` meets its contract: what the expander promises, with the six numbers written out. Assumes nothing.
+use Rattle.quenhovach.proofs.Reports.{reported}
+use borrow.Author.Rules.{rules}
+use Rattle.quenhovach.proofs.quenhovach_expand.Goals as goal
+
+pub returns : goal.returns
+returns c = reported c.expand-r.ensures c.numbers_of-numbers.ensures
+
+pub expand-r-requires : goal.expand-r-requires
+expand-r-requires c = search rules
+
+pub numbers_of-numbers-requires : goal.numbers_of-numbers-requires
+numbers_of-numbers-requires c = search rules
+
+pub bounds-numbers-0 : goal.bounds-numbers-0
+bounds-numbers-0 c = search rules
+
+pub shape_of-pending : goal.shape_of-pending
+shape_of-pending c = search rules
+
+pub shape_of-calls : goal.shape_of-calls
+shape_of-calls c = search rules
+
+pub shape_of-definitions : goal.shape_of-definitions
+shape_of-definitions c = search rules
+
+pub shape_of-streams : goal.shape_of-streams
+shape_of-streams c = search rules
+
+pub shape_of-wrap : goal.shape_of-wrap
+shape_of-wrap c = search rules
+
+pub shape_of-errors : goal.shape_of-errors
+shape_of-errors c = search rules
+
+pub shape_of-output : goal.shape_of-output
+shape_of-output c = search rules
