@@ -1,30 +1,49 @@
 // Reads an expression of eval on standard input, at most 65,536 bytes, and writes what it comes to: a number, or the refusal.
-use libc::{STDIN_FILENO, STDOUT_FILENO};
-use rules::{Answer, Evaluated};
+#![tactic(auto)]
 
-fn write_signed(x: u32) {
+ghost use Rattle.std.specs.Prelude.{◌≤◌, length, IfOk};
+
+use rules::{Answer, Evaluated};
+use std::io;
+use std::io::{Print, Read, Stdin};
+
+const MOST_READ: usize = 65536;
+
+// Reads standard input to its end, or until the buffer is full: so many bytes.
+fn read_text(mut stdin: Stdin, buffer: &mut [u8]) -> io::Result<usize>
+    ensures { IfOk result (λ n. n ≤ length buffer.new) }
+{
+    let mut done = 0;
+    while done < buffer.len() {
+        match stdin.read(&mut buffer[done..])? {
+            0 => return Ok(done),
+            n => done += n,
+        }
+    }
+    Ok(done)
+}
+
+// A number of 32 bits, by two's complement.
+fn write_signed(out: &impl Print, x: u32) -> io::Result<()> {
     let bits = x as u64;
     if x < 2147483648 {
-        io::print_decimal(STDOUT_FILENO, bits);
+        println!(out; "{bits}")
     } else {
-        io::write_all(STDOUT_FILENO, b"-");
-        io::print_decimal(STDOUT_FILENO, 4294967296 - bits);
+        println!(out; "-{}", 4294967296 - bits)
     }
 }
 
-fn write_refusal(answer: Answer) {
-    io::write_all(STDOUT_FILENO, b"refused ");
+fn write_refusal(out: &impl Print, answer: Answer) -> io::Result<()> {
     let number = answers::number_of(answer);
-    io::print_decimal(STDOUT_FILENO, number as u64);
+    println!(out; "refused {number}")
 }
 
-fn main() {
-    let mut buffer = io::large_buffer();
-    let n = io::read_full(STDIN_FILENO, &mut buffer);
+fn main(rt: HostRuntime) -> io::Result<()> {
+    let mut buffer = [0; MOST_READ];
+    let n = read_text(rt.stdin(), &mut buffer)?;
     match expression::evaluate(&buffer[..n]) {
-        Evaluated::Number(x) => write_signed(x),
-        Evaluated::Divisor => write_refusal(Answer::Divisor),
-        Evaluated::Unreadable => write_refusal(Answer::Expression),
+        Evaluated::Number(x) => write_signed(&rt, x),
+        Evaluated::Divisor => write_refusal(&rt, Answer::Divisor),
+        Evaluated::Unreadable => write_refusal(&rt, Answer::Expression),
     }
-    io::write_all(STDOUT_FILENO, b"\n");
 }

@@ -1,14 +1,17 @@
 // Expands the text on standard input in 65,536 bytes of each buffer and with a budget of 16,777,216 steps: the output goes to standard output,
 // the error text and a line "number steps place detail" to standard error. A failed read or write is told by a message, and no such
 // line follows. Nothing can be included: the set is one byte 0.
-ghost use Rattle.std.specs.Prelude.{◌≡◌, length};
+#![tactic(auto)]
+
+ghost use Rattle.std.specs.Prelude.{◌≡◌, ◌≤◌, length};
 ghost use Rattle.expand.specs.Input.{Fits};
 
-use libc::{STDERR_FILENO, STDIN_FILENO, STDOUT_FILENO};
 use rules::Report;
+use std::io;
+use std::io::{Print, Read, Stdin};
 
 // What was read: so many bytes, up to the end of the input or of the buffer; or a read failed.
-#[derive(Drop)]
+#[derive(Clone, Copy)]
 enum Input {
     Bytes(usize),
     Failed,
@@ -25,52 +28,47 @@ fn text_buffer() -> [u8; MOST_READ]
     [0; MOST_READ]
 }
 
+fn large_buffer() -> [u8; 65536]
+    ensures { 65536 ≡ length result }
+{
+    [0; 65536]
+}
+
 // Reads standard input to its end, or until the buffer is full.
-fn read_text(buffer: &mut [u8]) -> Input
+fn read_text(mut stdin: Stdin, buffer: &mut [u8]) -> Input
     ensures { Fits result buffer.new }
 {
     let mut done = 0;
     while done < buffer.len() {
-        let got = libc::read(STDIN_FILENO, &mut buffer[done..]);
-        if got < 0 {
-            return Input::Failed;
+        match stdin.read(&mut buffer[done..]) {
+            Err(_) => return Input::Failed,
+            Ok(0) => return Input::Bytes(done),
+            Ok(n) => done += n,
         }
-        let n = io::count(got, &buffer[done..]);
-        if n == 0 {
-            return Input::Bytes(done);
-        }
-        done += n;
     }
     Input::Bytes(done)
 }
 
-fn print(n: u32, after: &[u8]) {
-    io::print_decimal(STDERR_FILENO, n as u64);
-    io::write_all(STDERR_FILENO, after);
-}
-
 // The answer line.
-fn print_report(r: Report) {
-    let answer = r.answer;
-    print(answers::number_of(answer), b" ");
-    print(r.steps, b" ");
-    print(r.place, b" ");
-    print(answers::detail_of(answer), b"\n");
+fn print_report(stderr: &impl Print, r: Report) -> io::Result<()> {
+    let number = answers::number_of(r.answer);
+    let detail = answers::detail_of(r.answer);
+    let steps = r.steps;
+    let place = r.place;
+    println!(stderr; "{number} {steps} {place} {detail}")
 }
 
-fn complain(message: &[u8]) {
-    io::write_all(STDERR_FILENO, message);
-}
-
-fn expand_text(text: &[u8]) {
-    let mut pending = io::large_buffer();
-    let mut calls = io::large_buffer();
-    let mut definitions = io::large_buffer();
-    let mut streams = io::large_buffer();
-    let mut wrap = io::large_buffer();
-    let mut errors = io::large_buffer();
-    let mut output = io::large_buffer();
-    let r = expander::expand(
+// The text expanded, with working buffers that nothing needs behind it.
+fn expanded(text: &[u8], errors: &mut [u8], output: &mut [u8]) -> Report
+    ensures output { result.output ≤ length output.new }
+    ensures errors { result.errors ≤ length errors.new }
+{
+    let mut pending = large_buffer();
+    let mut calls = large_buffer();
+    let mut definitions = large_buffer();
+    let mut streams = large_buffer();
+    let mut wrap = large_buffer();
+    expander::expand(
         text,
         &[0],
         &mut pending,
@@ -78,26 +76,31 @@ fn expand_text(text: &[u8]) {
         &mut definitions,
         &mut streams,
         &mut wrap,
-        &mut errors,
-        &mut output,
+        errors,
+        output,
         BUDGET,
-    );
-    let n = r.output as usize;
-    let k = r.errors as usize;
-    if !io::write_all(STDOUT_FILENO, &output[..n]) {
-        complain(b"expand: the output could not be written\n");
-        return;
-    }
-    if !io::write_all(STDERR_FILENO, &errors[..k]) {
-        return;
-    }
-    print_report(r);
+    )
 }
 
-fn main() {
+fn expand_text(stdout: &impl Print, stderr: &impl Print, text: &[u8]) -> io::Result<()> {
+    let mut errors = large_buffer();
+    let mut output = large_buffer();
+    let r = expanded(text, &mut errors, &mut output);
+    let n = r.output as usize;
+    let k = r.errors as usize;
+    if stdout.write_all(&output[..n]).is_err() {
+        return stderr.println("expand: the output could not be written");
+    }
+    stderr.write_all(&errors[..k])?;
+    print_report(stderr, r)
+}
+
+fn main(rt: HostRuntime) -> io::Result<()> {
     let mut buffer = text_buffer();
-    match read_text(&mut buffer) {
-        Input::Failed => complain(b"expand: standard input could not be read\n"),
-        Input::Bytes(n) => expand_text(&buffer[..n]),
+    match read_text(rt.stdin(), &mut buffer) {
+        Input::Failed => rt
+            .stderr()
+            .println("expand: standard input could not be read"),
+        Input::Bytes(n) => expand_text(&rt.stdout(), &rt.stderr(), &buffer[..n]),
     }
 }

@@ -1,64 +1,65 @@
 // eval: a line for each expression, with what it comes to. A line of `stdin` is an expression, or stands for one: `@`, a count, and a
 // front, a middle and a back with tabs between them, the middle between so many fronts and backs. Expressions with a newline, or with a
 // byte that is no text, stand here. A line that begins with `#` has a text whose bucket is asked for (names.rt).
-ghost use Rattle.std.specs.Prelude.{◌≤◌, length};
+ghost use Rattle.std.specs.Prelude.{◌≡◌, ◌≤◌, length};
 
 use crate::names;
-use crate::writing::write;
-use libc::{STDIN_FILENO, STDOUT_FILENO};
+use crate::writing::{write, write_number};
 use rules::Evaluated;
+use std::io;
+use std::io::Print;
 
-fn write_hex(b: u8) {
-    write(b"\\x");
-    io::print_hex(STDOUT_FILENO, b as u64, 2);
+fn write_hex(printer: &impl Print, b: u8) -> io::Result<()> {
+    print!(printer; "\\x{b:02x}")
 }
 
-fn write_one(b: u8) {
+fn write_one(printer: &impl Print, b: u8) -> io::Result<()> {
     let one = [b];
-    write(&one);
+    write(printer, &one)
 }
 
 // The bytes of these vectors that do not print have an escape.
-fn write_byte(b: u8) {
+fn write_byte(printer: &impl Print, b: u8) -> io::Result<()> {
     match b {
-        9 => write(b"\\t"),
-        10 => write(b"\\n"),
-        0 | 11 | 12 | 13 | 128 | 160 => write_hex(b),
-        _ => write_one(b),
+        9 => write(printer, b"\\t"),
+        10 => write(printer, b"\\n"),
+        0 | 11 | 12 | 13 | 128 | 160 => write_hex(printer, b),
+        _ => write_one(printer, b),
     }
 }
 
-fn write_shown(text: &[u8]) {
+fn write_shown(printer: &impl Print, text: &[u8]) -> io::Result<()> {
     let mut i = 0;
     while i < text.len() {
-        write_byte(text[i]);
+        write_byte(printer, text[i])?;
         i += 1;
     }
+    Ok(())
 }
 
-fn write_signed(x: u32) {
+fn write_signed(printer: &impl Print, x: u32) -> io::Result<()> {
     let bits = x as u64;
     if x < 2147483648 {
-        io::print_decimal(STDOUT_FILENO, bits);
+        write_number(printer, bits)
     } else {
-        write(b"-");
-        io::print_decimal(STDOUT_FILENO, 4294967296 - bits);
+        write(printer, b"-")?;
+        write_number(printer, 4294967296 - bits)
     }
 }
 
-fn write_value(s: &[u8]) {
-    write(b" is ");
+fn write_value(printer: &impl Print, s: &[u8]) -> io::Result<()> {
+    write(printer, b" is ")?;
     match expression::evaluate(s) {
-        Evaluated::Number(x) => write_signed(x),
-        Evaluated::Divisor => write(b"refused 9"),
-        Evaluated::Unreadable => write(b"refused 8"),
+        Evaluated::Number(x) => write_signed(printer, x)?,
+        Evaluated::Divisor => write(printer, b"refused 9")?,
+        Evaluated::Unreadable => write(printer, b"refused 8")?,
     }
-    write(b"\n");
+    write(printer, b"\n")
 }
 
-fn show(s: &[u8]) {
-    write_shown(s);
-    write_value(s);
+fn show(printer: &impl Print, s: &[u8]) -> io::Result<()> {
+    write_shown(printer, s)?;
+    write_value(printer, s)
 }
 
 // The place of a byte from a place on, or the end.
@@ -122,10 +123,22 @@ fn fill(text: &mut [u8], count: usize, front: &[u8], middle: &[u8], back: &[u8])
     repeat(text, b, back, count)
 }
 
-fn show_filled(count: usize, front: &[u8], middle: &[u8], back: &[u8]) {
-    let mut text = io::large_buffer();
+fn large_buffer() -> [u8; 65536]
+    ensures { 65536 ≡ length result }
+{
+    [0; 65536]
+}
+
+fn show_filled(
+    printer: &impl Print,
+    count: usize,
+    front: &[u8],
+    middle: &[u8],
+    back: &[u8],
+) -> io::Result<()> {
+    let mut text = large_buffer();
     let end = fill(&mut text, count, front, middle, back);
-    write_value(&text[..end]);
+    write_value(printer, &text[..end])
 }
 
 fn count_of(s: &[u8]) -> usize {
@@ -137,7 +150,7 @@ fn count_of(s: &[u8]) -> usize {
 }
 
 // Count, front, middle and back, with tabs between them.
-fn show_repeated(fields: &[u8]) {
+fn show_repeated(printer: &impl Print, fields: &[u8]) -> io::Result<()> {
     let a = find(fields, 0, 9);
     let front = behind(fields, a);
     let b = find(fields, front, 9);
@@ -146,61 +159,61 @@ fn show_repeated(fields: &[u8]) {
     let back = behind(fields, c);
     let count = count_of(&fields[..a]);
     show_filled(
+        printer,
         count,
         &fields[front..b],
         &fields[middle..c],
         &fields[back..],
-    );
+    )
 }
 
-fn show_line(line: &[u8]) {
+fn show_line(printer: &impl Print, line: &[u8]) -> io::Result<()> {
     if line.len() == 0 {
-        show(line);
+        show(printer, line)
     } else if line[0] == 64 {
-        write_shown(line);
-        show_repeated(&line[1..]);
+        write_shown(printer, line)?;
+        show_repeated(printer, &line[1..])
     } else if line[0] == 35 {
-        write_shown(line);
-        names::show(&line[1..]);
+        write_shown(printer, line)?;
+        names::show(printer, &line[1..])
     } else {
-        show(line);
+        show(printer, line)
     }
 }
 
-fn show_lines(text: &[u8]) {
+fn show_lines(printer: &impl Print, text: &[u8]) -> io::Result<()> {
     let mut at = 0;
     while at < text.len() {
         let end = find(text, at, 10);
-        show_line(&text[at..end]);
+        show_line(printer, &text[at..end])?;
         at = end + 1;
     }
+    Ok(())
 }
 
-fn show_blanks() {
-    show(b"\t1\n");
-    show(b"1\n+\t2");
-    show(b"\n\n-\t\n7\n");
-    show(b"1\n2");
-    show(b"1\n");
-    show(b"\n");
+fn show_blanks(printer: &impl Print) -> io::Result<()> {
+    show(printer, b"\t1\n")?;
+    show(printer, b"1\n+\t2")?;
+    show(printer, b"\n\n-\t\n7\n")?;
+    show(printer, b"1\n2")?;
+    show(printer, b"1\n")?;
+    show(printer, b"\n")
 }
 
 // No other byte parts tokens.
-fn show_others() {
-    show(b"1\r");
-    show(b"\r1");
-    show(b"1\x0b");
-    show(b"1\x0c");
-    show(b"1\0");
-    show(b"\0");
-    show(b"1\x80");
-    show(b"\xa01");
+fn show_others(printer: &impl Print) -> io::Result<()> {
+    show(printer, b"1\r")?;
+    show(printer, b"\r1")?;
+    show(printer, b"1\x0b")?;
+    show(printer, b"1\x0c")?;
+    show(printer, b"1\0")?;
+    show(printer, b"\0")?;
+    show(printer, b"1\x80")?;
+    show(printer, b"\xa01")
 }
 
-pub(crate) fn run() {
-    let mut text = io::large_buffer();
-    let n = io::read_full(STDIN_FILENO, &mut text);
-    show_lines(&text[..n]);
-    show_blanks();
-    show_others();
+pub(crate) fn run(printer: &impl Print, text: &[u8]) -> io::Result<()> {
+    show_lines(printer, text)?;
+    show_blanks(printer)?;
+    show_others(printer)
 }

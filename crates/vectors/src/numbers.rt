@@ -1,117 +1,126 @@
 // Numbers read, measured and written, one answer to a line.
-use crate::writing::write;
-use libc::STDOUT_FILENO;
+use crate::writing::{write, write_number};
 use numerals::{Decimal, Length, Natural};
+use std::io;
+use std::io::Print;
 
-fn put_decimal(out: &mut [u8], x: u32) {
+fn put_decimal(printer: &impl Print, out: &mut [u8], x: u32) -> io::Result<()> {
     if numerals::write_decimal(out, x) {
-        write(out);
+        write(printer, out)?;
     }
+    Ok(())
 }
 
 // A number in decimal, by its bits.
-fn put_number(x: u32) {
+fn put_number(printer: &impl Print, x: u32) -> io::Result<()> {
     let mut buffer = [0u8; 11];
     let n = numerals::decimal_length(x);
     if n <= 11 {
-        put_decimal(&mut buffer[..n], x);
+        put_decimal(printer, &mut buffer[..n], x)?;
     }
+    Ok(())
 }
 
-fn read_as(label: &[u8], s: &[u8]) {
-    write(b"read ");
-    write(label);
-    write(b": ");
+fn read_as(printer: &impl Print, label: &[u8], s: &[u8]) -> io::Result<()> {
+    write(printer, b"read ")?;
+    write(printer, label)?;
+    write(printer, b": ")?;
     match numerals::read_number(s) {
-        Decimal::Number(x) => put_number(x),
-        Decimal::NoNumber => write(b"no number"),
+        Decimal::Number(x) => put_number(printer, x)?,
+        Decimal::NoNumber => write(printer, b"no number")?,
     }
-    write(b"\n");
+    write(printer, b"\n")
 }
 
-fn read(s: &[u8]) {
-    read_as(s, s);
+fn read(printer: &impl Print, s: &[u8]) -> io::Result<()> {
+    read_as(printer, s, s)
 }
 
-fn natural(s: &[u8], radix: u32) {
-    write(b"base ");
-    put_number(radix);
-    write(b", read ");
-    write(s);
-    write(b": ");
+fn natural(printer: &impl Print, s: &[u8], radix: u32) -> io::Result<()> {
+    write(printer, b"base ")?;
+    put_number(printer, radix)?;
+    write(printer, b", read ")?;
+    write(printer, s)?;
+    write(printer, b": ")?;
     match numerals::read_natural(s, radix) {
-        Natural::Number(x) => {
-            io::print_decimal(STDOUT_FILENO, x as u64);
-        }
-        Natural::NoNumber => write(b"no number"),
+        Natural::Number(x) => write_number(printer, x as u64)?,
+        Natural::NoNumber => write(printer, b"no number")?,
     }
-    write(b"\n");
+    write(printer, b"\n")
 }
 
-fn put_into(out: &mut [u8], x: u32, radix: u32, least: u32) {
+fn put_into(
+    printer: &impl Print,
+    out: &mut [u8],
+    x: u32,
+    radix: u32,
+    least: u32,
+) -> io::Result<()> {
     if !numerals::write_number(out, x, radix, least) {
-        write(b"refused ");
+        write(printer, b"refused ")?;
     }
-    write(out);
+    write(printer, out)
 }
 
 // The text, or what is left of `room` dots where it is refused.
-fn put_text(room: usize, x: u32, radix: u32, least: u32) {
+fn put_text(printer: &impl Print, room: usize, x: u32, radix: u32, least: u32) -> io::Result<()> {
     let mut buffer = [b'.'; 64];
     if room <= 64 {
-        put_into(&mut buffer[..room], x, radix, least);
+        put_into(printer, &mut buffer[..room], x, radix, least)?;
     }
+    Ok(())
 }
 
-fn put_written(x: u32, radix: u32, least: u32) {
+fn put_written(printer: &impl Print, x: u32, radix: u32, least: u32) -> io::Result<()> {
     match numerals::written_length(x, radix, least) {
-        Length::Bytes(n) => put_text(n, x, radix, least),
-        Length::BadRadix => write(b"bad radix"),
+        Length::Bytes(n) => put_text(printer, n, x, radix, least),
+        Length::BadRadix => write(printer, b"bad radix"),
     }
 }
 
-fn put_case(x: u32, radix: u32, least: u32) {
-    write(b"base ");
-    put_number(radix);
-    write(b", ");
-    put_number(x);
-    write(b" in ");
-    put_number(least);
-    write(b": ");
+fn put_case(printer: &impl Print, x: u32, radix: u32, least: u32) -> io::Result<()> {
+    write(printer, b"base ")?;
+    put_number(printer, radix)?;
+    write(printer, b", ")?;
+    put_number(printer, x)?;
+    write(printer, b" in ")?;
+    put_number(printer, least)?;
+    write(printer, b": ")
 }
 
-fn written(x: u32, radix: u32, least: u32) {
-    put_case(x, radix, least);
-    put_written(x, radix, least);
-    write(b"\n");
+fn written(printer: &impl Print, x: u32, radix: u32, least: u32) -> io::Result<()> {
+    put_case(printer, x, radix, least)?;
+    put_written(printer, x, radix, least)?;
+    write(printer, b"\n")
 }
 
 // In each radix, with a least count of digits below the length and one above it.
-fn every_radix(x: u32) {
+fn every_radix(printer: &impl Print, x: u32) -> io::Result<()> {
     let mut radix = 2;
     while radix <= 36 {
-        written(x, radix, 1);
-        written(x, radix, 34);
+        written(printer, x, radix, 1)?;
+        written(printer, x, radix, 34)?;
         radix += 1;
     }
+    Ok(())
 }
 
-fn measured(x: u32, radix: u32, least: u32) {
-    put_case(x, radix, least);
+fn measured(printer: &impl Print, x: u32, radix: u32, least: u32) -> io::Result<()> {
+    put_case(printer, x, radix, least)?;
     match numerals::written_length(x, radix, least) {
         Length::Bytes(n) => {
-            io::print_decimal(STDOUT_FILENO, n as u64);
-            write(b" bytes");
+            write_number(printer, n as u64)?;
+            write(printer, b" bytes")?;
         }
-        Length::BadRadix => write(b"bad radix"),
+        Length::BadRadix => write(printer, b"bad radix")?,
     }
-    write(b"\n");
+    write(printer, b"\n")
 }
 
-fn into(room: usize, x: u32, radix: u32, least: u32) {
-    put_case(x, radix, least);
-    put_text(room, x, radix, least);
-    write(b"\n");
+fn into(printer: &impl Print, room: usize, x: u32, radix: u32, least: u32) -> io::Result<()> {
+    put_case(printer, x, radix, least)?;
+    put_text(printer, room, x, radix, least)?;
+    write(printer, b"\n")
 }
 
 fn store(digits: &mut [u8], at: usize, byte: u8) {
@@ -120,133 +129,139 @@ fn store(digits: &mut [u8], at: usize, byte: u8) {
     }
 }
 
-fn read_long(digits: &mut [u8]) {
-    read_as(b"65536 zeros", digits);
+fn read_long(printer: &impl Print, digits: &mut [u8]) -> io::Result<()> {
+    read_as(printer, b"65536 zeros", digits)?;
     store(digits, 65535, b'7');
-    read_as(b"65535 zeros and 7", digits);
+    read_as(printer, b"65535 zeros and 7", digits)?;
     store(digits, 0, b'-');
-    read_as(b"-, 65534 zeros and 7", digits);
+    read_as(printer, b"-, 65534 zeros and 7", digits)?;
     store(digits, 40000, b'x');
-    read_as(b"-, 65533 zeros, x among them, and 7", digits);
+    read_as(printer, b"-, 65533 zeros, x among them, and 7", digits)
 }
 
-fn many_zeros() {
+fn many_zeros(printer: &impl Print) -> io::Result<()> {
     let mut digits = [b'0'; 65536];
-    read_long(&mut digits);
+    read_long(printer, &mut digits)
 }
 
-fn reads_signs() {
-    read(b"");
-    read(b"-");
-    read(b"0");
-    read(b"-0");
-    read(b"-00");
-    read(b"7");
-    read(b"007");
-    read(b"-007");
-    read(b"+1");
-    read(b"--1");
-    read(b"1-");
+fn reads_signs(printer: &impl Print) -> io::Result<()> {
+    read(printer, b"")?;
+    read(printer, b"-")?;
+    read(printer, b"0")?;
+    read(printer, b"-0")?;
+    read(printer, b"-00")?;
+    read(printer, b"7")?;
+    read(printer, b"007")?;
+    read(printer, b"-007")?;
+    read(printer, b"+1")?;
+    read(printer, b"--1")?;
+    read(printer, b"1-")
 }
 
-fn reads_other_bytes() {
-    read(b"1a");
-    read(b"a");
-    read(b"0x1");
-    read(b" 1");
-    read(b"1 ");
-    read(b"1\n");
-    read(b"/");
-    read(b":");
-    read_as(b"the byte C3", b"\xC3");
-    read_as(b"1 and the byte C3", b"1\xC3");
-    read_as(b"the byte 0", b"\0");
+fn reads_other_bytes(printer: &impl Print) -> io::Result<()> {
+    read(printer, b"1a")?;
+    read(printer, b"a")?;
+    read(printer, b"0x1")?;
+    read(printer, b" 1")?;
+    read(printer, b"1 ")?;
+    read(printer, b"1\n")?;
+    read(printer, b"/")?;
+    read(printer, b":")?;
+    read_as(printer, b"the byte C3", b"\xC3")?;
+    read_as(printer, b"1 and the byte C3", b"1\xC3")?;
+    read_as(printer, b"the byte 0", b"\0")
 }
 
-fn reads_limits() {
-    read(b"2147483647");
-    read(b"2147483648");
-    read(b"-2147483648");
-    read(b"-2147483649");
-    read(b"4294967295");
-    read(b"4294967296");
-    read(b"4294967297");
-    read(b"-4294967297");
-    read(b"99999999999999999999");
-    read(b"18446744073709551616");
-    read(b"18446744073709551617");
+fn reads_limits(printer: &impl Print) -> io::Result<()> {
+    read(printer, b"2147483647")?;
+    read(printer, b"2147483648")?;
+    read(printer, b"-2147483648")?;
+    read(printer, b"-2147483649")?;
+    read(printer, b"4294967295")?;
+    read(printer, b"4294967296")?;
+    read(printer, b"4294967297")?;
+    read(printer, b"-4294967297")?;
+    read(printer, b"99999999999999999999")?;
+    read(printer, b"18446744073709551616")?;
+    read(printer, b"18446744073709551617")
 }
 
-fn reads_zeros() {
-    read(b"00000000000000000000000000000000000000000000000000000000000000000000001");
-    read(b"-0000000000000000000000000000000000000000000000000000000000000000000000002147483648");
-    many_zeros();
+fn reads_zeros(printer: &impl Print) -> io::Result<()> {
+    read(
+        printer,
+        b"00000000000000000000000000000000000000000000000000000000000000000000001",
+    )?;
+    read(
+        printer,
+        b"-0000000000000000000000000000000000000000000000000000000000000000000000002147483648",
+    )?;
+    many_zeros(printer)
 }
 
-fn naturals() {
-    natural(b"", 10);
-    natural(b"4294967295", 10);
-    natural(b"4294967296", 10);
-    natural(b"FFFFFFFF", 16);
-    natural(b"ffffffff", 16);
-    natural(b"100000000", 16);
-    natural(b"fg", 16);
-    natural(b"37777777777", 8);
-    natural(b"40000000000", 8);
-    natural(b"8", 8);
-    natural(b"1z141z3", 36);
-    natural(b"1Z141Z4", 36);
-    natural(b"102", 2);
-    natural(b"101", 2);
-    natural(b"0", 1);
-    natural(b"0", 0);
-    natural(b"_", 36);
-    natural(b"1", 1);
-    natural(b"zZ", 37);
-    natural(b"_", 37);
-    natural(b"1_", 1000);
+fn naturals(printer: &impl Print) -> io::Result<()> {
+    natural(printer, b"", 10)?;
+    natural(printer, b"4294967295", 10)?;
+    natural(printer, b"4294967296", 10)?;
+    natural(printer, b"FFFFFFFF", 16)?;
+    natural(printer, b"ffffffff", 16)?;
+    natural(printer, b"100000000", 16)?;
+    natural(printer, b"fg", 16)?;
+    natural(printer, b"37777777777", 8)?;
+    natural(printer, b"40000000000", 8)?;
+    natural(printer, b"8", 8)?;
+    natural(printer, b"1z141z3", 36)?;
+    natural(printer, b"1Z141Z4", 36)?;
+    natural(printer, b"102", 2)?;
+    natural(printer, b"101", 2)?;
+    natural(printer, b"0", 1)?;
+    natural(printer, b"0", 0)?;
+    natural(printer, b"_", 36)?;
+    natural(printer, b"1", 1)?;
+    natural(printer, b"zZ", 37)?;
+    natural(printer, b"_", 37)?;
+    natural(printer, b"1_", 1000)
 }
 
-fn writes() {
-    every_radix(0);
-    every_radix(2147483647);
-    every_radix(2147483648);
-    written(1, 1, 0);
-    written(1, 0, 0);
-    written(1, 37, 0);
-    written(4294967295, 10, 0);
-    written(4294967295, 10, 5);
-    written(255, 16, 2);
-    written(255, 16, 3);
-    written(0, 10, 0);
+fn writes(printer: &impl Print) -> io::Result<()> {
+    every_radix(printer, 0)?;
+    every_radix(printer, 2147483647)?;
+    every_radix(printer, 2147483648)?;
+    written(printer, 1, 1, 0)?;
+    written(printer, 1, 0, 0)?;
+    written(printer, 1, 37, 0)?;
+    written(printer, 4294967295, 10, 0)?;
+    written(printer, 4294967295, 10, 5)?;
+    written(printer, 255, 16, 2)?;
+    written(printer, 255, 16, 3)?;
+    written(printer, 0, 10, 0)
 }
 
-fn lengths() {
-    measured(0, 10, 2147483647);
-    measured(4294967295, 10, 2147483647);
-    measured(2147483648, 2, 32);
-    measured(2147483648, 2, 33);
-    measured(5, 4294967295, 0);
+fn lengths(printer: &impl Print) -> io::Result<()> {
+    measured(printer, 0, 10, 2147483647)?;
+    measured(printer, 4294967295, 10, 2147483647)?;
+    measured(printer, 2147483648, 2, 32)?;
+    measured(printer, 2147483648, 2, 33)?;
+    measured(printer, 5, 4294967295, 0)
 }
 
 // Slices of the text's length and of others, and a radix outside.
-fn refusals() {
-    into(3, 123, 10, 0);
-    into(4, 123, 10, 0);
-    into(2, 123, 10, 0);
-    into(0, 123, 10, 0);
-    into(3, 123, 37, 0);
-    into(4, 4294967173, 10, 0);
-    into(6, 4294967173, 10, 5);
+fn refusals(printer: &impl Print) -> io::Result<()> {
+    into(printer, 3, 123, 10, 0)?;
+    into(printer, 4, 123, 10, 0)?;
+    into(printer, 2, 123, 10, 0)?;
+    into(printer, 0, 123, 10, 0)?;
+    into(printer, 3, 123, 37, 0)?;
+    into(printer, 4, 4294967173, 10, 0)?;
+    into(printer, 6, 4294967173, 10, 5)
 }
 
-pub(crate) fn run() {
-    reads_signs();
-    reads_other_bytes();
-    reads_limits();
-    reads_zeros();
-    naturals();
-    writes();
-    lengths();
-    refusals();
+pub(crate) fn run(printer: &impl Print) -> io::Result<()> {
+    reads_signs(printer)?;
+    reads_other_bytes(printer)?;
+    reads_limits(printer)?;
+    reads_zeros(printer)?;
+    naturals(printer)?;
+    writes(printer)?;
+    lengths(printer)?;
+    refusals(printer)
 }

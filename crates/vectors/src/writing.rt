@@ -1,5 +1,10 @@
-use libc::STDOUT_FILENO;
+use std::io;
+use std::io::Print;
 
-pub(crate) fn write(text: &[u8]) {
-    io::write_all(STDOUT_FILENO, text);
+pub(crate) fn write(printer: &impl Print, text: &[u8]) -> io::Result<()> {
+    printer.write_all(text)
+}
+
+pub(crate) fn write_number(printer: &impl Print, n: u64) -> io::Result<()> {
+    print!(printer; "{n}")
 }

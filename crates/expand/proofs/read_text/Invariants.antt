@@ -1,0 +1,8 @@
+use Rattle.rules.proofs.Base.{◌≤◌, ◌-◌, ◌≡◌, length}
+use Rattle.expand.proofs.read_text.Given as goal
+
+abbrev pub invariant-loop-done : goal.invariant-loop-done
+invariant-loop-done l = (length l.buffer ≡ length l.initial.buffer) × (l.done ≤ length l.buffer)
+
+abbrev pub decreases-loop-done : goal.decreases-loop-done
+decreases-loop-done l = length l.buffer - l.done
