@@ -2,7 +2,7 @@
  *
  * One function expands one m4 text in buffers that the caller lends. Another expands a text and reads what it wrote as a sheet of settings;
  * two more read a text as a sheet, and find a setting by its name. Three, at the end, find the line of a place in a text. They are built by
- * `rt staticlib quenhovach` as target/staticlib/libquenhovach.a, for x86-64 Linux, once their proofs are checked; ./install puts that in
+ * `rt lib` in crates/quenhovach as out/libquenhovach.a there, for x86-64 Linux, once their proofs are checked; ./install puts that in
  * place, and a shared object made of it. Of C's library they need memcpy and memset.
  *
  * A run ends on every text, every set of texts to include, every lent length and every budget, in one of seventeen answers. Two of them

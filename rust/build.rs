@@ -1,5 +1,5 @@
 //! Finds the archive libquenhovach.a and has it linked: in the folder that QUENHOVACH_LIB_DIR names (a relative one is taken from this crate's folder), else in
-//! target/staticlib of the repository.
+//! crates/quenhovach/out of the repository.
 
 use std::path::PathBuf;
 use std::process::exit;
@@ -14,7 +14,7 @@ fn main() {
     println!("cargo:rerun-if-changed={}", archive.display());
     if !fs::metadata(&archive).is_ok_and(|found| found.is_file()) {
         eprintln!("The archive {} is missing.", archive.display());
-        eprintln!("Build it at the top of the repository with: rt staticlib quenhovach");
+        eprintln!("Build it in crates/quenhovach of the repository with: rt lib");
         eprintln!("If it lies elsewhere, name its folder in {VARIABLE}.");
         exit(1);
     }
@@ -26,5 +26,5 @@ fn main() {
 fn folder() -> PathBuf {
     let manifest = PathBuf::from(env::var_os("CARGO_MANIFEST_DIR").expect("cargo sets it"));
     let named = env::var_os(VARIABLE).filter(|name| !name.is_empty());
-    manifest.join(named.unwrap_or("../target/staticlib".into()))
+    manifest.join(named.unwrap_or("../crates/quenhovach/out".into()))
 }

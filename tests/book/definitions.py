@@ -21,32 +21,27 @@ from tally import count, fail, finish  # noqa: E402
 LEFT_OUT = (lambda text, lent: max(len(text), len(lent)) > 65536, lambda text, lent: re.search(rb"eval\(-?1(/[1-9])?,\d+,2147483647\)", text))
 
 HEAD = """-- Made by tests/book/definitions.py.
-use Prim.Native.Nat.{ℕ}
-use mathlib.Core.Bool.{Bool, true, false, _&&_}
-use mathlib.Core.List.{List, [], _∷_, _++_, map}
-use mathlib.Core.Path.{_≡_, refl}
-use lib.Count.{onesIn, trailingZeros}
-use lib.Dec.{eqb}
-use lib.Ieee.{binary64, ofBits, ofFields, span, climb, size, odd, units, round, neg, div, ofInt}
-use lib.IntN.{ℤ, pos, negsuc}
-use lib.ListN.{length, replicate}
-use Rattle·rules.specs.declared.Entry.{Entry}
-use Rattle·rules.specs.declared.Lookup.{Lookup}
-use Rattle·rules.specs.declared.Lookup.the-variants as lookup
-use Rattle·rules.specs.declared.SheetRead.{SheetRead}
-use Rattle·rules.specs.declared.Value.{Value}
-use Rattle·rules.specs.declared.Value.the-variants as value
-use Rattle·rules.specs.declared.IndexAnswer.{IndexAnswer}
-use Rattle·rules.specs.Bytes.{Bytes, sameBytes}
-use Rattle·rules.specs.Answers.{answerNumber, answerDetail}
-use Rattle·rules.specs.Streams.{Change}
-use Rattle·rules.specs.State.{freshStart}
-use Rattle·rules.specs.Run.{Setting, Ended, run}
-use Rattle·rules.specs.Contract.{outputOf, errorsOf}
-use Rattle·rules.specs.Lines.{indexNumber, indexValue, wordsOf, totalsOf, building, heldBy, lineOf, startOf}
-use Rattle·rules.specs.Sheets.{sheetNumber, sheetDetail, sheetOf, sheetRead, sheetAfter, sheetReportOf, question}
-use Rattle·rules.specs.History.{historyOf, outputNumbers, valueIn, givenIn, countingFrom, routeOf}
-use Rattle·rules.proofs.Book.{book}
+use Rattle.std.specs.Prelude.{ℕ, ◌≡◌, Bool, true, ◌&&◌, List, [], ◌∷◌, ◌++◌, map, eqb, ℤ, pos, negsuc, length, replicate}
+use mathlib.Core.Path.{refl}
+use lib.Count.{ones_in, count_trailing_zeros}
+use lib.Ieee.{binary64, of_bits, of_fields, span, climb, size, odd, units, round, neg, div, of_int}
+use Rattle.rules.specs.declared.Entry.{Entry}
+use Rattle.rules.specs.declared.Lookup.{Lookup}
+use Rattle.rules.specs.declared.Lookup.TheVariants as lookup
+use Rattle.rules.specs.declared.SheetRead.{SheetRead}
+use Rattle.rules.specs.declared.Value.{Value}
+use Rattle.rules.specs.declared.Value.TheVariants as value
+use Rattle.rules.specs.declared.IndexAnswer.{IndexAnswer}
+use Rattle.rules.specs.Bytes.{Bytes, same_bytes}
+use Rattle.rules.specs.Answers.{answer_number, answer_detail}
+use Rattle.rules.specs.Streams.{Change}
+use Rattle.rules.specs.State.{fresh_start}
+use Rattle.rules.specs.Run.{Setting, Ended, run}
+use Rattle.rules.specs.Contract.{output_of, errors_of}
+use Rattle.rules.specs.Lines.{index_number, index_value, words_of, totals_of, building, held_by, line_of, start_of}
+use Rattle.rules.specs.Sheets.{sheet_number, sheet_detail, sheet_of, sheet_read, sheet_after, sheet_report_of, question}
+use Rattle.rules.specs.History.{history_of, output_numbers, value_in, given_in, counting_from, route_of}
+use Rattle.rules.proofs.Book.{book}
 
 setting : ℕ → ℕ → ℕ → ℕ → ℕ → ℕ → ℕ → ℕ → Setting
 setting a b c d e f g n = record { pending = a; calls = b; definitions = c; streams = d; wrap = e; errors = f; output = g; budget = n }
@@ -54,35 +49,35 @@ setting a b c d e f g n = record { pending = a; calls = b; definitions = c; stre
 meets : ℕ → ℕ → ℕ → ℕ → Bytes → Bytes → Ended → Bool
 unfolding book
 meets number detail steps place output errors e =
-    eqb (answerNumber (e .answer)) number && eqb (answerDetail (e .answer)) detail && eqb (e .steps) steps && eqb (e .state .source .taken) place
-    && sameBytes (outputOf e) output && sameBytes (errorsOf e) errors
+    eqb (answer_number e.answer) number && eqb (answer_detail e.answer) detail && eqb e.steps steps && eqb e.state.source.taken place
+    && same_bytes (output_of e) output && same_bytes (errors_of e) errors
 
 answers : ℕ → ℕ → IndexAnswer → Bool
 unfolding book
-answers number value a = eqb (indexNumber a) number && eqb (indexValue a) value
+answers number value a = eqb (index_number a) number && eqb (index_value a) value
 
 builds : ℕ → ℕ → Bytes → List ℕ → List ℕ → List ℕ → List ℕ → Bool
 unfolding book
 builds number value text words totals w t =
     answers number value (building text words totals)
-    && sameBytes (heldBy (building text words totals) (wordsOf text) words) w && sameBytes (heldBy (building text words totals) (totalsOf text) totals) t
+    && same_bytes (held_by (building text words totals) (words_of text) words) w && same_bytes (held_by (building text words totals) (totals_of text) totals) t
 
 -- what a text read as a sheet comes to: number, detail and lines
 reads : ℕ → ℕ → List Entry → SheetRead → Type 0
-reads number detail lines r = (sheetNumber (r .answer) ≡ number) × (sheetDetail (r .answer) ≡ detail) × (r .sheet ≡ sheetOf lines)
+reads number detail lines r = (sheet_number r.answer ≡ number) × (sheet_detail r.answer ≡ detail) × (r.sheet ≡ sheet_of lines)
 
 -- the same of a run, with its steps and place, output and error text
 follows : ℕ → ℕ → ℕ → ℕ → Bytes → Bytes → List Entry → Ended → Type 0
 follows number detail steps place output errors lines e =
-    reads number detail lines (sheetAfter e) × reads number detail lines (record { answer = sheetReportOf e .answer; sheet = sheetReportOf e .sheet })
-    × (sheetReportOf e .steps ≡ steps) × (sheetReportOf e .place ≡ place) × (sheetReportOf e .output ≡ length output) × (sheetReportOf e .errors ≡ length errors)
-    × (outputOf e ≡ output) × (errorsOf e ≡ errors)
+    reads number detail lines (sheet_after e) × reads number detail lines (record { answer = (sheet_report_of e).answer; sheet = (sheet_report_of e).sheet })
+    × ((sheet_report_of e).steps ≡ steps) × ((sheet_report_of e).place ≡ place) × ((sheet_report_of e).output ≡ length output) × ((sheet_report_of e).errors ≡ length errors)
+    × (output_of e ≡ output) × (errors_of e ≡ errors)
 
 -- how a run ends, the numbers of its output, their values, and the route of each number that is given, its last stream first
 numbers : ℕ → ℕ → Bytes → List ℕ → List (List ℤ) → Ended → List Change → Type 0
 numbers number detail output ns routes e h =
-    (answerNumber (e .answer) ≡ number) × (answerDetail (e .answer) ≡ detail) × (outputOf e ≡ output) × (outputNumbers h ≡ ns) × (map (valueIn h) ns ≡ output)
-    × (map (λ k. routeOf k h) (countingFrom 0 (givenIn h)) ≡ routes)
+    (answer_number e.answer ≡ number) × (answer_detail e.answer ≡ detail) × (output_of e ≡ output) × (output_numbers h ≡ ns) × (map (value_in h) ns ≡ output)
+    × (map (λ k. route_of k h) (counting_from 0 (given_in h)) ≡ routes)
 """
 # what the second column of the index of lines has, that of sheets, and that of histories; a run has a text there, in hexadecimal
 INDEX = ("build", "line", "start")
@@ -105,7 +100,7 @@ def left_out(fields):
 def of_run(fields):
     """That a run gives what the line says, as a test that comes out true."""
     _, text, lent, lengths, budget, answer, detail, steps, place, output, errors = fields
-    started = "(run (freshStart %s %s) (setting %s %s))" % (listed(unhex(text)), listed(unhex(lent)), lengths.replace(",", " "), budget)
+    started = "(run (fresh_start %s %s) (setting %s %s))" % (listed(unhex(text)), listed(unhex(lent)), lengths.replace(",", " "), budget)
     return "meets %s %s %s %s %s %s %s" % (answer, detail, steps, place, listed(unhex(output)), listed(unhex(errors)), started)
 
 
@@ -125,7 +120,7 @@ def of_index(fields):
         return "builds %s %s %s %s %s %s" % (number, value, data, lent, repeated(words_after, 16), repeated(totals_after, 10))
     if (words, totals) != (words_after, totals_after):
         sys.exit("a question writes nothing: %s" % fields)
-    return "answers %s %s (%s %s %s %s)" % (number, value, {"line": "lineOf", "start": "startOf"}[function], text, lent, asked)
+    return "answers %s %s (%s %s %s %s)" % (number, value, {"line": "line_of", "start": "start_of"}[function], text, lent, asked)
 
 
 def of_integer(number):
@@ -135,8 +130,8 @@ def of_integer(number):
 def of_history(fields):
     """That a run has the numbers and routes that the line says: a statement, and how many parts it has."""
     _, _, text, lent, lengths, budget, number, detail, output, numbers, routes, _ = fields
-    started = "(freshStart %s %s) (setting %s %s)" % (listed(unhex(text)), listed(unhex(lent)), lengths.replace(",", " "), budget)
-    ran = "(run %s) (historyOf %s)" % (started, started)
+    started = "(fresh_start %s %s) (setting %s %s)" % (listed(unhex(text)), listed(unhex(lent)), lengths.replace(",", " "), budget)
+    ran = "(run %s) (history_of %s)" % (started, started)
     streams = [[int(stream) for stream in route.split(">")] for route in ([] if routes == "-" else routes.split(","))]
     newest_first = ["(%s[])" % "".join("%s ∷ " % of_integer(stream) for stream in reversed(route)) for route in streams]
     expected = "(%s[])" % "".join("%s ∷ " % route for route in newest_first)
@@ -150,7 +145,7 @@ def of_value(reading):
     if kind == "number":
         return "(value.Number %s)" % of_integer(int(rest))
     if kind == "decimal":
-        return "(value.Decimal (ofBits binary64 %d))" % int(rest, 16)
+        return "(value.Decimal (of_bits binary64 %d))" % int(rest, 16)
     if kind != "word":
         sys.exit("no reading: %s" % reading)
     return "(value.Word %s %s)" % tuple(rest.split("+"))
@@ -171,10 +166,10 @@ def of_sheet(fields):
     data = listed(unhex(text))
     if function == "question":
         found = "lookup.Absent" if result == "absent" else "lookup.Found %s" % of_value(result)
-        return "question (sheetOf %s) %s %s ≡ %s" % (of_lines(lent), data, listed(unhex(name)), found), "refl"
+        return "question (sheet_of %s) %s %s ≡ %s" % (of_lines(lent), data, listed(unhex(name)), found), "refl"
     if function == "read":
-        return "reads %s %s %s (sheetRead %s)" % (number, detail, of_lines(result), data), "(refl, refl, refl)"
-    run = "(run (freshStart %s (0 ∷ [])) (setting %s 16777216))" % (data, lent.replace(",", " "))
+        return "reads %s %s %s (sheet_read %s)" % (number, detail, of_lines(result), data), "(refl, refl, refl)"
+    run = "(run (fresh_start %s (0 ∷ [])) (setting %s 16777216))" % (data, lent.replace(",", " "))
     said = "follows %s %s %s %s %s %s %s %s" % (number, detail, steps, place, listed(unhex(output)), listed(unhex(errors)), of_lines(result), run)
     return said, "((refl, refl, refl), (refl, refl, refl), refl, refl, refl, refl, refl, refl)"
 
@@ -184,9 +179,9 @@ def statement(number, fields):
         said, shown = (of_sheet if fields[1] in SHEETS else of_history)(fields)
     else:
         said, shown = "%s ≡ true" % (of_index(fields) if fields[1] in INDEX else of_run(fields)), "refl"
-    opened = "book onesIn meets setting answers builds"
+    opened = "book ones_in meets setting answers builds"
     if fields[1] in SHEETS:
-        opened += " reads follows ofBits ofFields span climb size odd units round neg div ofInt trailingZeros"
+        opened += " reads follows of_bits of_fields span climb size odd units round neg div of_int count_trailing_zeros"
     if fields[1] in HISTORY:
         opened += " numbers"
     return "\nline%d : %s\nunfolding %s\nline%d = %s\n" % (number, said, opened, number, shown)
@@ -205,19 +200,19 @@ def read(path):
 def check(rows):
     """The numbers of the rows whose statement is refused, with the prover's word on each."""
     with tempfile.TemporaryDirectory() as folder:
-        shutil.copytree(os.path.join(ROOT, "crates", "rules"), os.path.join(folder, "crates", "rules"), ignore=shutil.ignore_patterns("must-fail"))
+        shutil.copytree(os.path.join(ROOT, "crates", "rules"), os.path.join(folder, "crates", "rules"), ignore=shutil.ignore_patterns("out", "must-fail"))
         computed = os.path.join(folder, "crates", "computed")
         os.makedirs(os.path.join(computed, "src"))
         os.makedirs(os.path.join(computed, "proofs"))
         with open(os.path.join(folder, "crates.txt"), "w") as f:
             f.write("rules:\ncomputed: rules\n")
         with open(os.path.join(computed, "src", "lib.rt"), "w") as f:
-            f.write("// Made by tests/book/definitions.py.\npub struct Line {\n    pub number: u32,\n}\n")
+            f.write("// Made by tests/book/definitions.py.\n#![tactic(auto)]\n\npub struct Line {\n    pub number: u32,\n}\n")
         with open(os.path.join(computed, "proofs", "Lib.antt"), "w") as f:
             f.write("pub mod Lines\n")
         with open(os.path.join(computed, "proofs", "Lines.antt"), "w") as f:
             f.write(HEAD + "".join(statement(i, fields) for i, fields in rows))
-        run = subprocess.run(["rt", "check", "computed"], cwd=folder, capture_output=True, text=True, env=dict(os.environ, RT_CUT="0"))
+        run = subprocess.run(["rt", "check"], cwd=computed, capture_output=True, text=True, errors="replace")
     wrong = {}
     for line in (run.stdout + run.stderr).split("\n"):
         found = re.search(r"error: (?:in )?`line(\d+)`(.*)", line)

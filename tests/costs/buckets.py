@@ -2,7 +2,7 @@
 """buckets.py [PROGRAM]: names spread over the 199 buckets, and no two predefined names share one.
 
 A search reads one bucket, so it costs what the fullest one holds. Families of names that differ in a number alone, as a template numbers its masts and guys,
-are put to the proved hash: the program target/bin/vectors, or another, tells the bucket of each (crates/vectors/src/names.rt). The fullest bucket
+are put to the proved hash: the program crates/vectors/out/vectors, or another, tells the bucket of each (crates/vectors/src/names.rt). The fullest bucket
 has to hold at most twice the mean of all 199, and four more. Ends with 'N passed, M failed'; exit status 0 only if M is 0.
 """
 import collections
@@ -27,7 +27,7 @@ ANSWER = re.compile(r"^#(\w+) is in (\d+), its first (\d+) in (\d+)$", re.M)
 def predefined():
     """The predefined names, as the book lists them."""
     book = open(os.path.join(ROOT, "crates", "rules", "specs", "Table.antt"), encoding="utf-8").read()
-    return re.findall(r'bytesOf "(\w+)"', re.search(r"^predefinedNames =\n(.*?)\[\]", book, re.M | re.S)[1])
+    return re.findall(r'bytes_of "(\w+)"', re.search(r"^predefined_names =\n(.*?)\[\]", book, re.M | re.S)[1])
 
 
 def buckets_of(names):

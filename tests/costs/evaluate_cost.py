@@ -1,7 +1,7 @@
 #!/usr/bin/env python3
 """evaluate_cost.py: an expression of eight times the length costs eval at most nine times the instructions.
 
-Counts the instructions of the program target/bin/evaluate (it reads an expression and writes what it comes to; see bench/counted.py),
+Counts the instructions of the program crates/evaluate/out/evaluate (it reads an expression and writes what it comes to; see bench/counted.py),
 less those for the expression `1`, at 8 KB and at 64 KB, for each kind of long expression. Each must come to what it says here. Ends with
 'N passed, M failed'; exit status 0 only if M is 0.
 """

@@ -6,7 +6,7 @@ MOST_BYTE for each byte of the text, and a byte of a long text takes what a byte
 for each total of the index, MOST_BIT for each bit of one word, and MOST_START beside them; the worst of the lines asked for must come to half of that, or they would
 show nothing. All answers must be those that counting gives.
 
-Calls the archive target/staticlib/libquenhovach.a, or that of the folder QUENHOVACH_LIB_DIR, from lines_cost.c. Ends with 'N passed, M failed'; exit status 0
+Calls the archive crates/quenhovach/out/libquenhovach.a, or that of the folder QUENHOVACH_LIB_DIR, from lines_cost.c. Ends with 'N passed, M failed'; exit status 0
 only if M is 0.
 """
 import collections

@@ -1,6 +1,6 @@
 """Runs with a set: how a set is written (02, request 1), and the driver set_runs.c, which makes them.
 
-The driver is linked to the archive target/staticlib/libquenhovach.a, or to that of the folder QUENHOVACH_LIB_DIR. (The program `expand` lends the empty set.)
+The driver is linked to the archive crates/quenhovach/out/libquenhovach.a, or to that of the folder QUENHOVACH_LIB_DIR. (The program `expand` lends the empty set.)
 """
 import collections
 import os

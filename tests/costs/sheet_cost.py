@@ -7,7 +7,7 @@ a short one does, but for a fiftieth. A question takes at most MOST_FIND, MOST_A
 a short one does: each is looked at once. The worst of the texts and of the questions must come to half of what it may take, or they would show nothing. All answers must
 be those that are written here.
 
-Calls the archive target/staticlib/libquenhovach.a, or that of the folder QUENHOVACH_LIB_DIR, from sheet_cost.c. Ends with 'N passed, M failed'; exit status 0
+Calls the archive crates/quenhovach/out/libquenhovach.a, or that of the folder QUENHOVACH_LIB_DIR, from sheet_cost.c. Ends with 'N passed, M failed'; exit status 0
 only if M is 0.
 """
 import collections

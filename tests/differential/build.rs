@@ -1,5 +1,5 @@
-//! Links libquenhovach.a of the repository's target/staticlib; QUENHOVACH_LIB_DIR may name another
-//! folder.
+//! Links libquenhovach.a of the repository's crates/quenhovach/out; QUENHOVACH_LIB_DIR may name
+//! another folder.
 
 use std::path::PathBuf;
 
@@ -7,7 +7,7 @@ fn main() {
     let root = PathBuf::from(std::env::var("CARGO_MANIFEST_DIR").expect("set by cargo"));
     let folder = match std::env::var("QUENHOVACH_LIB_DIR") {
         Ok(folder) => PathBuf::from(folder),
-        Err(_) => root.join("../../target/staticlib"),
+        Err(_) => root.join("../../crates/quenhovach/out"),
     };
     println!("cargo:rerun-if-env-changed=QUENHOVACH_LIB_DIR");
     println!(

@@ -4,7 +4,7 @@
 02, request 9: "For each table and each name the answer equals that of the plain newest-first search". crates/expander keeps that search as code, `newest_plain`. A
 copy of the sources gets it in the place of the search by bucket, in `newest`, `look_up` and `pop`; `meaning_of` and `nothing_in`, which look at a bucket first, look there no longer. The
 copy is compiled without a proof (tests/mutants/build.py), and a driver (plain_search.c) makes the same calls with it and with the archive
-target/staticlib/libquenhovach.a, or that of the folder QUENHOVACH_LIB_DIR: all lines of tests/vectors.tsv, COUNT tables of many names (default 300, seed 1), each
+crates/quenhovach/out/libquenhovach.a, or that of the folder QUENHOVACH_LIB_DIR: all lines of tests/vectors.tsv, COUNT tables of many names (default 300, seed 1), each
 in six settings, and 20 * COUNT random cases. What is returned, all six numbers and every byte lent must be equal.
 
 That the copy does search plainly, and the archive does not, is seen by time: one name is used very often below 2,000 others. An edit that finds no place fails.

@@ -146,7 +146,7 @@ def calls(folder, name, example):
 
 def predefined():
     """The names in the book of rules."""
-    return re.findall(r'bytesOf "(\w+)"', re.search(r"^predefinedNames =\n(.*?)\[\]", read(BOOK), re.M | re.S)[1])
+    return re.findall(r'bytes_of "(\w+)"', re.search(r"^predefined_names =\n(.*?)\[\]", read(BOOK), re.M | re.S)[1])
 
 
 def refusals():

@@ -1,9 +1,10 @@
 #!/usr/bin/env python3
 """readme.py: the README's commands that expand a template, and one that includes others, do what it says, in a copy of what git tracks.
 
-The copy gets this repository's target/ folder, so that nothing is proved twice: `rt` goes by the contents of the files, and would prove a crate again
-that differs. Ends with 'N passed, M failed'; exit status 0 only if M is 0.
+The copy gets what `rt` keeps of each crate in its folder out/, so that nothing is proved twice: `rt` goes by the contents of the files, and would prove a crate
+again that differs. Ends with 'N passed, M failed'; exit status 0 only if M is 0.
 """
+import glob
 import os
 import re
 import shutil
@@ -31,7 +32,8 @@ def copy_of_tracked(to):
     for name in filter(None, names):
         os.makedirs(os.path.join(to, os.path.dirname(name)), exist_ok=True)
         shutil.copy2(os.path.join(ROOT, name), os.path.join(to, name))
-    shutil.copytree(os.path.join(ROOT, "target"), os.path.join(to, "target"), ignore=shutil.ignore_patterns("must-fail", "inc"))
+    for kept in glob.glob(os.path.join(ROOT, "crates", "*", "out")):
+        shutil.copytree(kept, os.path.join(to, os.path.relpath(kept, ROOT)))
 
 
 def main():

@@ -1,5 +1,5 @@
 #!/usr/bin/env python3
-"""The expander from C and C++: include/quenhovach.h, the archive target/staticlib/libquenhovach.a, and the programs of examples/c.
+"""The expander from C and C++: include/quenhovach.h, the archive crates/quenhovach/out/libquenhovach.a, and the programs of examples/c.
 
 Every expected answer and byte is written by hand from documents 01 and 02; tests/sheets.tsv has those of the sheet, tests/lines.tsv those of the index of
 lines. Ends with 'N passed, M failed'; exit status 0 only if M is 0.
@@ -337,7 +337,7 @@ def test_controller(folder):
 
 
 if not os.path.exists(ARCHIVE):
-    stop("target/staticlib/libquenhovach.a is missing: `rt staticlib quenhovach` writes it")
+    stop("crates/quenhovach/out/libquenhovach.a is missing: `rt lib` in crates/quenhovach writes it")
 with tempfile.TemporaryDirectory() as scratch:
     test_header(scratch)
     test_archive()

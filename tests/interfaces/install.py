@@ -1,7 +1,7 @@
 #!/usr/bin/env python3
 """./install: what it installs is found by pkg-config, linked, run and read; what it took is given back; a run that fails says what it left.
 
-Installs what the gate built (target/staticlib, target/rust) into folders of its own, and builds nothing. Expected texts are written by hand.
+Installs what the gate built (crates/quenhovach/out, target/rust) into folders of its own, and builds nothing. Expected texts are written by hand.
 Ends with 'N passed, M failed'; exit status 0 only if M is 0.
 """
 import fcntl
@@ -268,9 +268,10 @@ def copied(folder, version=VERSION):
     for name in ("install", "include/quenhovach.h", "docs/quenhovach.1", "rust/Cargo.toml"):
         text = get(os.path.join(ROOT, name)).replace(VERSION.encode(), version.encode())
         put(os.path.join(copy, name), text, 0o755 if name == "install" else 0o644)
+    os.makedirs(os.path.join(copy, "crates", "quenhovach"))
     stubs = os.path.join(folder, "builders")
     log = os.path.join(folder, "log")
-    stub(stubs, "rt", 'echo "rt $* in $PWD" >>"%s"\nmkdir -p target/staticlib && cp "%s" target/staticlib/\n' % (log, ARCHIVE))
+    stub(stubs, "rt", 'echo "rt $* in $PWD" >>"%s"\nmkdir -p out && cp "%s" out/\n' % (log, ARCHIVE))
     stub(stubs, "cargo", 'echo "cargo $* in $PWD${QUENHOVACH_LIB_DIR+, another archive}" >>"%s"\n' % log
          + 'mkdir -p "$CARGO_TARGET_DIR/release" && cp "%s" "$CARGO_TARGET_DIR/release/"\n' % COMMAND)
     return copy, stubs, log
@@ -288,7 +289,7 @@ def building(folder):
     check("nothing is built with --built", (status, os.path.exists(prefix)), (1, False))
     os.remove(log)
     check("it builds", install(prefix, script=copy, stubs=stubs, target=None, variables={"QUENHOVACH_LIB_DIR": "/elsewhere"})[0], 0)
-    lines = ["rt staticlib quenhovach in " + copy, "cargo build --release --offline --locked in %s/rust" % copy]
+    lines = ["rt lib in %s/crates/quenhovach" % copy, "cargo build --release --offline --locked in %s/rust" % copy]
     check("the library, then the command", get(log).decode().splitlines(), lines)
     check("and takes what was built", install("--built", prefix, script=copy, stubs=stubs, target=None)[0], 0)
     check("without building again", len(get(log).splitlines()), 2)
@@ -298,7 +299,7 @@ def versions(folder):
     """An older version is replaced, and its own files go."""
     prefix, before = furnished(folder)
     copy, _, _ = copied(folder, "0.0.9")
-    put(os.path.join(copy, "target/staticlib/libquenhovach.a"), get(ARCHIVE))
+    put(os.path.join(copy, "crates/quenhovach/out/libquenhovach.a"), get(ARCHIVE))
     status, _, err = install("--built", prefix, script=copy)
     check("a command of another version", (status, "quenhovach is not of version 0.0.9" in err, tree(prefix) == before), (1, True, True))
     put(os.path.join(copy, "rust/target/release/quenhovach"), b"#!/bin/sh\necho quenhovach 0.0.9\n", 0o755)
@@ -337,7 +338,7 @@ def loader(folder):
 def nobody(folder):
     """Somebody who is not root, with a prefix of his own and with another's."""
     copy, _, _ = copied(folder)
-    put(os.path.join(copy, "target/staticlib/libquenhovach.a"), get(ARCHIVE))
+    put(os.path.join(copy, "crates/quenhovach/out/libquenhovach.a"), get(ARCHIVE))
     put(os.path.join(copy, "rust/target/release/quenhovach"), get(COMMAND), 0o755)
     os.chmod(folder, 0o755)
     home = os.path.join(folder, "home")
@@ -360,7 +361,7 @@ def nobody(folder):
 
 def main():
     ready = []
-    for path, how in ((ARCHIVE, "rt staticlib quenhovach"), (COMMAND, "tests/interfaces/command/run.py")):
+    for path, how in ((ARCHIVE, "`rt lib` in crates/quenhovach"), (COMMAND, "tests/interfaces/command/run.py")):
         ready.append(check("%s is there (%s builds it)" % (os.path.relpath(path, ROOT), how), os.path.exists(path), True))
     for tool in ("pkg-config", "groff", "gcc", "readelf"):
         ready.append(check(tool + " is installed", shutil.which(tool) is not None, True))

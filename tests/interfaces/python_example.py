@@ -1,5 +1,5 @@
 #!/usr/bin/env python3
-"""The expander from Python: examples/python/quenhovach.py over a shared object that is made of target/staticlib/libquenhovach.a as its README says.
+"""The expander from Python: examples/python/quenhovach.py over a shared object that is made of crates/quenhovach/out/libquenhovach.a as its README says.
 
 Every expected answer and byte is written by hand from documents 01 and 02, those of sheets in tests/sheets.tsv, and line and column counted through the text; those of the README's example are in c_example.py and tests/documents/examples.py too.
 Ends with 'N passed, M failed'; exit status 0 only if M is 0.
@@ -402,7 +402,7 @@ def source():
 
 def main():
     if not os.path.exists(ARCHIVE):
-        stop("target/staticlib/libquenhovach.a is missing: `rt staticlib quenhovach` writes it")
+        stop("crates/quenhovach/out/libquenhovach.a is missing: `rt lib` in crates/quenhovach writes it")
     names()
     source()
     with tempfile.TemporaryDirectory() as folder:

@@ -167,7 +167,7 @@ def failed_parts(said):
 
 def worked_texts(tree):
     """What the program worked_texts writes, against what is stored."""
-    status, said = finished([os.path.join(tree, "target", "bin", "worked_texts")], tree)
+    status, said = finished([os.path.join(tree, "crates", "worked_texts", "out", "worked_texts")], tree)
     stored = open(os.path.join(tree, "crates", "worked_texts", "stdout"), encoding="utf-8").read()
     return status == 0 and said == stored, said
 
@@ -189,10 +189,9 @@ def install(tree):
     """Builds the tree, and puts archive and programs where the tests look for them."""
     with tempfile.TemporaryDirectory() as out:
         build(tree, out)
-        for folder, names in (("bin", PROGRAMS), ("staticlib", ["libquenhovach.a"])):
-            os.makedirs(os.path.join(tree, "target", folder), exist_ok=True)
-            for name in names:
-                shutil.copy(os.path.join(out, name), os.path.join(tree, "target", folder, name))
+        for crate, name in [(name, name) for name in PROGRAMS] + [("quenhovach", "libquenhovach.a")]:
+            os.makedirs(os.path.join(tree, "crates", crate, "out"), exist_ok=True)
+            shutil.copy(os.path.join(out, name), os.path.join(tree, "crates", crate, "out", name))
 
 
 def clean_passes(tree):
@@ -263,7 +262,7 @@ def main():
     rows = []
     with tempfile.TemporaryDirectory() as folder:
         tree = os.path.join(folder, "tree")
-        shutil.copytree(ROOT, tree, ignore=shutil.ignore_patterns(".git", "target", "__pycache__"))
+        shutil.copytree(ROOT, tree, ignore=shutil.ignore_patterns(".git", "target", "out", "__pycache__"))
         tried = [test[0] for test in TESTS]
         clean = clean_passes(tree)
         tally.count(clean, not clean)

@@ -3,16 +3,16 @@ import os
 import subprocess
 
 ROOT = os.path.dirname(os.path.dirname(os.path.dirname(os.path.abspath(__file__))))
-# the library, from `rt staticlib quenhovach`
-ARCHIVE = os.path.join(ROOT, "target", "staticlib", "libquenhovach.a")
+# the library, from `rt lib` in crates/quenhovach
+ARCHIVE = os.path.join(ROOT, "crates", "quenhovach", "out", "libquenhovach.a")
 # the crate in rust/ is built here, and the command with it
 RUST = os.path.join(ROOT, "target", "rust")
 COMMAND = os.path.join(RUST, "release", "quenhovach")
 
 
 def program(name):
-    """A program, from `rt check` or `rt ci`."""
-    return os.path.join(ROOT, "target", "bin", name)
+    """A program, from `rt ci`, or from `rt run` in its crate."""
+    return os.path.join(ROOT, "crates", name, "out", name)
 
 
 def build_command():

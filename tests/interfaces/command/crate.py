@@ -57,4 +57,4 @@ def habits(_):
 def missing_archive(folder):
     status, said = cargo("build", "--offline", QUENHOVACH_LIB_DIR=folder, CARGO_TARGET_DIR=os.path.join(folder, "built"))
     check("without the archive nothing is built", status != 0, True)
-    check("and the message says how to build it", "rt staticlib quenhovach" in said and os.path.join(folder, "libquenhovach.a") in said, True)
+    check("and the message says how to build it", "rt lib" in said and os.path.join(folder, "libquenhovach.a") in said, True)

@@ -325,7 +325,7 @@ def known(_):
     source = get(os.path.join(CRATE, "src", "bin", "quenhovach", "suspects.rs")).decode()
     lists = {name: re.findall(r'"(\w+)"', names) for name, names in re.findall(r"const (\w+): .*?= \[(.*?)\];", source, re.S)}
     book = get(os.path.join(ROOT, "crates", "rules", "specs", "Table.antt")).decode()
-    names = re.findall(r'bytesOf "(\w+)"', re.search(r"^predefinedNames =\n(.*?)\[\]", book, re.M | re.S)[1])
+    names = re.findall(r'bytes_of "(\w+)"', re.search(r"^predefined_names =\n(.*?)\[\]", book, re.M | re.S)[1])
     check("predefined names", sorted(lists["NEED_CALL"] + lists["TAKE_CALL"] + lists["BARE"]), sorted(names))
     for name in lists["NEED_CALL"]:
         check("plain text by itself: " + name, run(["--warn"], b"[%s]" % name.encode()), (0, b"[%s]" % name.encode(), b""))
