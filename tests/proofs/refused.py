@@ -20,8 +20,8 @@ ERROR = re.compile(r"^(?:\./)?proofs/((\S+)\.antt:\d+:\d+): error: (?:`([^`\n]+)
 OPEN = re.compile(r"^(?:note|error[^:]*): src/(\S+):(\d+):\d+: it is not proved that (.*)$", re.M)
 NO_PROOF = re.compile(r"^fn (\S+): no proof: .*`search` did not prove (.*)$", re.M)
 RESTS_ON = re.compile(r"^\d+ declarations? that depends? on `[^`]+`, which was rejected")
-# an answer that names what the edited code does not have: this says nothing of the code's meaning
-MISFIT = re.compile(r"\bhas no field\b|\bhas no `|\bis not in scope\b|\bis no name\b|that can be named from here")
+# an answer that names what the edited code does not have, or twice what it has, and a check that came to a limit: these say nothing of the code's meaning
+MISFIT = re.compile(r"\bhas no field\b|\bhas no `|\bis not in scope\b|\bis no name\b|that can be named from here|\bis already declared\b|\bran out of (?:steps|stack|memory)\b")
 PROMISE = re.compile(r"(?:\w+-)?(?:returns|loop-\w+-(?:preserved|init))(?:-\S+)?")
 
 class Function:
@@ -198,7 +198,7 @@ def refusals(said, folder):
         home = functions[at].home if at else ""
         refused.setdefault(home, []).append(("src/%s:%s" % (file, line), told, goals))
     for function, goals in NO_PROOF.findall(said):
-        own = [("a search", "", {goal}) for goal in re.findall(r"`([^`]+)`", goals)]
+        own = [("a search", "", {goal}) for goal in re.findall(r"`([^`]+)`", goals.partition(";")[0])]
         name = function.partition("::")[2].replace("::", "/")
         refused.setdefault(functions[name].home if name in functions else name, []).extend(own)
     return refused
