@@ -21,17 +21,16 @@ from tally import count, fail, finish  # noqa: E402
 LEFT_OUT = (lambda text, lent: max(len(text), len(lent)) > 65536, lambda text, lent: re.search(rb"eval\(-?1(/[1-9])?,\d+,2147483647\)", text))
 
 HEAD = """-- Made by tests/book/definitions.py.
-use Rattle.std.specs.Prelude.{ℕ, ◌≡◌, Bool, true, ◌&&◌, List, [], ◌∷◌, ◌++◌, map, eqb, ℤ, pos, negsuc, length, replicate}
+use Rattle.std.specs.Prelude.{ℕ, ◌≡◌, Bool, true, ◌&&◌, List, [], ◌∷◌, ◌++◌, map, eqb, ℤ, pos, negsuc, length, replicate, None, Some, Result}
 use mathlib.Core.Path.{refl}
 use lib.Count.{ones_in, count_trailing_zeros}
 use lib.Ieee.{binary64, of_bits, of_fields, span, climb, size, odd, units, round, neg, div, of_int}
 use Rattle.rules.specs.declared.Entry.{Entry}
-use Rattle.rules.specs.declared.Lookup.{Lookup}
-use Rattle.rules.specs.declared.Lookup.TheVariants as lookup
-use Rattle.rules.specs.declared.SheetRead.{SheetRead}
+use Rattle.rules.specs.declared.Sheet.{Sheet}
+use Rattle.rules.specs.declared.SheetError.{SheetError}
 use Rattle.rules.specs.declared.Value.{Value}
 use Rattle.rules.specs.declared.Value.TheVariants as value
-use Rattle.rules.specs.declared.IndexAnswer.{IndexAnswer}
+use Rattle.rules.specs.declared.IndexError.{IndexError}
 use Rattle.rules.specs.Bytes.{Bytes, same_bytes}
 use Rattle.rules.specs.Answers.{answer_number, answer_detail}
 use Rattle.rules.specs.Streams.{Change}
@@ -39,7 +38,7 @@ use Rattle.rules.specs.State.{fresh_start}
 use Rattle.rules.specs.Run.{Setting, Ended, run}
 use Rattle.rules.specs.Contract.{output_of, errors_of}
 use Rattle.rules.specs.Lines.{index_number, index_value, words_of, totals_of, building, held_by, line_of, start_of}
-use Rattle.rules.specs.Sheets.{sheet_number, sheet_detail, sheet_of, sheet_read, sheet_after, sheet_report_of, question}
+use Rattle.rules.specs.Sheets.{sheet_number, sheet_detail, sheet_of, sheet_in, sheet_read, sheet_after, sheet_report_of, question}
 use Rattle.rules.specs.History.{history_of, output_numbers, value_in, given_in, counting_from, route_of}
 use Rattle.rules.proofs.Book.{book}
 
@@ -52,24 +51,24 @@ meets number detail steps place output errors e =
     eqb (answer_number e.answer) number && eqb (answer_detail e.answer) detail && eqb e.steps steps && eqb e.state.source.taken place
     && same_bytes (output_of e) output && same_bytes (errors_of e) errors
 
-answers : ℕ → ℕ → IndexAnswer → Bool
+answers : ℕ → ℕ → Result ℕ IndexError → Bool
 unfolding book
 answers number value a = eqb (index_number a) number && eqb (index_value a) value
 
 builds : ℕ → ℕ → Bytes → List ℕ → List ℕ → List ℕ → List ℕ → Bool
 unfolding book
 builds number value text words totals w t =
-    answers number value (building text words totals)
+    eqb (index_number (building text words totals)) number && eqb 0 value
     && same_bytes (held_by (building text words totals) (words_of text) words) w && same_bytes (held_by (building text words totals) (totals_of text) totals) t
 
 -- what a text read as a sheet comes to: number, detail and lines
-reads : ℕ → ℕ → List Entry → SheetRead → Type 0
-reads number detail lines r = (sheet_number r.answer ≡ number) × (sheet_detail r.answer ≡ detail) × (r.sheet ≡ sheet_of lines)
+reads : ℕ → ℕ → List Entry → Result Sheet SheetError → Type 0
+reads number detail lines r = (sheet_number r ≡ number) × (sheet_detail r ≡ detail) × (sheet_in r ≡ sheet_of lines)
 
 -- the same of a run, with its steps and place, output and error text
 follows : ℕ → ℕ → ℕ → ℕ → Bytes → Bytes → List Entry → Ended → Type 0
 follows number detail steps place output errors lines e =
-    reads number detail lines (sheet_after e) × reads number detail lines (record { answer = (sheet_report_of e).answer; sheet = (sheet_report_of e).sheet })
+    reads number detail lines (sheet_after e) × reads number detail lines (sheet_report_of e).answer
     × ((sheet_report_of e).steps ≡ steps) × ((sheet_report_of e).place ≡ place) × ((sheet_report_of e).output ≡ length output) × ((sheet_report_of e).errors ≡ length errors)
     × (output_of e ≡ output) × (errors_of e ≡ errors)
 
@@ -165,7 +164,7 @@ def of_sheet(fields):
     _, function, text, lent, name, number, detail, steps, place, output, errors, result, _ = fields
     data = listed(unhex(text))
     if function == "question":
-        found = "lookup.Absent" if result == "absent" else "lookup.Found %s" % of_value(result)
+        found = "None" if result == "absent" else "Some %s" % of_value(result)
         return "question (sheet_of %s) %s %s ≡ %s" % (of_lines(lent), data, listed(unhex(name)), found), "refl"
     if function == "read":
         return "reads %s %s %s (sheet_read %s)" % (number, detail, of_lines(result), data), "(refl, refl, refl)"

@@ -19,7 +19,7 @@ from tally import check, finish, judge, stop  # noqa: E402
 BUCKETS = 199
 FAMILIES = ["sway_x_%d", "sway_%d_x", "guy%d_load", "v%d", "ring_lower_%d_height"]
 COUNTS = [200, 5000]
-# the program reads no more than 65,536 bytes
+# so many names are asked for in one run
 AT_ONCE = 2500
 ANSWER = re.compile(r"^#(\w+) is in (\d+), its first (\d+) in (\d+)$", re.M)
 

@@ -31,7 +31,7 @@ EVERY = [1, 2, 7, 64, 900, 0]
 # the most instructions: of the line of a place, of building by the byte, and of the start of a line by the total, by the bit, and beside them
 MOST_LINE = 100
 MOST_BYTE = 10
-MOST_TOTAL, MOST_BIT, MOST_START = 8, 8, 100
+MOST_TOTAL, MOST_BIT, MOST_START = 8, 4, 100
 # how much the cost of a byte may differ between a short text and a long one
 SPREAD = 1.02
 

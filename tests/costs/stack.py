@@ -7,7 +7,7 @@ texts of each macro (worst_texts.py) and on those here, and must give what is wr
 expression, so these have the deepest stack: 32 nestings, with an operator of each level open in every one of them and inside the last.
 Runs with a set are made by set_runs.c, which lends nothing from the stack, with the same limit less the buffers. Those of the sheet are made by sheet_stack.c in a thread
 with such a stack.
-A limit that is 400 KB smaller, and for reading 80 KB, must end the program by a signal, or the limit would show nothing. Ends with 'N passed, M failed'; exit status 0 only if M is 0.
+A limit that is 400 KB smaller, and for reading 100 KB, must end the program by a signal, or the limit would show nothing. Ends with 'N passed, M failed'; exit status 0 only if M is 0.
 """
 import os
 import resource
@@ -29,7 +29,7 @@ ENOUGH = BUFFERS + WITH_SET
 TOO_LITTLE = 400 * 1024  # less than that
 # of the functions of the sheet, with 16 KB for the start of a thread
 SHEET = {"expand": WITH_SET, "read": (128 + 16) * 1024, "find": (16 + 16) * 1024}
-READ_TOO_LITTLE = 80 * 1024  # less than that
+READ_TOO_LITTLE = 100 * 1024  # less than that
 SHEET_STACK = os.path.join(os.path.dirname(os.path.abspath(__file__)), "sheet_stack.c")
 LEVELS = b"0||1&&0|0^1&1==1<1<<0+1*"  # before an operand of 1 it comes to 1, and every side is worked out
 

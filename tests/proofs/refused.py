@@ -11,7 +11,7 @@ import glob
 import os
 import re
 
-ITEM = re.compile(r'^impl (\w+) |^\}$|^( *)(pub |pub\(crate\) )?(?:extern "C" )?fn (\w+)(?:<[^>]*>)?\(', re.M)
+ITEM = re.compile(r'^impl(?:<[^>]*>)? (\w+)(?: |<[^>]*> \{)|^\}$|^( *)(pub |pub\(crate\) )?(?:extern "C" )?fn (\w+)(?:<[^>]*>)?\(', re.M)
 TYPE = re.compile(r"^(?:pub |pub\(crate\) )?(?:struct|enum) (\w+)", re.M)
 CYCLE = re.compile(r"#\[cycle\((\w+)\)\]\n(?: *#\[.*\]\n)*\Z")
 CALL = re.compile(r"(?:\b(\w+)::)?\b(\w+)\(")

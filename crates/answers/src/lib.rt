@@ -6,7 +6,8 @@ ghost use Rattle.rules.specs.Answers.{answer_number, answer_detail, numbers};
 
 use rules::{Answer, Report};
 
-// The column "No." of 01's table of answers.
+// The column "No." of 01's table of answers. (`as` would number only an enum without details.)
+#[tactic(auto, unfolding(rules::specs::Answers::answer_number))]
 pub fn number_of(a: Answer) -> u32
     ensures { result ≡ answer_number a }
 {
@@ -32,18 +33,18 @@ pub fn number_of(a: Answer) -> u32
 }
 
 // The column "Detail".
+#[tactic(auto, unfolding(rules::specs::Answers::answer_detail))]
 pub fn detail_of(a: Answer) -> u32
     ensures { result ≡ answer_detail a }
 {
     match a {
-        Answer::Exit(code) => code,
-        Answer::Room(buffer) => buffer,
-        Answer::Unclosed(what) => what,
+        Answer::Exit(detail) | Answer::Room(detail) | Answer::Unclosed(detail) => detail,
         _ => 0,
     }
 }
 
 // All six: number, detail, completed steps, place, count of output bytes and count of error bytes.
+#[tactic(auto, unfolding(rules::specs::Answers::numbers))]
 pub fn numbers_of(r: Report) -> [u32; 6]
     ensures { result ≡ numbers r }
 {

@@ -1,52 +1,22 @@
--- Laws of choices, of names and of slices that a loop walks. Assumes nothing.
-use Rattle.rules.proofs.Base.{◌≤◌, ◌+◌, ℕ, ◌<◌, suc, ◌∙◌, refl, sym, ap, ◌≡◌, true, Bool, false, inl, inr, List, [], ◌++◌, ◌∷◌, append-nil, map, zero-add, add-one, arith, eqb, eqb·zero-suc, eqb·suc-suc, length, drop, take, get_or, set, drop_of_length-le, replicate, drop-cons, paste-suc, drop-length, take-length, eq-eqb, ne_eqb}
-use types.Run.{OneOf}
-use denote.Enum.Declared.{tag_of}
-use Rattle.rules.specs.declared.Class.{Class}
-use Rattle.rules.specs.declared.Class.TheVariants as class
-use Rattle.rules.specs.contracts.Class.{the_type}
-use Rattle.rules.specs.Bytes.{Bytes, class_number, same_bytes, begins_name, continues_name, name_length, all_continue, is_name}
-use Rattle.ascii.specs.Copied.{Copied}
+-- Laws of names and of slices that a loop walks. Assumes nothing.
+use Rattle.std.specs.List.{prefix_len}
+use Rattle.rules.proofs.Base.{cond, true≢false, ◌≤◌, ◌+◌, ℕ, ◌<◌, suc, ◌∙◌, refl, sym, ap, ◌≡◌, true, Bool, false, [], ◌∷◌, add-one, arith, eqb, eqb·zero-suc, eqb·suc-suc, length, drop, get_or, drop_of_length-le, drop-cons, eq-eqb, ne_eqb}
+use Rattle.rules.proofs.Book.{book}
+use Rattle.rules.specs.Bytes.{Bytes, same_bytes, begins_name, continues_name, name_length, all_continue, is_name}
 
--- a test that says b of each of these numbers says b of one of them
-says_of : (test : ℕ → Bool) (b : Bool) (ks : List ℕ) {n : ℕ} → OneOf ks n → map test ks ≡ replicate (length ks) b → b ≡ test n
-says_of test b [] h f = absurd h
-says_of test b (k ∷ []) h f = sym (ap test h ∙ ap (λ (l : List Bool). get_or l 0 b) f)
-says_of test b (k ∷ k' ∷ ks) (inl h) f = sym (ap test h ∙ ap (λ (l : List Bool). get_or l 0 b) f)
-says_of test b (k ∷ k' ∷ ks) (inr h) f = says_of test b (k' ∷ ks) h (ap (drop 1) f)
-
-class_number_lem : (c : Class) → tag_of the_type c ≡ class_number c
-unfolding class_number
-class_number_lem class.Letter = refl
-class_number_lem class.Digit = refl
-class_number_lem class.Underscore = refl
-class_number_lem class.Blank = refl
-class_number_lem class.Other = refl
-
--- what a test of classes by their numbers says, where a class came to an arm
-pub arm_says : (test : ℕ → Bool) (b : Bool) (ks : List ℕ) {r c : Class} → r ≡ c → OneOf ks (tag_of the_type r) → map test ks ≡ replicate (length ks) b → b ≡ test (class_number c)
-arm_says test b ks {r} e h f = says_of test b ks h f ∙ ap test (class_number_lem r) ∙ ap (λ (c : Class). test (class_number c)) e
+-- a name is as long as what goes on with one, from the front on
+pub name_front : (s : Bytes) → prefix_len continues_name s ≡ name_length s
+unfolding name_length
+name_front [] = refl
+name_front (x ∷ xs) = go (continues_name x) (name_front xs)
+  where
+    go : (t : Bool) → prefix_len continues_name xs ≡ name_length xs → cond t (1 + prefix_len continues_name xs) 0 ≡ elim t [ true ↦ suc (name_length xs) | false ↦ 0 ]
+    go true e = omega arith
+    go false e = refl
 
 name_more : (x : ℕ) (xs : Bytes) → continues_name x ≡ true → name_length (x ∷ xs) ≡ suc (name_length xs)
 unfolding name_length
 name_more x xs e = rw (e, name_length)
-
-name_none : (x : ℕ) (xs : Bytes) → continues_name x ≡ false → name_length (x ∷ xs) ≡ 0
-unfolding name_length
-name_none x xs e = rw (e, name_length)
-
--- how far a name goes, from a place on
-module _ (s : Bytes) (i : ℕ) where
-  pub name_end : length s ≤ i → i + name_length (drop i s) ≡ i
-  unfolding name_length
-  name_end h = rw (drop_of_length-le s h) (omega arith)
-
-  module _ (h : i < length s) where
-    pub name_on : continues_name (get_or s i 0) ≡ true → i + name_length (drop i s) ≡ i + 1 + name_length (drop (i + 1) s)
-    name_on e = rw (drop-cons s i 0 h, name_more _ _ e, add-one i) (omega arith)
-
-    pub name_off : continues_name (get_or s i 0) ≡ false → i + name_length (drop i s) ≡ i
-    name_off e = rw (drop-cons s i 0 h, name_none _ _ e) (omega arith)
 
 -- what begins a name goes on with one
 begins_continues : (x : ℕ) → begins_name x ≡ true → continues_name x ≡ true
@@ -69,15 +39,15 @@ unfolding is_name
 no_bytes [] h = refl
 no_bytes (x ∷ xs) h = absurd (omega arith)
 
-pub name_whole : (s : Bytes) → (length s ≡ 0 → ⊥) → begins_name (get_or s 0 0) ≡ true → is_name s ≡ eqb (name_length s) (length s)
-unfolding is_name
-name_whole [] h e = absurd (h refl)
-name_whole (x ∷ xs) h e = rw (name_more x xs (begins_continues x e)) (rw (e, is_name) (all_long xs ∙ sym (eqb·suc-suc (name_length xs) (length xs))))
+pub name_whole : (s : Bytes) → begins_name (get_or s 0 0) ≡ true → is_name s ≡ eqb (name_length s) (length s)
+unfolding is_name book
+name_whole [] e = absurd (true≢false (sym e))
+name_whole (x ∷ xs) e = rw (name_more x xs (begins_continues x e)) (rw (e, is_name) (all_long xs ∙ sym (eqb·suc-suc (name_length xs) (length xs))))
 
-pub no_name : (s : Bytes) → (length s ≡ 0 → ⊥) → begins_name (get_or s 0 0) ≡ false → is_name s ≡ false
+pub no_name : (s : Bytes) → begins_name (get_or s 0 0) ≡ false → is_name s ≡ false
 unfolding is_name
-no_name [] h e = refl
-no_name (x ∷ xs) h e = rw (e, is_name)
+no_name [] e = refl
+no_name (x ∷ xs) e = rw (e, is_name)
 
 same_both : (x : ℕ) (xs : Bytes) (y : ℕ) (ys : Bytes) → x ≡ y → same_bytes (x ∷ xs) (y ∷ ys) ≡ same_bytes xs ys
 unfolding same_bytes
@@ -111,14 +81,3 @@ module _ (a b : Bytes) (i : ℕ) where
 
     pub same_on : get_or a i 0 ≡ get_or b i 0 → same_bytes (drop i a) (drop i b) ≡ same_bytes (drop (i + 1) a) (drop (i + 1) b)
     same_on e = rw (drop-cons a i 0 h, drop-cons b i 0 k, add-one i) (same_both _ _ _ _ e)
-
--- d has the first i bytes of s over its own; one more is stored, and then all are there
-module _ (s before d : Bytes) (i : ℕ) (e : d ≡ take i s ++ drop i before) where
-  pub copies_on : i < length s → i < length before → set d i (get_or s i 0) ≡ take (i + 1) s ++ drop (i + 1) before
-  copies_on h k = rw (e, add-one i) (simp zero-add at (paste-suc before 0 s i 0 (omega arith) h))
-
-  pub copied_all : i ≡ length s → length s ≡ length before → Copied s before true d
-  copied_all h k = record { equal = sym (eq-eqb _ _ k); written = rw (eq-eqb _ _ k) (e ∙ rw (h, take-length s, k, drop-length before) (append-nil s)) }
-
-pub not_copied : (s before : Bytes) → (length s ≡ length before → ⊥) → Copied s before false before
-not_copied s before h = record { equal = sym (ne_eqb _ _ h); written = rw (ne_eqb _ _ h) }

@@ -1,5 +1,6 @@
 -- Laws of a `match` on a number. Assumes nothing.
-use Rattle.rules.proofs.Base.{ℕ, ◌≡◌, refl, sym, Bool, true, false, List, [], ◌∷◌, map, eqb, ne_eqb}
+use Rattle.rules.proofs.Base.{ℕ, zero, suc, ◌+◌, ◌∙◌, ◌≡◌, refl, sym, ap, true, false, List, [], ◌∷◌, Option, None, Some, eqb, eq-eqb, ne_eqb, arith}
+use Rattle.std.specs.Prelude.{slice_get}
 
 -- what it gives for k: the answer of the first arm that has k, else d
 abbrev pub arm_of : {A : Type 0} → A → ℕ → List (ℕ × A) → A
@@ -20,9 +21,12 @@ avoided d T k (x ∷ xs) a =
 pub last_arm : {A : Type 0} {d : A} (k : ℕ) (xs : List (ℕ × A)) → Avoids (Unit {0}) k xs → d ≡ arm_of d k xs
 last_arm {d} k xs a = sym (avoided d (Unit {0}) k xs a).1
 
--- k is on a list
-abbrev pub marked : List ℕ → List (ℕ × Bool)
-marked = map (λ (x : ℕ). (x, true))
+-- the arms of numbers from j on, each with what stands in its place on a list
+abbrev pub places_from : {A : Type 0} → ℕ → List A → List (ℕ × Option A)
+places_from j [] = []
+places_from j (x ∷ xs) = (j, Some x) ∷ places_from (suc j) xs
 
-abbrev pub listed : ℕ → List ℕ → Bool
-listed k xs = arm_of false k (marked xs)
+pub at_place : {A : Type 0} (i j : ℕ) (xs : List A) → arm_of None (j + i) (places_from j xs) ≡ slice_get xs i
+at_place i j [] = refl
+at_place zero j (x ∷ xs) = rw (eq-eqb (j + 0) j (omega arith), arm_of)
+at_place (suc i) j (x ∷ xs) = rw (ne_eqb (j + suc i) j (λ e. omega arith), arm_of) (ap (λ (k : ℕ). arm_of None k (places_from (suc j) xs)) (omega arith) ∙ at_place i (suc j) xs)

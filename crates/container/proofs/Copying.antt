@@ -1,10 +1,10 @@
 -- Copying bytes, and those of an item part by part. Assumes nothing.
-use Rattle.rules.proofs.Base.{◌≤◌, ◌+◌, ℕ, ◌-◌, ◌<◌, suc, ◌/◌, ◌%◌, min, ◌∙◌, sym, ap, ◌≡◌, ap₂, true, false, some, none, Option, ◌++◌, append-nil, add-one, arith, leb, length, drop, take, get_or, length-drop, length-take-le, set, length-set, get_or-drop, take_at, take-add, drop-drop, drop-length, drop-append-add, drop-append_seam, take-length, paste, paste-suc, le-leb, lt-leb}
+use Rattle.rules.proofs.Base.{◌≤◌, ◌+◌, ℕ, ◌-◌, ◌<◌, suc, ◌/◌, ◌%◌, min, ◌∙◌, sym, ap, ◌≡◌, ap₂, true, false, Some, None, Option, ◌++◌, append-nil, add-one, arith, leb, length, drop, take, get_or, length-drop, length-take-le, set, length-set, get_or-drop, take_at, take-add, drop-drop, drop-length, drop-append-add, drop-append_seam, take-length, paste, paste-suc, le-leb, lt-leb}
 use lib.Seq.{length-paste}
 use Rattle.rules.specs.Bytes.{Bytes}
 use Rattle.rules.specs.Sets.{item_read}
 use Rattle.rules.specs.Contract.{fronted}
-use Rattle.container.specs.declared.ItemAt.TheVariants.{Bad}
+use Rattle.container.specs.declared.Item.{Item as Measured}
 use Rattle.container.specs.Items.{item_at, joined_at, text_at, fits, laid, Copied}
 use Rattle.container.proofs.Items.{Stands, nothing_at, joined_is, Piece, joined_piece}
 
@@ -70,22 +70,22 @@ module _ {set : Bytes} {place skip : ℕ} {lent d : Bytes} {k : ℕ} (c : Copyin
 
 module _ (set : Bytes) (place : ℕ) (lent : Bytes) where
   -- by what is read there
-  no_text : item_read (drop place set) ≡ none → text_at set place ≡ none
+  no_text : item_read (drop place set) ≡ None → text_at set place ≡ None
   unfolding text_at
   no_text e = rw (e, text_at)
 
-  pub not_copied : Bad ≡ item_at set place → Copied set place lent false lent
+  pub not_copied : None ≡ item_at set place → Copied set place lent false lent
   unfolding fits laid
   not_copied e =
       let n = no_text (nothing_at set place e) in
       record { answer = sym (ap (λ (o : Option Bytes). fits o (length lent)) n); slice = sym (ap (λ (o : Option Bytes). laid o lent) n) }
 
-module _ {set : Bytes} {place name text end : ℕ} (r : Stands set place name text end) (lent : Bytes) where
-  text_is : text_at set place ≡ some r.item.text
+module _ {set : Bytes} {place : ℕ} {m : Measured} (r : Stands set place m) (lent : Bytes) where
+  text_is : text_at set place ≡ Some r.item.text
   unfolding text_at
   text_is = rw (r.read, text_at)
 
-  pub too_short : length lent < text → Copied set place lent false lent
+  pub too_short : length lent < m.text → Copied set place lent false lent
   unfolding fits laid
   too_short h =
       let l : leb (length r.item.text) (length lent) ≡ false = lt-leb (length r.item.text) (length lent) (omega (arith, r.text_long)) in
@@ -95,14 +95,14 @@ module _ {set : Bytes} {place name text end : ℕ} (r : Stands set place name te
       }
 
   -- d is what was copied behind the name
-  pub copied : text ≤ length lent → {d : Bytes} → d ≡ take (length (take text lent)) (drop name (joined_at set place)) → Copied set place lent true (d ++ drop text lent)
+  pub copied : m.text ≤ length lent → {d : Bytes} → d ≡ take (length (take m.text lent)) (drop m.name (joined_at set place)) → Copied set place lent true (d ++ drop m.text lent)
   unfolding fits laid fronted
   copied h {d} e =
       let l : leb (length r.item.text) (length lent) ≡ true = le-leb (length r.item.text) (length lent) (omega (arith, r.text_long)) in
-      let n : length (take text lent) ≡ length r.item.text = length-take-le text lent h ∙ r.text_long in
-      let behind : drop name (joined_at set place) ≡ r.item.text = ap₂ (λ (m : ℕ) (x : Bytes). drop m x) r.name_long (joined_is r) ∙ drop-append_seam r.item.name r.item.text in
-      let is : d ≡ r.item.text = e ∙ ap₂ (λ (m : ℕ) (x : Bytes). take m x) n behind ∙ take-length r.item.text in
+      let n : length (take m.text lent) ≡ length r.item.text = length-take-le m.text lent h ∙ r.text_long in
+      let behind : drop m.name (joined_at set place) ≡ r.item.text = ap₂ (λ (k : ℕ) (x : Bytes). drop k x) r.name_long (joined_is r) ∙ drop-append_seam r.item.name r.item.text in
+      let is : d ≡ r.item.text = e ∙ ap₂ (λ (k : ℕ) (x : Bytes). take k x) n behind ∙ take-length r.item.text in
       record {
         answer = sym (ap (λ (o : Option Bytes). fits o (length lent)) text_is ∙ l);
-        slice = ap₂ (λ (x : Bytes) (m : ℕ). x ++ drop m lent) is r.text_long ∙ sym (ap (λ (o : Option Bytes). laid o lent) text_is ∙ rw (l, laid));
+        slice = ap₂ (λ (x : Bytes) (k : ℕ). x ++ drop k lent) is r.text_long ∙ sym (ap (λ (o : Option Bytes). laid o lent) text_is ∙ rw (l, laid));
       }

@@ -1,11 +1,9 @@
 -- Comparing an item's name, and finding the first item with a name. Assumes nothing.
-use Rattle.rules.proofs.Base.{◌≤◌, ◌+◌, ℕ, ◌-◌, ◌<◌, suc, zero, ◌/◌, ◌∙◌, refl, sym, ap, ◌≡◌, ap₂, true, Bool, false, some, none, [], ◌++◌, ◌∷◌, add-one, arith, length, drop, take, get_or, length-drop, drop_of_length-le, take-suc, take_all, take-append_seam, get_or-take}
+use Rattle.rules.proofs.Base.{◌≤◌, ◌+◌, ℕ, ◌-◌, ◌<◌, suc, zero, ◌/◌, ◌∙◌, refl, sym, ap, ◌≡◌, ap₂, true, Bool, false, Some, None, [], ◌++◌, ◌∷◌, add-one, arith, length, drop, take, get_or, length-drop, take-suc, take_all, take-append_seam, get_or-take}
 use Rattle.rules.specs.Bytes.{Bytes, same_bytes}
 use Rattle.rules.specs.Sets.{ItemRead, item_read}
 use Rattle.rules.proofs.SameBytes.{same_self, not_same}
-use Rattle.rules.proofs.Sets.{item_short}
-use Rattle.container.specs.declared.Found.TheVariants.{Nothing, At}
-use Rattle.container.specs.declared.ItemAt.TheVariants.{Bad}
+use Rattle.container.specs.declared.Item.{Item as Measured}
 use Rattle.container.specs.Items.{item_at, joined_at, named_from, first_named}
 use Rattle.container.proofs.Items.{Stands, nothing_at, joined_is, joined_byte}
 
@@ -65,13 +63,13 @@ find_start set name = record { most = length set; enough = omega arith; same = r
 
 -- by what is read there
 module _ (set name : Bytes) (i : ℕ) where
-  pub named_none : (most : ℕ) → item_read (drop i set) ≡ none → named_from most set name i ≡ Nothing
+  pub named_none : (most : ℕ) → item_read (drop i set) ≡ None → named_from most set name i ≡ None
   unfolding named_from
   named_none zero e = refl
   named_none (suc most) e = rw (e, named_from)
 
-  module _ (most : ℕ) {r : ItemRead} (e : item_read (drop i set) ≡ some r) where
-    pub named_here : same_bytes name r.item.name ≡ true → named_from (suc most) set name i ≡ At i (length r.item.text)
+  module _ (most : ℕ) {r : ItemRead} (e : item_read (drop i set) ≡ Some r) where
+    pub named_here : same_bytes name r.item.name ≡ true → named_from (suc most) set name i ≡ Some (record { place = i; length = length r.item.text })
     unfolding named_from
     named_here h = rw (e, h, named_from)
 
@@ -80,44 +78,41 @@ module _ (set name : Bytes) (i : ℕ) where
     named_on h = rw (e, h, named_from)
 
 module _ {set name : Bytes} {i : ℕ} (s : Finding set name i) where
-  lost : item_read (drop i set) ≡ none → Nothing ≡ first_named set name
+  lost : item_read (drop i set) ≡ None → None ≡ first_named set name
   lost e = sym (named_none set name i s.most e) ∙ s.same
 
-  -- nothing is left, or no item
-  pub find_out : length set ≤ i → Nothing ≡ first_named set name
-  find_out h = lost (ap item_read (drop_of_length-le set h) ∙ item_short [] (omega arith))
-
-  pub find_bad : Bad ≡ item_at set i → Nothing ≡ first_named set name
+  -- no item stands there
+  pub find_bad : None ≡ item_at set i → None ≡ first_named set name
   find_bad e = lost (nothing_at set i e)
 
-  module _ (more : i < length set) {long text end : ℕ} (r : Stands set i long text end) where
+  module _ {m : Measured} (r : Stands set i m) where
     abbrev most : ℕ
     most = s.most - 1
 
     one_more : named_from (suc most) set name i ≡ first_named set name
-    one_more = let n : suc most ≡ s.most = omega (arith, s.enough) in ap (λ (m : ℕ). named_from m set name i) n ∙ s.same
+    one_more = let n : suc most ≡ s.most = omega (arith, s.enough, r.longer, r.inside) in ap (λ (m : ℕ). named_from m set name i) n ∙ s.same
 
-    pub find_here : same_bytes name r.item.name ≡ true → At i text ≡ first_named set name
-    find_here h = ap (At i) r.text_long ∙ sym (named_here set name i most r.read h) ∙ one_more
+    pub find_here : same_bytes name r.item.name ≡ true → Some (record { place = i; length = m.text }) ≡ first_named set name
+    find_here h = ap (λ (n : ℕ). Some (record { place = i; length = n })) r.text_long ∙ sym (named_here set name i most r.read h) ∙ one_more
 
-    pub find_on : same_bytes name r.item.name ≡ false → Finding set name end
+    pub find_on : same_bytes name r.item.name ≡ false → Finding set name m.end
     find_on h =
-        let e : end ≡ length set - length (drop end set) = omega (arith, r.inside, length-drop end set) in
+        let e : m.end ≡ length set - length (drop m.end set) = omega (arith, r.inside, length-drop m.end set) in
         record {
           most = most;
-          enough = omega (arith, s.enough, r.longer);
+          enough = omega (arith, s.enough, r.longer, r.inside);
           same = ap (named_from most set name) e ∙ sym (named_on set name i most r.read h) ∙ one_more;
         }
 
 -- ---- comparing the name of an item that stands at a place
 
-module _ {set : Bytes} {i long text end : ℕ} (r : Stands set i long text end) (name : Bytes) where
-  pub other_length : (long ≡ length name → ⊥) → same_bytes name r.item.name ≡ false
+module _ {set : Bytes} {i : ℕ} {m : Measured} (r : Stands set i m) (name : Bytes) where
+  pub other_length : (m.name ≡ length name → ⊥) → same_bytes name r.item.name ≡ false
   other_length ne = not_same name r.item.name (λ e. ne (r.name_long ∙ sym (ap length e)))
 
-  pub name_compared : long ≡ length name → {t : Bool} → t ≡ same_bytes name (take (length name) (joined_at set i)) → same_bytes name r.item.name ≡ t
+  pub name_compared : m.name ≡ length name → {t : Bool} → t ≡ same_bytes name (take (length name) (joined_at set i)) → same_bytes name r.item.name ≡ t
   name_compared n e =
       sym
       (e
-      ∙ ap₂ (λ (m : ℕ) (l : Bytes). same_bytes name (take m l)) (sym n ∙ r.name_long) (joined_is r)
+      ∙ ap₂ (λ (n : ℕ) (l : Bytes). same_bytes name (take n l)) (sym n ∙ r.name_long) (joined_is r)
       ∙ ap (same_bytes name) (take-append_seam r.item.name r.item.text))

@@ -1,83 +1,77 @@
 -- Judging a set item by item. Assumes nothing.
-use Rattle.rules.proofs.Base.{◌≤◌, ℕ, ◌-◌, ◌<◌, suc, zero, ◌∙◌, refl, sym, ap, ◌≡◌, true, Bool, false, some, none, Option, List, [], ◌∷◌, arith, eqb, length, drop, get_or, length-drop, drop_of_length-le, drop-cons, eqb-true, eqb-false, le-leb, lt-leb}
+use Rattle.rules.proofs.Base.{◌≤◌, ℕ, ◌-◌, ◌<◌, suc, zero, ◌∙◌, refl, sym, ap, ◌≡◌, true, Bool, false, Some, None, Option, List, [], ◌∷◌, arith, eqb, length, drop, get_or, length-drop, drop_of_length-le, drop-cons, eqb-true, eqb-false, ne_eqb, le-leb, lt-leb}
+use Rattle.std.specs.Option.{is_some}
 use Rattle.rules.specs.Bytes.{Bytes}
-use Rattle.rules.specs.Sets.{longest_set, Item, is_end, and_item, items_from, set_items}
-use Rattle.rules.proofs.Sets.{end_ends, not_end, item_short, items_end, items_bad, items_more}
-use Rattle.container.specs.declared.ItemAt.TheVariants.{Bad}
-use Rattle.container.specs.Items.{item_at, is_good}
+use Rattle.rules.specs.Sets.{longest_set, Item, item_read, is_end, and_item, items_from, set_items}
+use Rattle.rules.proofs.Sets.{end_ends, not_end, items_end, items_bad, items_more}
+use Rattle.container.specs.declared.Item.{Item as Measured}
+use Rattle.container.specs.Items.{item_at}
 use Rattle.container.proofs.Items.{Stands, nothing_at}
 
--- items were read
-abbrev pub made : Option (List Item) → Bool
-made o = elim o [ none ↦ false | some is ↦ true ]
-
-made_more : (i : Item) (o : Option (List Item)) → made (and_item i o) ≡ made o
+made_more : (i : Item) (o : Option (List Item)) → is_some (and_item i o) ≡ is_some o
 unfolding and_item
-made_more i none = refl
-made_more i (some is) = refl
+made_more i None = refl
+made_more i (Some is) = refl
 
--- one byte: the end, or no item
-made_byte : (most x : ℕ) → made (items_from (suc most) (x ∷ [])) ≡ eqb x 0
-made_byte most x = go (eqb x 0) refl
-  where
-    go : (t : Bool) → eqb x 0 ≡ t → made (items_from (suc most) (x ∷ [])) ≡ t
-    go true e = ap made (ap (λ (y : ℕ). items_from (suc most) (y ∷ [])) (eqb-true x 0 e) ∙ items_end most (0 ∷ []) end_ends)
-    go false e = ap made (items_bad most (x ∷ []) (not_end (x ∷ []) (λ h. eqb-false x 0 e (ap (λ (l : Bytes). get_or l 0 0) h))) (item_short (x ∷ []) (omega arith)))
-
-made_none : (most : ℕ) → made (items_from most []) ≡ false
+-- where no item begins, all is read if what is left is the end
+made_rest : (most : ℕ) (w : Bytes) → length w ≤ most → item_read w ≡ None → is_some (items_from most w) ≡ is_end w
 unfolding items_from
-made_none zero = refl
-made_none (suc most) = ap made (items_bad most [] (not_end [] (λ h. let z : ◌≡◌ {A = ℕ} 0 1 = ap length h in omega arith)) (item_short [] (omega arith)))
+made_rest zero [] l h = sym (not_end [] (λ e. omega (arith, ap length e)))
+made_rest zero (x ∷ w) l h = absurd (omega arith)
+made_rest (suc most) w l h = go (is_end w) refl
+  where
+    go : (t : Bool) → is_end w ≡ t → is_some (items_from (suc most) w) ≡ t
+    go true e = ap is_some (items_end most w e)
+    go false e = ap is_some (items_bad most w e h)
+
+-- one byte is the end if it is 0
+end_byte : (x : ℕ) → is_end (x ∷ []) ≡ eqb x 0
+end_byte x = go (eqb x 0) refl
+  where
+    go : (t : Bool) → eqb x 0 ≡ t → is_end (x ∷ []) ≡ t
+    go true e = ap (λ (y : ℕ). is_end (y ∷ [])) (eqb-true x 0 e) ∙ end_ends
+    go false e = not_end (x ∷ []) (λ h. eqb-false x 0 e (ap (λ (l : Bytes). get_or l 0 0) h))
 
 -- from i on the set is as good as it is in whole
 pub record Judging (set : Bytes) (i : ℕ) : Type 0 where
   pub inside : i ≤ length set
   pub most : ℕ
   pub enough : length set - i ≤ most
-  pub same : made (items_from most (drop i set)) ≡ is_good set
+  pub same : is_some (items_from most (drop i set)) ≡ is_some (set_items set)
 
 module _ (set : Bytes) where
-  pub judge_long : longest_set < length set → false ≡ is_good set
-  unfolding is_good set_items
-  judge_long h = rw (lt-leb (length set) longest_set h, set_items, is_good)
+  pub judge_long : longest_set < length set → false ≡ is_some (set_items set)
+  unfolding set_items
+  judge_long h = rw (lt-leb (length set) longest_set h, set_items)
 
   pub judge_start : length set ≤ longest_set → Judging set 0
-  unfolding is_good set_items
-  judge_start h = record { inside = omega arith; most = length set; enough = omega arith; same = rw (le-leb (length set) longest_set h, set_items, is_good) }
+  unfolding set_items
+  judge_start h = record { inside = omega arith; most = length set; enough = omega arith; same = rw (le-leb (length set) longest_set h, set_items) }
 
 module _ {set : Bytes} {i : ℕ} (j : Judging set i) where
-  -- nothing is left
-  pub judge_out : length set ≤ i → false ≡ is_good set
-  judge_out h = sym (ap (λ (l : Bytes). made (items_from j.most l)) (drop_of_length-le set h) ∙ made_none j.most) ∙ j.same
+  -- no item stands there: the end, or a set that is not good
+  module _ (e : None ≡ item_at set i) where
+    rest : is_end (drop i set) ≡ is_some (set_items set)
+    rest = sym (made_rest j.most (drop i set) (omega (arith, length-drop i set, j.enough)) (nothing_at set i e)) ∙ j.same
 
-  module _ (more : i < length set) where
-    abbrev most : ℕ
-    most = j.most - 1
-
-    one_more : made (items_from (suc most) (drop i set)) ≡ is_good set
-    one_more = let n : suc most ≡ j.most = omega (arith, j.enough) in ap (λ (m : ℕ). made (items_from m (drop i set))) n ∙ j.same
-
-    -- one byte is left
-    pub judge_byte : length set - i ≡ 1 → eqb (get_or set i 0) 0 ≡ is_good set
+    pub judge_byte : length set - i ≡ 1 → eqb (get_or set i 0) 0 ≡ is_some (set_items set)
     judge_byte h =
-        let w : drop i set ≡ get_or set i 0 ∷ [] = drop-cons set i 0 more ∙ ap (λ (l : Bytes). get_or set i 0 ∷ l) (drop_of_length-le set {i = suc i} (omega arith)) in
-        sym (ap (λ (l : Bytes). made (items_from (suc most) l)) w ∙ made_byte most (get_or set i 0)) ∙ one_more
+        let w : drop i set ≡ get_or set i 0 ∷ [] = drop-cons set i 0 (omega arith) ∙ ap (λ (l : Bytes). get_or set i 0 ∷ l) (drop_of_length-le set {i = suc i} (omega arith)) in
+        sym (ap is_end w ∙ end_byte (get_or set i 0)) ∙ rest
 
-    module _ (longer : length set - i ≡ 1 → ⊥) where
-      goes_on : is_end (drop i set) ≡ false
-      goes_on = not_end (drop i set) (λ e. longer (sym (length-drop i set) ∙ ap length e))
+    pub judge_other : (length set - i ≡ 1 → ⊥) → eqb (length set - i) 1 ≡ is_some (set_items set)
+    judge_other ne = ne_eqb (length set - i) 1 ne ∙ sym (not_end (drop i set) (λ h. ne (sym (length-drop i set) ∙ ap length h))) ∙ rest
 
-      pub judge_bad : Bad ≡ item_at set i → false ≡ is_good set
-      judge_bad e = sym (ap made (items_bad most (drop i set) goes_on (nothing_at set i e))) ∙ one_more
-
-      pub judge_on : {name text end : ℕ} → Stands set i name text end → Judging set end
-      judge_on {end = end} r =
-          record {
-            inside = r.inside;
-            most = most;
-            enough = omega (arith, j.enough, r.longer);
-            same =
-                sym (made_more r.item (items_from most (drop end set)))
-                ∙ sym (ap made (items_more most (drop i set) goes_on r.read))
-                ∙ one_more;
-          }
+  pub judge_on : {m : Measured} → Stands set i m → Judging set m.end
+  judge_on {m} r =
+      let n : suc (j.most - 1) ≡ j.most = omega (arith, j.enough, r.longer, r.inside) in
+      let not_last : is_end (drop i set) ≡ false = not_end (drop i set) (λ e. omega (arith, r.longer, r.inside, length-drop i set, ap length e)) in
+      record {
+        inside = r.inside;
+        most = j.most - 1;
+        enough = omega (arith, j.enough, r.longer, r.inside);
+        same =
+            sym (made_more r.item (items_from (j.most - 1) (drop m.end set)))
+            ∙ sym (ap is_some (items_more (j.most - 1) (drop i set) not_last r.read))
+            ∙ ap (λ (k : ℕ). is_some (items_from k (drop i set))) n ∙ j.same;
+      }

@@ -1,10 +1,9 @@
 -- Reading numbers and chunks from a place on. Assumes nothing.
-use Rattle.rules.proofs.Base.{◌≤◌, ◌+◌, ℕ, ◌-◌, ◌<◌, suc, ◌*◌, min, ◌∙◌, refl, sym, ap, ◌≡◌, some, none, Option, [], ◌∷◌, arith, length, drop, take, get_or, length-drop, drop-drop, get_or-drop}
+use Rattle.rules.proofs.Base.{◌≤◌, ◌+◌, ℕ, ◌-◌, ◌<◌, suc, ◌*◌, min, ◌∙◌, refl, sym, ap, ◌≡◌, Some, None, Option, [], ◌∷◌, arith, length, drop, take, get_or, length-drop, drop-drop, get_or-drop}
+use Rattle.std.specs.Option.{option_map}
 use Rattle.rules.specs.Bytes.{Bytes}
 use Rattle.rules.specs.Chunks.{least_first, chunk_kind, Carried, and_byte, chunks_read}
 use Rattle.rules.proofs.Sets.{and_bytes, none_owed, turn_other, turn_short, turn_on}
-use Rattle.container.specs.declared.chunks.Behind.TheVariants.{Bad, At}
-use Rattle.container.specs.Items.{behind}
 
 -- the first byte from a place on
 pub first_at : (w : Bytes) (i : ℕ) → get_or (drop i w) 0 0 ≡ get_or w i 0
@@ -19,22 +18,23 @@ four (a ∷ b ∷ []) h = absurd (omega arith)
 four (a ∷ b ∷ c ∷ []) h = absurd (omega arith)
 four (a ∷ b ∷ c ∷ d ∷ l) h = omega arith
 
-pub four_at : (w : Bytes) (at : ℕ) {a b c d : ℕ} → at + 4 ≤ length w → a ≡ get_or w at 0 → b ≡ get_or w (at + 1) 0 → c ≡ get_or w (at + 2) 0 → d ≡ get_or w (at + 3) 0
-    → a + b * 256 + c * 65536 + d * 16777216 ≡ least_first (take 4 (drop at w))
-four_at w at h ea eb ec ed =
-    omega (arith, four (drop at w) (omega (arith, length-drop at w)), first_at w at, get_or-drop at w 1 0, get_or-drop at w 2 0, get_or-drop at w 3 0)
+pub four_at : (w : Bytes) (at : ℕ) → at + 4 ≤ length w → get_or w at 0 + get_or w (at + 1) 0 * 256 + get_or w (at + 2) 0 * 65536 + get_or w (at + 3) 0 * 16777216 ≡ least_first (take 4 (drop at w))
+four_at w at h = omega (arith, four (drop at w) (omega (arith, length-drop at w)), first_at w at, get_or-drop at w 1 0, get_or-drop at w 2 0, get_or-drop at w 3 0)
 
--- ---- the place behind chunks
+-- ---- the place behind chunks, in a set of so many bytes
+
+abbrev pub behind : ℕ → Option Carried → Option ℕ
+behind size o = option_map (λ (c : Carried). size - length c.rest) o
 
 -- bytes in front don't move it
 behind_bytes : (size : ℕ) (xs : Bytes) (o : Option Carried) → behind size (and_bytes xs o) ≡ behind size o
-unfolding and_bytes and_byte behind
+unfolding and_bytes and_byte
 behind_bytes size [] o = refl
 behind_bytes size (x ∷ xs) o = one (and_bytes xs o) ∙ behind_bytes size xs o
   where
     one : (o : Option Carried) → behind size (and_byte x o) ≡ behind size o
-    one none = refl
-    one (some c) = refl
+    one None = refl
+    one (Some c) = refl
 
 -- what is read from i on ends where all ends
 pub record Ending (w : Bytes) (at count i owed : ℕ) : Type 0 where
@@ -43,23 +43,21 @@ pub record Ending (w : Bytes) (at count i owed : ℕ) : Type 0 where
 
 module _ {w : Bytes} {at count i owed : ℕ} (s : Ending w at count i owed) where
   -- none is still to come
-  pub end_done : owed ≤ 0 → At i ≡ behind (length w) (chunks_read count (drop at w))
-  unfolding behind
+  pub end_done : owed ≤ 0 → Some i ≡ behind (length w) (chunks_read count (drop at w))
   end_done h =
       let z : 0 ≡ owed = omega arith in
       let n : i ≡ length w - length (drop i w) = omega (arith, length-drop i w, s.inside) in
-      ap At n ∙ sym (ap (behind (length w)) (none_owed (drop i w))) ∙ ap (λ (m : ℕ). behind (length w) (chunks_read m (drop i w))) z ∙ s.same
+      ap Some n ∙ sym (ap (behind (length w)) (none_owed (drop i w))) ∙ ap (λ (m : ℕ). behind (length w) (chunks_read m (drop i w))) z ∙ s.same
 
   module _ (more : 0 < owed) {kind : ℕ} (due : kind ≡ min owed 128) where
-    nothing : chunks_read owed (drop i w) ≡ none → Bad ≡ behind (length w) (chunks_read count (drop at w))
-    unfolding behind
+    nothing : chunks_read owed (drop i w) ≡ None → None ≡ behind (length w) (chunks_read count (drop at w))
     nothing e = sym (ap (behind (length w)) e) ∙ s.same
 
-    pub end_short : length w - i ≤ kind → Bad ≡ behind (length w) (chunks_read count (drop at w))
+    pub end_short : length w - i ≤ kind → None ≡ behind (length w) (chunks_read count (drop at w))
     unfolding chunk_kind
     end_short h = nothing (turn_short owed kind more due (drop i w) (omega (arith, length-drop i w)))
 
-    pub end_other : (get_or w i 0 ≡ kind → ⊥) → Bad ≡ behind (length w) (chunks_read count (drop at w))
+    pub end_other : (get_or w i 0 ≡ kind → ⊥) → None ≡ behind (length w) (chunks_read count (drop at w))
     unfolding chunk_kind
     end_other ne = nothing (turn_other owed kind more due (drop i w) (λ e. ne (sym (first_at w i) ∙ e)))
 

@@ -4,11 +4,10 @@
 
 mod chunks;
 
-ghost use Rattle.std.specs.Prelude.{◌≡◌, ◌+◌, ◌≤◌, length, take, drop};
+ghost use Rattle.std.specs.Prelude.{◌≡◌, ◌+◌, ◌≤◌, length, take, drop, is_some};
 ghost use Rattle.rules.specs.Bytes.{same_bytes};
-ghost use Rattle.container.specs.Items.{item_at, is_good, joined_at, first_named, Copied};
-
-use crate::chunks::Behind;
+ghost use Rattle.rules.specs.Sets.{set_items};
+ghost use Rattle.container.specs.Items.{item_at, joined_at, first_named, Copied};
 
 // The longest set.
 const LONGEST: usize = 1048576;
@@ -20,73 +19,49 @@ const ITEM: u8 = 129;
 
 const HEAD: usize = 9;
 
-// An item that can't be read, or one with the lengths of its name and text, and the place behind it.
+// An item: the lengths of its name and text, and the place behind it.
 #[derive(Clone, Copy)]
-pub enum ItemAt {
-    Bad,
-    Is {
-        name: usize,
-        text: usize,
-        end: usize,
-    },
+pub struct Item {
+    pub name: usize,
+    pub text: usize,
+    pub end: usize,
 }
 
-// No item, or the place of one and the length of its text.
+// The place of an item, and the length of its text.
 #[derive(Clone, Copy)]
-pub enum Found {
-    Nothing,
-    At { place: usize, length: usize },
+pub struct Found {
+    pub place: usize,
+    pub length: usize,
 }
 
-// The item whose kind stands at a place.
-pub fn item_at(set: &[u8], place: usize) -> ItemAt
+// The item whose kind stands at a place, if it can be read.
+pub fn item_at(set: &[u8], place: usize) -> Option<Item>
     ensures { result ≡ item_at set.now place }
 {
-    let size = set.len();
-    if size <= place {
-        return ItemAt::Bad;
-    }
-    if size - place < HEAD {
-        return ItemAt::Bad;
+    if set.len().saturating_sub(place) < HEAD {
+        return None;
     }
     if set[place] != ITEM {
-        return ItemAt::Bad;
+        return None;
     }
     let name = chunks::number_at(set, place + 1);
     let text = chunks::number_at(set, place + 5);
-    match chunks::end_of(set, place + HEAD, name + text) {
-        Behind::Bad => ItemAt::Bad,
-        Behind::At(end) => ItemAt::Is { name, text, end },
-    }
+    let end = chunks::end_of(set, place + HEAD, name + text)?;
+    Some(Item { name, text, end })
 }
 
 // Whether a set is good: not too long, and items up to one kind 0 at its end.
 pub fn is_good(set: &[u8]) -> bool
-    ensures { result ≡ is_good set.now }
+    ensures { result ≡ is_some (set_items set.now) }
 {
-    let size = set.len();
-    if LONGEST < size {
+    if LONGEST < set.len() {
         return false;
     }
     let mut i = 0;
-    while i < size {
-        if size - i == 1 {
-            return set[i] == END;
-        }
-        match item_at(set, i) {
-            ItemAt::Bad => {
-                return false;
-            }
-            ItemAt::Is {
-                name: _,
-                text: _,
-                end,
-            } => {
-                i = end;
-            }
-        }
+    while let Some(item) = item_at(set, i) {
+        i = item.end;
     }
-    false
+    set.len() - i == 1 && set[i] == END
 }
 
 // Whether the name and text of the item at a place, joined, begin with a name.
@@ -94,45 +69,30 @@ fn begins_with(set: &[u8], place: usize, name: &[u8]) -> bool
     requires { length name.now ≤ length (joined_at set.now place) }
     ensures { result ≡ same_bytes name.now (take (length name.now) (joined_at set.now place)) }
 {
-    let mut j = 0;
-    while j < name.len() {
-        let at = chunks::place_of(place + HEAD, j);
-        if set[at] != name[j] {
+    // With `all` in its place, the proof did not close that each byte that is looked at lies in the set.
+    for (j, x) in name.iter().enumerate() {
+        if set[chunks::place_of(place + HEAD, j)] != *x {
             return false;
         }
-        j += 1;
     }
     true
 }
 
 // The first item with a name, of those that can be read before the first that can't.
-pub fn find(set: &[u8], name: &[u8]) -> Found
+pub fn find(set: &[u8], name: &[u8]) -> Option<Found>
     ensures { result ≡ first_named set.now name.now }
 {
-    let mut i = 0;
-    while i < set.len() {
-        match item_at(set, i) {
-            ItemAt::Bad => {
-                return Found::Nothing;
-            }
-            ItemAt::Is {
-                name: length,
-                text,
-                end,
-            } => {
-                if length == name.len() {
-                    if begins_with(set, i, name) {
-                        return Found::At {
-                            place: i,
-                            length: text,
-                        };
-                    }
-                }
-                i = end;
-            }
+    let mut place = 0;
+    while let Some(item) = item_at(set, place) {
+        if item.name == name.len() && begins_with(set, place, name) {
+            return Some(Found {
+                place,
+                length: item.text,
+            });
         }
+        place = item.end;
     }
-    Found::Nothing
+    None
 }
 
 // Copies from the name and text of the item at a place, joined, what stands behind the first `skip` bytes, over a slice: as much at once as lies in
@@ -141,11 +101,12 @@ fn copy_behind(set: &[u8], place: usize, skip: usize, into: &mut [u8])
     requires { skip + length into.old ≤ length (joined_at set.now place) }
     ensures { into.new ≡ take (length into.old) (drop skip (joined_at set.now place)) }
 {
+    // The first piece is as long as its chunk allows and the last as the slice does, so no iterator over equal parts fits.
     let size = into.len();
     let mut k = 0;
     while k < size {
         let j = skip + k;
-        let n = chunks::lesser(chunks::FULL - j % chunks::FULL, size - k);
+        let n = (chunks::FULL - j % chunks::FULL).min(size - k);
         let from = chunks::place_of(place + HEAD, j);
         chunks::copy_run(set, from, into, k, n);
         k += n;
@@ -157,13 +118,10 @@ pub fn copy_text(set: &[u8], place: usize, into: &mut [u8]) -> bool
     ensures { Copied set.now place into.old result into.new }
 {
     match item_at(set, place) {
-        ItemAt::Bad => false,
-        ItemAt::Is { name, text, end: _ } => {
-            if into.len() < text {
-                return false;
-            }
-            copy_behind(set, place, name, &mut into[..text]);
+        Some(item) if item.text <= into.len() => {
+            copy_behind(set, place, item.name, &mut into[..item.text]);
             true
         }
+        _ => false,
     }
 }

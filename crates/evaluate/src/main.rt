@@ -3,7 +3,7 @@
 
 ghost use Rattle.std.specs.Prelude.{◌≤◌, length, IfOk};
 
-use rules::{Answer, Evaluated};
+use rules::{Answer, EvalError};
 use std::io;
 use std::io::{Print, Read, Stdin};
 
@@ -23,16 +23,6 @@ fn read_text(mut stdin: Stdin, buffer: &mut [u8]) -> io::Result<usize>
     Ok(done)
 }
 
-// A number of 32 bits, by two's complement.
-fn write_signed(out: &impl Print, x: u32) -> io::Result<()> {
-    let bits = x as u64;
-    if x < 2147483648 {
-        println!(out; "{bits}")
-    } else {
-        println!(out; "-{}", 4294967296 - bits)
-    }
-}
-
 fn write_refusal(out: &impl Print, answer: Answer) -> io::Result<()> {
     let number = answers::number_of(answer);
     println!(out; "refused {number}")
@@ -42,8 +32,8 @@ fn main(rt: HostRuntime) -> io::Result<()> {
     let mut buffer = [0; MOST_READ];
     let n = read_text(rt.stdin(), &mut buffer)?;
     match expression::evaluate(&buffer[..n]) {
-        Evaluated::Number(x) => write_signed(&rt, x),
-        Evaluated::Divisor => write_refusal(&rt, Answer::Divisor),
-        Evaluated::Unreadable => write_refusal(&rt, Answer::Expression),
+        Ok(x) => println!(rt; "{x}"),
+        Err(EvalError::Divisor) => write_refusal(&rt, Answer::Divisor),
+        Err(EvalError::Unreadable) => write_refusal(&rt, Answer::Expression),
     }
 }

@@ -3,50 +3,37 @@
 // line follows. Nothing can be included: the set is one byte 0.
 #![tactic(auto)]
 
-ghost use Rattle.std.specs.Prelude.{◌≡◌, ◌≤◌, length};
-ghost use Rattle.expand.specs.Input.{Fits};
+ghost use Rattle.std.specs.Prelude.{◌≡◌, ◌≤◌, length, IfOk};
 
 use rules::Report;
 use std::io;
 use std::io::{Print, Read, Stdin};
 
-// What was read: so many bytes, up to the end of the input or of the buffer; or a read failed.
-#[derive(Clone, Copy)]
-enum Input {
-    Bytes(usize),
-    Failed,
-}
-
 // One byte more than a text may have: a longer one is then answered 2.
 const MOST_READ: usize = 65537;
 
+const LENT: usize = 65536;
+
 const BUDGET: u32 = 16777216;
 
-fn text_buffer() -> [u8; MOST_READ]
-    ensures { 65537 ≡ length result }
+fn buffer<const N: usize>() -> [u8; N]
+    ensures { N ≡ length result }
 {
-    [0; MOST_READ]
+    [0; N]
 }
 
-fn large_buffer() -> [u8; 65536]
-    ensures { 65536 ≡ length result }
-{
-    [0; 65536]
-}
-
-// Reads standard input to its end, or until the buffer is full.
-fn read_text(mut stdin: Stdin, buffer: &mut [u8]) -> Input
-    ensures { Fits result buffer.new }
+// Reads standard input to its end, or until the buffer is full: so many bytes.
+fn read_text(mut stdin: Stdin, buffer: &mut [u8]) -> io::Result<usize>
+    ensures { IfOk result (λ n. n ≤ length buffer.new) }
 {
     let mut done = 0;
     while done < buffer.len() {
-        match stdin.read(&mut buffer[done..]) {
-            Err(_) => return Input::Failed,
-            Ok(0) => return Input::Bytes(done),
-            Ok(n) => done += n,
+        match stdin.read(&mut buffer[done..])? {
+            0 => return Ok(done),
+            n => done += n,
         }
     }
-    Input::Bytes(done)
+    Ok(done)
 }
 
 // The answer line.
@@ -63,11 +50,11 @@ fn expanded(text: &[u8], errors: &mut [u8], output: &mut [u8]) -> Report
     ensures output { result.output ≤ length output.new }
     ensures errors { result.errors ≤ length errors.new }
 {
-    let mut pending = large_buffer();
-    let mut calls = large_buffer();
-    let mut definitions = large_buffer();
-    let mut streams = large_buffer();
-    let mut wrap = large_buffer();
+    let mut pending = buffer::<LENT>();
+    let mut calls = buffer::<LENT>();
+    let mut definitions = buffer::<LENT>();
+    let mut streams = buffer::<LENT>();
+    let mut wrap = buffer::<LENT>();
     expander::expand(
         text,
         &[0],
@@ -83,8 +70,8 @@ fn expanded(text: &[u8], errors: &mut [u8], output: &mut [u8]) -> Report
 }
 
 fn expand_text(stdout: &impl Print, stderr: &impl Print, text: &[u8]) -> io::Result<()> {
-    let mut errors = large_buffer();
-    let mut output = large_buffer();
+    let mut errors = buffer::<LENT>();
+    let mut output = buffer::<LENT>();
     let r = expanded(text, &mut errors, &mut output);
     let n = r.output as usize;
     let k = r.errors as usize;
@@ -96,11 +83,11 @@ fn expand_text(stdout: &impl Print, stderr: &impl Print, text: &[u8]) -> io::Res
 }
 
 fn main(rt: HostRuntime) -> io::Result<()> {
-    let mut buffer = text_buffer();
-    match read_text(rt.stdin(), &mut buffer) {
-        Input::Failed => rt
+    let mut text = buffer::<MOST_READ>();
+    let Ok(n) = read_text(rt.stdin(), &mut text) else {
+        return rt
             .stderr()
-            .println("expand: standard input could not be read"),
-        Input::Bytes(n) => expand_text(&rt.stdout(), &rt.stderr(), &buffer[..n]),
-    }
+            .println("expand: standard input could not be read");
+    };
+    expand_text(&rt.stdout(), &rt.stderr(), &text[..n])
 }

@@ -1,24 +1,22 @@
 -- Laws of a search through the bucket of a name. Assumes nothing.
-use Rattle.rules.proofs.Base.{◌≤◌, ◌+◌, ℕ, ◌-◌, ◌<◌, suc, zero, ◌∙◌, refl, sym, ap, ◌≡◌, true, Bool, false, some, none, Option, cond, List, [], ◌∷◌, ◌*◌, ◌/◌, ◌%◌, arith, ℕ_discrete, length, take, take_all, get_or}
+use Rattle.rules.proofs.Base.{◌≤◌, ◌+◌, ℕ, ◌-◌, ◌<◌, suc, zero, ◌∙◌, refl, sym, ap, ◌≡◌, true, Bool, false, Some, None, Option, List, [], ◌∷◌, ◌*◌, ◌/◌, ◌%◌, arith, ℕ_discrete, length, take, take_all, get_or}
+use Rattle.std.specs.declared.ops.ControlFlow.{ControlFlow}
+use Rattle.std.specs.declared.ops.ControlFlow.TheVariants.{Break, Continue}
 use Rattle.rules.specs.Bytes.{Bytes, same_bytes}
 use Rattle.rules.proofs.SameBytes.{same_is}
-use Rattle.rules.specs.Table.{Definition, Table, newest_place, meaning_of}
+use Rattle.rules.specs.Table.{Definition, Table, predefined_number, newest_place, meaning_of}
 use Rattle.hashing.specs.Hashing.{bucket_of}
 use Rattle.hashing.proofs.Laws.{bucket_below}
-use Rattle.builtins.specs.Numbers.{candidate_in, has_number, HasNumber}
+use Rattle.builtins.specs.Numbers.{candidate_in}
 use Rattle.builtins.proofs.Naming.{confirmed_number}
 use Rattle.expander.specs.Limits.{most_lent, bucket_count, heads_start}
 use Rattle.expander.specs.Buckets.{link_at, head_at, candidate_at, newest_in, Chained, InBucket}
-use Rattle.expander.specs.Table.{rows, blank, DefinitionsIn, TableIn, place_of, visited_at}
+use Rattle.expander.specs.Table.{rows, blank, DefinitionsIn, TableIn, visited_at}
 use Rattle.expander.specs.declared.packed.Packed.{Packed}
-use Rattle.expander.specs.declared.table.Found.{Found}
-use Rattle.expander.specs.declared.table.Found.TheVariants as found
-use Rattle.expander.specs.declared.table.Visited.{Visited}
-use Rattle.expander.specs.declared.table.Visited.TheVariants as visited
 use Rattle.expander.proofs.MaskLaws.{own_none}
 use Rattle.expander.proofs.Rows.{newest_turn, name_at_lem, string_count, represents_own, finds_nothing}
 use Rattle.expander.proofs.Changing.{few_definitions}
-use Rattle.expander.proofs.Chains.{newest_hit, newest_miss, newest_below, newest_is}
+use Rattle.expander.proofs.Chains.{candidate_none, newest_hit, newest_miss, newest_below, newest_is}
 
 -- a name's newest definition is in its bucket
 pub newest_in_bucket : (w : Bytes) (ds : List Definition) (n : ℕ) → n ≤ length ds → newest_place w (take n ds) ≡ newest_place w (take (newest_in (bucket_of w) ds n) ds)
@@ -38,21 +36,21 @@ newest_in_bucket w ds (suc n) l = go (ℕ_discrete (bucket_of (get_or ds n blank
         newest_turn w ds n l ∙ rw (other ne (same_bytes w (get_or ds n blank).name) refl) f
         ∙ ap (λ (k : ℕ). newest_place w (take k ds)) (sym (newest_miss (bucket_of w) ds n ne))
 
-nothing_newest : (w : Bytes) → newest_place w [] ≡ none
+nothing_newest : (w : Bytes) → newest_place w [] ≡ None
 unfolding newest_place
 nothing_newest w = refl
 
 -- where its bucket has no head, or there is no definition at all, it has none
-pub none_headed : {ends : List ℕ} (ds : List Definition) (w : Bytes) {b : ℕ} → Chained ends ds → bucket_of w ≡ b → head_at ends b ≡ 0 → newest_place w ds ≡ none
+pub none_headed : {ends : List ℕ} (ds : List Definition) (w : Bytes) {b : ℕ} → Chained ends ds → bucket_of w ≡ b → head_at ends b ≡ 0 → newest_place w ds ≡ None
 unfolding newest_place
 none_headed {ends} ds w h e z =
     let n : newest_in (bucket_of w) ds (length ds) ≡ 0 = sym (h.heads (bucket_of w) (bucket_below w)) ∙ ap (head_at ends) e ∙ z in
     ap (newest_place w) (sym (take_all (length ds) ds (omega arith))) ∙ newest_in_bucket w ds (length ds) (omega arith) ∙ ap (λ (k : ℕ). newest_place w (take k ds)) n
 
-pub none_counted : {bytes : Bytes} {ends : List ℕ} {p : Packed} (ds : List Definition) (w : Bytes) → DefinitionsIn bytes ends p ds → p.count ≡ 0 → newest_place w ds ≡ none
+pub none_counted : {bytes : Bytes} {ends : List ℕ} {p : Packed} (ds : List Definition) (w : Bytes) → DefinitionsIn bytes ends p ds → p.count ≡ 0 → newest_place w ds ≡ None
 none_counted ds w h z = go ds (omega (arith, string_count h, z))
   where
-    go : (es : List Definition) → length es ≡ 0 → newest_place w es ≡ none
+    go : (es : List Definition) → length es ≡ 0 → newest_place w es ≡ None
     go [] e = nothing_newest w
     go (d ∷ es) e = absurd (omega (arith, e))
 
@@ -79,32 +77,34 @@ module _ (w : Bytes) (ds : List Definition) where
     pub may_visit : 0 < left → InBucket (bucket_of w) ds left
     may_visit pos = record { positive = pos; within = h.within; bucket_is = h.bucket_is pos }
 
-    pub search_ended : left ≡ 0 → newest_place w ds ≡ place_of found.Nowhere
-    unfolding place_of newest_place
-    search_ended z = h.so_far ∙ ap (λ (k : ℕ). newest_place w (take k ds)) z
+    pub search_ended : left ≡ 0 → None ≡ newest_place w ds
+    unfolding newest_place
+    search_ended z = sym (h.so_far ∙ ap (λ (k : ℕ). newest_place w (take k ds)) z)
 
     module _ (pos : 0 < left) where
       turn : {t : Bool} → same_bytes w (get_or ds (left - 1) blank).name ≡ t
-          → newest_place w ds ≡ elim t as (λ _. Option ℕ) [ true ↦ some (left - 1) | false ↦ newest_place w (take (left - 1) ds) ]
+          → newest_place w ds ≡ elim t as (λ _. Option ℕ) [ true ↦ Some (left - 1) | false ↦ newest_place w (take (left - 1) ds) ]
       turn e =
           let n : left ≡ suc (left - 1) = omega arith in
           h.so_far ∙ ap (λ (k : ℕ). newest_place w (take k ds)) n ∙ newest_turn w ds (left - 1) (omega (arith, h.within)) ∙ rw e
 
-      pub search_found : visited_at w ds left ≡ visited.Named → newest_place w ds ≡ place_of (found.At (left - 1))
-      unfolding visited_at place_of
-      search_found e = go (same_bytes w (get_or ds (left - 1) blank).name) refl e
+      pub search_found : {at : ℕ} → visited_at w ds left ≡ Break at → Some at ≡ newest_place w ds
+      unfolding visited_at
+      search_found {at} e = go (same_bytes w (get_or ds (left - 1) blank).name) refl e
         where
           go : (t : Bool) → same_bytes w (get_or ds (left - 1) blank).name ≡ t
-              → elim t as (λ _. Visited) [ true ↦ visited.Named | false ↦ visited.Older (newest_in (bucket_of w) ds (left - 1)) ] ≡ visited.Named → newest_place w ds ≡ some (left - 1)
-          go true s q = turn s
+              → elim t as (λ _. ControlFlow ℕ ℕ) [ true ↦ Break (left - 1) | false ↦ Continue (newest_in (bucket_of w) ds (left - 1)) ] ≡ Break at → Some at ≡ newest_place w ds
+          go true s q =
+              let z : left - 1 ≡ at = cc in
+              sym (turn s ∙ ap Some z)
           go false s q = absurd (let z : ◌≡◌ {A = ℕ} 0 1 = cc in omega arith)
 
-      pub search_on : {next : ℕ} → visited_at w ds left ≡ visited.Older next → SearchAt w ds next × (next < left)
+      pub search_on : {next : ℕ} → visited_at w ds left ≡ Continue next → SearchAt w ds next × (next < left)
       unfolding visited_at
       search_on {next} e = go (same_bytes w (get_or ds (left - 1) blank).name) refl e
         where
           go : (t : Bool) → same_bytes w (get_or ds (left - 1) blank).name ≡ t
-              → elim t as (λ _. Visited) [ true ↦ visited.Named | false ↦ visited.Older (newest_in (bucket_of w) ds (left - 1)) ] ≡ visited.Older next → SearchAt w ds next × (next < left)
+              → elim t as (λ _. ControlFlow ℕ ℕ) [ true ↦ Break (left - 1) | false ↦ Continue (newest_in (bucket_of w) ds (left - 1)) ] ≡ Continue next → SearchAt w ds next × (next < left)
           go true s q = absurd (let z : ◌≡◌ {A = ℕ} 0 1 = cc in omega arith)
           go false s q =
               let z : newest_in (bucket_of w) ds (left - 1) ≡ next = cc in
@@ -120,11 +120,11 @@ module _ {bytes : Bytes} {ends : List ℕ} {p : Packed} {ds : List Definition} (
     compared : t ≡ same_bytes w (get_or ds (left - 1) blank).name
     compared = e ∙ ap (same_bytes w) (name_at_lem ds (left - 1))
 
-    pub visited_named : t ≡ true → visited.Named ≡ visited_at w ds left
+    pub visited_named : t ≡ true → Break (left - 1) ≡ visited_at w ds left
     unfolding visited_at
     visited_named q = rw (sym compared ∙ q, visited_at)
 
-    pub visited_older : t ≡ false → {next : ℕ} → next ≡ link_at ends (left - 1) → visited.Older next ≡ visited_at w ds left
+    pub visited_older : t ≡ false → {next : ℕ} → next ≡ link_at ends (left - 1) → Continue next ≡ visited_at w ds left
     unfolding visited_at
     visited_older q {next} f =
         let l : next ≡ newest_in (bucket_of w) ds (left - 1) = f ∙ h.chained.links (left - 1) (omega (arith, b.within, b.positive)) ∙ ap (λ (c : ℕ). newest_in c ds (left - 1)) b.bucket_is in
@@ -133,31 +133,20 @@ module _ {bytes : Bytes} {ends : List ℕ} {p : Packed} {ds : List Definition} (
 -- ---- a bucket without a definition and without a predefined name
 
 -- a name whose bucket has no predefined name is none
-not_predefined : (w : Bytes) → candidate_in (bucket_of w) ≡ 0 → HasNumber w 0
-not_predefined w e = go (has_number w 0) (confirmed_number w 0 (sym e))
-  where
-    go : (t : Bool) → HasNumber w (cond t 0 0) → HasNumber w 0
-    go true h = h
-    go false h = h
+not_predefined : (w : Bytes) → candidate_in (bucket_of w) ≡ None → predefined_number w ≡ None
+not_predefined w e = sym (confirmed_number w (sym e) refl)
 
 pub means_nothing : {bytes : Bytes} {ends : List ℕ} {p : Packed} {own : ℕ} {t : Table} (w : Bytes) {b : ℕ} → TableIn bytes ends p own t → bucket_of w ≡ b → b < bucket_count
-    → get_or ends (heads_start + b) 0 ≡ 0 → meaning_of w t ≡ none
-unfolding head_at candidate_at place_of
+    → get_or ends (heads_start + b) 0 ≡ 0 → meaning_of w t ≡ None
+unfolding head_at candidate_at
 means_nothing {ends = ends} {own = own} {t = t} w {b} h e l z =
     let c = h.holds.chained in
-    let n : candidate_in (bucket_of w) ≡ 0 = ap candidate_in e ∙ sym (c.candidates b l) ∙ ap (λ (k : ℕ). k / 131072) z in
+    let n : candidate_in (bucket_of w) ≡ None = ap candidate_in e ∙ candidate_none b (c.candidates b l) (ap (λ (k : ℕ). k / 131072) z) in
     let f = none_headed t.definitions w c e (ap (λ (k : ℕ). k % 131072) z) in
-    finds_nothing (represents_own h w f (own_none (not_predefined w n) refl own)) refl
+    finds_nothing (represents_own h w f (own_none w (not_predefined w n) own)) refl
 
 -- ---- one answer
 
 -- 02, request 9 "the answer equals that of the plain newest-first search": what `newest` and `newest_plain` promise of a table leaves them one answer
-pub same_answer : (w : Bytes) (ds : List Definition) {by-bucket plain : Found} → newest_place w ds ≡ place_of by-bucket → newest_place w ds ≡ place_of plain → by-bucket ≡ plain
-unfolding place_of
-same_answer w ds {by-bucket} {plain} e f = go by-bucket plain (sym e ∙ f)
-  where
-    go : (x y : Found) → place_of x ≡ place_of y → x ≡ y
-    go (found.At i) (found.At j) q = let z : i ≡ j = cc in ap found.At z
-    go (found.At i) found.Nowhere q = absurd (let z : ◌≡◌ {A = ℕ} 0 1 = cc in omega arith)
-    go found.Nowhere (found.At j) q = absurd (let z : ◌≡◌ {A = ℕ} 0 1 = cc in omega arith)
-    go found.Nowhere found.Nowhere q = refl
+pub same_answer : (w : Bytes) (ds : List Definition) {by-bucket plain : Option ℕ} → by-bucket ≡ newest_place w ds → plain ≡ newest_place w ds → by-bucket ≡ plain
+same_answer w ds e f = e ∙ sym f

@@ -1,5 +1,5 @@
 -- Laws of calls that are made: what a name that means something is, the innermost call when it is closed, and the state then.
-use Rattle.rules.proofs.Base.{◌≤◌, ◌+◌, ℕ, ◌-◌, ◌<◌, suc, ◌*◌, ◌∙◌, refl, sym, ap, ◌≡◌, subst, true, Bool, false, some, none, Option, List, [], ◌++◌, ◌∷◌, arith, length, drop, take, get_or, length-append, length-drop, drop_of_length-le, length-take-le, take_at, take-append-le}
+use Rattle.rules.proofs.Base.{◌≤◌, ◌+◌, ℕ, ◌-◌, ◌<◌, suc, ◌*◌, ◌∙◌, refl, sym, ap, ◌≡◌, subst, true, Bool, false, Some, None, Option, List, [], ◌++◌, ◌∷◌, arith, length, drop, take, get_or, length-append, length-drop, drop_of_length-le, length-take-le, take_at, take-append-le}
 use Rattle.rules.specs.Bytes.{Bytes, bytes_of, same_bytes}
 use Rattle.rules.specs.declared.Answer.TheVariants as answer
 use Rattle.rules.specs.Arguments.{substituted}
@@ -12,9 +12,9 @@ use Rattle.rules.specs.Macros.{giving, perform, performed, called}
 use Rattle.rules.specs.Step.{closed}
 use Rattle.rules.specs.Run.{Setting}
 use Rattle.hashing.specs.Hashing.{bucket_of}
-use Rattle.expander.specs.declared.arguments.Arguments.{Arguments}
 use Rattle.expander.specs.declared.calls.Calls.{Calls}
-use Rattle.expander.specs.declared.giving.Pushed.{Pushed}
+use Rattle.std.specs.Prelude.{Result}
+use Rattle.rules.specs.declared.Answer.{Answer}
 use Rattle.expander.specs.declared.machine.Machine.{Machine}
 use Rattle.expander.specs.declared.machine.Stepped.{Stepped}
 use Rattle.expander.specs.declared.machine.Progress.TheVariants as progress
@@ -23,19 +23,20 @@ use Rattle.expander.specs.declared.source.Position.{Position}
 use Rattle.expander.specs.declared.table.Meaning.{Meaning as Looked}
 use Rattle.expander.specs.declared.table.Meaning.TheVariants as looked
 use Rattle.expander.specs.Limits.{most_lent, call_ends_length}
-use Rattle.expander.specs.Arguments.{ArgumentsIn}
+use Rattle.expander.specs.Held.{Held, strings_from}
 use Rattle.expander.specs.Calls.{open_strings, CallsIn}
 use Rattle.expander.specs.Giving.{pushed_step}
 use Rattle.expander.specs.Machine.{Memory, Represents, Refines, Reach, bytes_ahead, calls_set, source_set, stepped}
 use Rattle.expander.specs.Packed.{Packs}
 use Rattle.expander.specs.Source.{SourceIn}
 use Rattle.expander.specs.Table.{rows, meaning_for, text_end, TableIn, Finds}
-use Rattle.expander.proofs.Parts.{part_all, empty_of}
+use Rattle.expander.proofs.Parts.{empty_of}
 use Rattle.expander.proofs.CallsLaws.{first_in_lem, closed_arguments, closed_name}
 use Rattle.rules.proofs.SameBytes.{same_is}
 use Rattle.expander.proofs.Changing.{newest_name}
 use Rattle.expander.proofs.MacroLaws.{refines_gone}
-use Rattle.expander.proofs.Packing.{count_is, string_fits}
+use Rattle.expander.proofs.Packing.{count_is, string_fits, strings_are}
+use Rattle.expander.proofs.ArgumentLaws.{held_by}
 use Rattle.expander.proofs.Parted.{with_source_lem, with_calls_lem}
 use Rattle.expander.proofs.SourceLaws.{ahead_is, ahead_long}
 use Rattle.expander.proofs.SteppedLaws.{refines_by, refines_as}
@@ -45,13 +46,13 @@ use Rattle.expander.proofs.Rows.{name_at_lem, newest_in_lem, string_count, finds
 
 -- the number of a name among others
 module _ (w : Bytes) where
-  number_long : (k : ℕ) (ns : List Bytes) (j : ℕ) → number_from k w ns ≡ some j → length w ≤ total_length ns
+  number_long : (k : ℕ) (ns : List Bytes) (j : ℕ) → number_from k w ns ≡ Some j → length w ≤ total_length ns
   unfolding number_from total_length
   number_long k [] j e = absurd (let z : ◌≡◌ {A = ℕ} 0 1 = cc in omega arith)
   number_long k (n ∷ ns) j e = go (same_bytes w n) refl e (number_long (suc k) ns j)
     where
-      go : (t : Bool) → same_bytes w n ≡ t → elim t [ true ↦ some k | false ↦ number_from (suc k) w ns ] ≡ some j
-          → (number_from (suc k) w ns ≡ some j → length w ≤ total_length ns) → length w ≤ length n + total_length ns
+      go : (t : Bool) → same_bytes w n ≡ t → elim t [ true ↦ Some k | false ↦ number_from (suc k) w ns ] ≡ Some j
+          → (number_from (suc k) w ns ≡ Some j → length w ≤ total_length ns) → length w ≤ length n + total_length ns
       go true s q f = omega (arith, ap length (same_is w n s))
       go false s q f = omega (arith, f q)
 
@@ -62,36 +63,36 @@ names_long = omega arith
 -- an own meaning is that of a number
 pub record Own (w : Bytes) (x : Meaning) : Type 0 where
   pub number : ℕ
-  pub found : predefined_number w ≡ some number
+  pub found : predefined_number w ≡ Some number
   pub is : x ≡ predefined number
 
-own_number : (w : Bytes) (own : ℕ) (x : Meaning) → own_meaning w own ≡ some x → Own w x
+own_number : (w : Bytes) (own : ℕ) (x : Meaning) → own_meaning w own ≡ Some x → Own w x
 unfolding own_meaning
 own_number w own x e = go (predefined_number w) refl e
   where
     go : (o : Option ℕ) → predefined_number w ≡ o
-        → ◌≡◌ {A = Option Meaning} (elim o [ none ↦ none | some k ↦ elim (keeps_own k own) [ true ↦ some (predefined k) | false ↦ none ] ]) (some x) → Own w x
-    go none q e = absurd (let z : ◌≡◌ {A = ℕ} 0 1 = cc in omega arith)
-    go (some k) q e = on (keeps_own k own) e
+        → ◌≡◌ {A = Option Meaning} (elim o [ None ↦ None | Some k ↦ elim (keeps_own k own) [ true ↦ Some (predefined k) | false ↦ None ] ]) (Some x) → Own w x
+    go None q e = absurd (let z : ◌≡◌ {A = ℕ} 0 1 = cc in omega arith)
+    go (Some k) q e = on (keeps_own k own) e
       where
-        on : (t : Bool) → ◌≡◌ {A = Option Meaning} (elim t [ true ↦ some (predefined k) | false ↦ none ]) (some x) → Own w x
+        on : (t : Bool) → ◌≡◌ {A = Option Meaning} (elim t [ true ↦ Some (predefined k) | false ↦ None ]) (Some x) → Own w x
         on true e = record { number = k; found = q; is = cc }
         on false e = absurd (let z : ◌≡◌ {A = ℕ} 0 1 = cc in omega arith)
 
 module _ {bytes : Bytes} {ends : List ℕ} {p : Packed} {own : ℕ} {t : Table} (h : TableIn bytes ends p own t) (w : Bytes) where
   -- what is defined has a name that fits the buffer
-  known_short : (x : Meaning) → meaning_of w t ≡ some x → length w ≤ most_lent
+  known_short : (x : Meaning) → meaning_of w t ≡ Some x → length w ≤ most_lent
   unfolding meaning_of predefined_number
   known_short x e = go (newest_place w t.definitions) refl e
     where
       go : (o : Option ℕ) → newest_place w t.definitions ≡ o
-          → ◌≡◌ {A = Option Meaning} (elim o [ some i ↦ meaning_at i t.definitions | none ↦ own_meaning w t.own ]) (some x) → length w ≤ most_lent
-      go (some i) q e =
+          → ◌≡◌ {A = Option Meaning} (elim o [ Some i ↦ meaning_at i t.definitions | None ↦ own_meaning w t.own ]) (Some x) → length w ≤ most_lent
+      go (Some i) q e =
           let ds = t.definitions in
           let lt = newest_in_lem w ds i q in
           let d = h.holds in
           omega (arith, ap length (newest_name w ds i q ∙ sym (name_at_lem ds i)), string_fits d.packs (2 * i) (omega (arith, lt, string_count d)), d.packs.used_in, d.bytes_most)
-      go none q e =
+      go None q e =
           let o = own_number w t.own x e in
           omega (arith, number_long w 1 predefined_names o.number o.found, names_long)
 
@@ -100,9 +101,9 @@ module _ {bytes : Bytes} {ends : List ℕ} {p : Packed} {own : ℕ} {t : Table} 
   unfolding meaning_for text_end
   unknown_long l = record { is = go (meaning_of w t) refl; within = omega arith }
     where
-      go : (o : Option Meaning) → meaning_of w t ≡ o → meaning_of w t ≡ none
-      go none q = q
-      go (some x) q = absurd (omega (arith, known_short x q))
+      go : (o : Option Meaning) → meaning_of w t ≡ o → meaning_of w t ≡ None
+      go None q = q
+      go (Some x) q = absurd (omega (arith, known_short x q))
 
   -- what was found of a name
   module _ {r : Looked} (f : Finds t.definitions (meaning_of w t) r) where
@@ -130,16 +131,13 @@ module _ {bytes : Bytes} {ends stack : List ℕ} {x : Calls} {c : Call} {cs : Li
   first_few = omega (arith, first_in_lem m, m.open_few, m.args_few)
 
   -- its arguments stand behind its name
-  pub arguments_closed : length bytes ≤ most_lent → ArgumentsIn bytes ends (record { strings = x.strings; base = first + 1 }) (c.finished ++ (c.current ∷ []))
-  arguments_closed h =
-      record {
-        strings = open_strings (c ∷ cs);
-        packs = m.strings;
-        are = sym (ap (λ (n : ℕ). drop (n + 1) (open_strings (c ∷ cs))) e ∙ closed_arguments m);
-        base_in = omega (arith, first_in_lem m);
-        few = omega (arith, m.open_few, m.args_few);
-        short = h;
-      }
+  pub arguments_closed : strings_from ends x.strings bytes (first + 1) ≡ c.finished ++ (c.current ∷ [])
+  unfolding strings_from
+  arguments_closed =
+      ap (drop (first + 1)) (strings_are m.strings) ∙ ap (λ (n : ℕ). drop (n + 1) (open_strings (c ∷ cs))) e ∙ closed_arguments m
+
+  pub held_closed : length bytes ≤ most_lent → Held bytes ends x.strings (first + 1)
+  held_closed h = held_by m.strings (omega (arith, first_in_lem m)) (omega (arith, m.open_few, m.args_few)) h
 
   module _ {name : Bytes} (f : (ss : List Bytes) → Packs ends x.strings.count bytes x.strings.used ss → name ≡ get_or ss first []) where
     pub name_closed : name ≡ c.name
@@ -151,28 +149,23 @@ module _ {bytes : Bytes} {ends stack : List ℕ} {x : Calls} {c : Call} {cs : Li
         omega (arith, ap length (f n m.strings), string_fits m.strings first (omega (arith, first_in_lem m)), m.strings.used_in)
 
 -- no arguments: the strings behind the last
-pub arguments_none :
-    {bytes : Bytes} {ends stack : List ℕ} {x : Calls} {cs : List Call} → CallsIn bytes ends stack x cs → length bytes ≤ most_lent
-    → ArgumentsIn bytes ends (record { strings = x.strings; base = x.strings.count }) []
-arguments_none {x = x} {cs = cs} m h =
-    record {
-      strings = open_strings cs;
-      packs = m.strings;
-      are = sym (drop_of_length-le (open_strings cs) {i = x.strings.count} (omega (arith, count_is m.strings)));
-      base_in = omega arith;
-      few = omega (arith, m.open_few, m.args_few);
-      short = h;
-    }
+module _ {bytes : Bytes} {ends stack : List ℕ} {x : Calls} {cs : List Call} (m : CallsIn bytes ends stack x cs) where
+  pub arguments_none : strings_from ends x.strings bytes x.strings.count ≡ []
+  unfolding strings_from
+  arguments_none = ap (drop x.strings.count) (strings_are m.strings) ∙ drop_of_length-le (open_strings cs) {i = x.strings.count} (omega (arith, count_is m.strings))
+
+  pub held_none : length bytes ≤ most_lent → Held bytes ends x.strings x.strings.count
+  held_none h = held_by m.strings (omega arith) (omega (arith, m.open_few, m.args_few)) h
 
 -- ---- a call that is to be made
 
--- of a name that means w, which was found as r, with the arguments x, in the state s
-pub record Ready (a : Setting) (b : Memory) (m : Machine) (x : Arguments) (w : Option Meaning) (r : Looked) (args : List Bytes) (s : State) : Type 0 where
+-- of a name that means w, which was found as r, with the strings that are given as arguments, in the state s
+pub record Ready (a : Setting) (b : Memory) (m : Machine) (given : List Bytes) (w : Option Meaning) (r : Looked) (args : List Bytes) (s : State) : Type 0 where
   pub represents : Represents a b m s
-  pub arguments : ArgumentsIn b.calls b.call_ends x args
+  pub arguments : given ≡ args
   pub finds : Finds s.table.definitions w r
 
-module _ {a : Setting} {b : Memory} {m : Machine} {x : Arguments} {w : Option Meaning} {r : Looked} {args : List Bytes} {s : State} (q : Ready a b m x w r args s) where
+module _ {a : Setting} {b : Memory} {m : Machine} {given : List Bytes} {w : Option Meaning} {r : Looked} {args : List Bytes} {s : State} (q : Ready a b m given w r args s) where
   found_as : {y : Looked} → r ≡ y → Finds s.table.definitions w y
   found_as e = subst (λ (y : Looked). Finds s.table.definitions w y) e q.finds
 
@@ -180,27 +173,32 @@ module _ {a : Setting} {b : Memory} {m : Machine} {x : Arguments} {w : Option Me
   text_within e = omega (arith, finds_within q.represents.table.holds (found_as e))
 
   -- in a machine that was made the same
-  pub ready_in : {after : Machine} → after ≡ m → Ready a b after x w r args s
-  ready_in e = subst (λ (k : Machine). Ready a b k x w r args s) (sym e) q
+  pub ready_in : {after : Machine} → after ≡ m → Ready a b after given w r args s
+  ready_in e = subst (λ (k : Machine). Ready a b k given w r args s) (sym e) q
 
   -- what it gives, by what was found
   module _ (name : Bytes) {b' : Memory} {t : Stepped} where
     pub calls_text :
         {before : Memory} {v : Bytes} {i : ℕ} → r ≡ looked.Text i → v ≡ name
-        → Refines a before (giving (yields (substituted v args s.marks (get_or (rows s.table.definitions) (2 * i + 1) []))) s) b' t → Refines a before (called w name args s) b' t
+        → Refines a before (giving (yields (substituted v given s.marks (get_or (rows s.table.definitions) (2 * i + 1) []))) s) b' t → Refines a before (called w name args s) b' t
     unfolding called performed
     calls_text {v = v} {i} e n g =
         let y = get_or (rows s.table.definitions) (2 * i + 1) [] in
         refines_as
-        (ap (λ (o : Option Meaning). called o name args s) (finds_text (found_as e)) ∙ ap (λ (u : Bytes). giving (yields (substituted u args s.marks y)) s) (sym n)) g
+        (ap (λ (o : Option Meaning). called o name args s) (finds_text (found_as e))
+        ∙ ap (λ (u : Bytes). giving (yields (substituted u args s.marks y)) s) (sym n)
+        ∙ ap (λ (l : List Bytes). giving (yields (substituted v l s.marks y)) s) (sym q.arguments)) g
 
-    calls_number : {before : Memory} {k : ℕ} → r ≡ looked.Predefined k → Refines a before (perform k args s) b' t → Refines a before (called w name args s) b' t
+    pub calls_number : {before : Memory} {k : ℕ} → r ≡ looked.Predefined k → Refines a before (perform k given s) b' t → Refines a before (called w name args s) b' t
     unfolding called performed meaning_for
-    calls_number e g = refines_as (ap (λ (o : Option Meaning). called o name args s) (found_as e).is) g
+    calls_number {k = k} e g =
+        refines_as (ap (λ (o : Option Meaning). called o name args s) (found_as e).is ∙ ap (λ (l : List Bytes). perform k l s) (sym q.arguments)) g
 
     -- by what the macro of that number is called
-    pub calls_as : {before : Memory} {k : ℕ} {f : List Bytes → State → Outcome} → r ≡ looked.Predefined k → perform k ≡ f → Refines a before (f args s) b' t → Refines a before (called w name args s) b' t
-    calls_as e p g = calls_number e (refines_as (ap (λ (f : List Bytes → State → Outcome). f args s) p) g)
+    pub calls_as :
+        {before : Memory} {k : ℕ} {f : List Bytes → State → Outcome} → r ≡ looked.Predefined k → perform k ≡ f → Refines a before (f given s) b' t
+        → Refines a before (called w name args s) b' t
+    calls_as e p g = calls_number e (refines_as (ap (λ (f : List Bytes → State → Outcome). f given s) p) g)
 
     pub calls_nothing : {m' : Machine} → r ≡ looked.Undefined → t ≡ stepped (progress.Refused answer.Gone) m' → Refines a b' (called w name args s) b' t
     unfolding called meaning_for
@@ -208,7 +206,7 @@ module _ {a : Setting} {b : Memory} {m : Machine} {x : Arguments} {w : Option Me
 
 -- what a machine makes of a result that was pushed, once it was made the same
 pub refines_after :
-    {a : Setting} {o : Outcome} {before b : Memory} {m after : Machine} (g : Pushed) {t : Stepped} → after ≡ m → t ≡ pushed_step after g
+    {a : Setting} {o : Outcome} {before b : Memory} {m after : Machine} (g : Result ℕ Answer) {t : Stepped} → after ≡ m → t ≡ pushed_step after g
     → Refines a before o b (pushed_step m g) → Refines a before o b t
 refines_after g e f h = refines_by refl (f ∙ ap (λ (k : Machine). pushed_step k g) e) h
 
@@ -222,14 +220,14 @@ module _ {a : Setting} {b : Memory} {m : Machine} {s : State} {c : Call} {cs : L
       → ((ss : List Bytes) → Packs b.call_ends m.calls.strings.count b.calls m.calls.strings.used ss → name ≡ get_or ss first [])
       → CallsIn b.calls b.call_ends b.stack x cs
       → ((t : Table) → TableIn b.definitions b.table_ends m.table.packed m.table.own t → Finds t.definitions (meaning_of name t) r)
-      → Ready a b (calls_set x m) (record { strings = m.calls.strings; base = first + 1 }) (meaning_of c.name (with_calls cs s).table) r
+      → Ready a b (calls_set x m) (strings_from b.call_ends m.calls.strings b.calls (first + 1)) (meaning_of c.name (with_calls cs s).table) r
       (c.finished ++ (c.current ∷ [])) (with_calls cs s)
   unfolding with_calls
   ready_closed {first} {name} {x} {r} f n k l =
       let o = opened_calls in
       record {
         represents = with_calls_lem h k refl refl refl;
-        arguments = arguments_closed o first f h.limits.calls_most;
+        arguments = arguments_closed o first f;
         finds = subst (λ (v : Bytes). Finds s.table.definitions (meaning_of v s.table) r) (name_closed o first f n) (l s.table h.table);
       }
 
@@ -243,12 +241,12 @@ closes c cs s g = g
 
 -- copied to the front of d
 pub name_copied :
-    (input pending d : Bytes) (taken from n : ℕ) {y : Bytes} → n ≤ (length pending - from) + (length input - taken) → n ≤ length d
-    → y ≡ take (length (take n d)) (drop 0 (take (length pending - from) (drop from pending) ++ take (length input - taken) (drop taken input)))
+    (input pending d : Bytes) (taken from n : ℕ) {y t : Bytes} → n ≤ (length pending - from) + (length input - taken) → n ≤ length d
+    → t ≡ drop from pending ++ drop taken input → y ≡ take (length (take n d)) (drop 0 t)
     → take n (y ++ drop n d) ≡ take n (drop from pending ++ drop taken input)
-name_copied input pending d taken from n {y} k h e =
+name_copied input pending d taken from n {y} k h i e =
     let l = drop from pending ++ drop taken input in
-    let f : y ≡ take n l = e ∙ rw (length-take-le n d h, part_all pending from, part_all input taken) refl in
+    let f : y ≡ take n l = e ∙ rw (length-take-le n d h, i) refl in
     let g : length y ≡ n =
     ap length f ∙ length-take-le n l (omega (arith, length-append (drop from pending) (drop taken input), length-drop from pending, length-drop taken input)) in
     take_at y (drop n d) n (omega (arith, g)) ∙ f
@@ -297,7 +295,7 @@ module _ {a : Setting} {b : Memory} {m : Machine} {s : State} (h : Represents a 
   -- its bucket has nothing
   pub represents_none :
       {bucket : ℕ} → bucket ≡ bucket_of (take n (bytes_ahead b.text b.pending m.source))
-      → ((bytes : Bytes) (p : Packed) (own : ℕ) (t : Table) (w : Bytes) → TableIn bytes b.table_ends p own t → bucket_of w ≡ bucket → meaning_of w t ≡ none)
+      → ((bytes : Bytes) (p : Packed) (own : ℕ) (t : Table) (w : Bytes) → TableIn bytes b.table_ends p own t → bucket_of w ≡ bucket → meaning_of w t ≡ None)
       → Finds s.table.definitions (meaning_of (take n (ahead s.source)) s.table) looked.Undefined
   unfolding meaning_for text_end
   represents_none e f =
@@ -309,11 +307,11 @@ module _ {a : Setting} {b : Memory} {m : Machine} {s : State} (h : Represents a 
   -- and called without arguments
   pub ready_bare :
       {to : Position} {w : Option Meaning} {r : Looked} → SourceIn b.text b.pending to (advance n s.source) → Finds s.table.definitions w r
-      → Ready a b (source_set to m) (record { strings = m.calls.strings; base = m.calls.strings.count }) w r [] (taking n s)
+      → Ready a b (source_set to m) (strings_from b.call_ends m.calls.strings b.calls m.calls.strings.count) w r [] (taking n s)
   unfolding taking with_source
   ready_bare i f =
       record {
         represents = with_source_lem h i refl;
-        arguments = arguments_none h.calls h.limits.calls_most;
+        arguments = arguments_none h.calls;
         finds = f;
       }

@@ -1,5 +1,5 @@
 -- Laws of the open calls in buffer 2: what opening, collecting, separating and closing leave.
-use Rattle.rules.proofs.Base.{◌≤◌, ◌+◌, ℕ, ◌-◌, ◌<◌, suc, ◌*◌, ◌∙◌, refl, sym, ap, ◌≡◌, subst, true, Bool, false, List, [], ◌++◌, ◌∷◌, append_assoc, append-nil, arith, length, drop, take, get_or, length-append, set, length-set, take-suc-set, get_or-set_same, get_or-set_other, take-append_seam, drop-append-add, get_or_at}
+use Rattle.rules.proofs.Base.{add-zero, ◌≤◌, ◌+◌, ℕ, ◌-◌, ◌<◌, suc, ◌*◌, ◌∙◌, refl, sym, ap, ◌≡◌, subst, true, Bool, false, List, [], ◌++◌, ◌∷◌, append_assoc, append-nil, arith, length, drop, take, get_or, length-append, set, length-set, take-suc-set, get_or-set_same, get_or-set_other, take-append_seam, drop-append-add, get_or_at}
 use Rattle.rules.specs.Bytes.{Bytes}
 use Rattle.rules.specs.State.{Call}
 use Rattle.rules.specs.Run.{calls_cost}
@@ -222,9 +222,9 @@ module _ {bytes : Bytes} {ends stack : List ℕ} {x : Calls} {c : Call} {cs : Li
   under : length cs ≡ x.opens - 1
   under = omega (arith, m.open_is)
 
-  pub top_first : get_or stack (4 * (x.opens - 1)) 0 ≡ length (open_strings cs)
+  pub top_first : get_or stack (4 * (x.opens - 1) + 0) 0 ≡ length (open_strings cs)
   unfolding Stacked
-  top_first = rw (sym under) m.stacked.0
+  top_first = rw (add-zero, sym under) m.stacked.0
 
   pub top_depth : get_or stack (4 * (x.opens - 1) + 1) 0 ≡ c.depth
   unfolding Stacked

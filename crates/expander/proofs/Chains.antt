@@ -1,98 +1,32 @@
 -- Laws of the chains of the buckets. Assumes nothing.
-use Rattle.rules.proofs.Base.{◌≤◌, ◌+◌, ℕ, ◌-◌, ◌<◌, suc, zero, ◌*◌, ◌/◌, ◌%◌, ◌^◌, ◌∙◌, refl, sym, ap, ◌≡◌, subst, true, Bool, false, List, [], ◌++◌, ◌∷◌, add-one, one-mul, ℕ_discrete, not-suc-le-zero, arith, eqb, eq-eqb, ne_eqb, length, drop, take, get_or, set, length-append, length-drop, length-set, length-take-le, take-suc, get_or-take, List·getD-append, get_or-append-add, get_or-set_same, get_or-set_other, take-set-le, drop-set-lt, take-take}
-use Rattle.std.proofs.Common.{shl_exact}
+use Rattle.rules.proofs.Base.{◌≤◌, ◌+◌, ℕ, ◌-◌, ◌<◌, suc, zero, ◌*◌, ◌/◌, ◌%◌, ◌∙◌, refl, sym, ap, ◌≡◌, subst, true, false, not, Some, None, Option, List, [], ◌++◌, ◌∷◌, add-one, ℕ_discrete, not-suc-le-zero, arith, eqb, eq-eqb, ne_eqb, length, drop, take, get_or, set, length-append, length-drop, length-set, length-take-le, take-suc, get_or-take, List·getD-append, get_or-append-add, get_or-set_same, get_or-set_other, take-set-le, take-take}
+use Rattle.std.specs.Bool.{then_some}
+use Rattle.std.specs.Option.{unwrap_or}
 use Rattle.rules.specs.Bytes.{Bytes}
-use Rattle.rules.specs.Table.{Definition, predefined_names}
+use Rattle.rules.specs.Table.{Definition}
 use Rattle.hashing.specs.Hashing.{bucket_of}
-use Rattle.builtins.specs.Numbers.{first_in, candidate_in}
+use Rattle.builtins.specs.Numbers.{candidate_in}
+use Rattle.builtins.proofs.Naming.{candidate_few}
 use Rattle.expander.specs.Limits.{most_lent, bucket_count, links_start, heads_start}
-use Rattle.expander.specs.Buckets.{blank, half_of, link_at, head_at, candidate_at, newest_in, Candidates, Chained, Linked, Headed}
+use Rattle.expander.specs.Fields.{field_of, field_at, FieldPut}
+use Rattle.expander.specs.Buckets.{blank, link_at, head_at, candidate_at, newest_in, Candidates, Chained, Linked, Headed}
 use Rattle.expander.proofs.MeaningLaws.{word_behind, word_before}
-
--- ---- half of a word
-
--- a word with a half exchanged for x: p is the power of two that the half counts, and u that power as the code makes it
-abbrev exchanged_as : ℕ → ℕ → ℕ → ℕ → ℕ
-exchanged_as p u word x = word - word / p % 65536 * u + x * u
-
--- what holds of 0 and 1
-of_two : (P : ℕ → Type 0) → P 0 → P 1 → (r : ℕ) → r < 2 → P r
-of_two P a b zero l = a
-of_two P a b (suc zero) l = b
-of_two P a b (suc (suc r)) l = absurd (omega (arith, l))
-
-module _ (word x : ℕ) (h : x < 65536) where
-  half_same : (r : ℕ) → r < 2 → half_of r (exchanged_as (2 ^ (16 * r)) (2 ^ (16 * r)) word x) ≡ x
-  unfolding half_of
-  half_same = of_two (λ r. half_of r (exchanged_as (2 ^ (16 * r)) (2 ^ (16 * r)) word x) ≡ x) (omega arith) (omega arith)
-
-  abbrev Kept : ℕ → ℕ → Type 0
-  Kept r s = (s ≡ r → ⊥) → half_of s (exchanged_as (2 ^ (16 * r)) (2 ^ (16 * r)) word x) ≡ half_of s word
-
-  half_other : (r : ℕ) → r < 2 → (s : ℕ) → s < 2 → Kept r s
-  unfolding half_of
-  half_other =
-      of_two (λ r. (s : ℕ) → s < 2 → Kept r s) (of_two (Kept 0) (λ n. absurd (n refl)) (λ n. omega arith)) (of_two (Kept 1) (λ n. omega arith) (λ n. absurd (n refl)))
-
--- nothing wraps where it is exchanged
-pub record Fits (p u word x : ℕ) : Type 0 where
-  pub old : word / p % 65536 * u ≤ word
-  pub new : x * u < 4294967296
-  pub whole : exchanged_as p u word x < 4294967296
-
--- the power of the half of definition i, as the code makes it
-abbrev pub unit_of : ℕ → ℕ
-unit_of i = 1 * 2 ^ (16 * (i % 2)) % 4294967296
-
-unit_is : (i : ℕ) → unit_of i ≡ 2 ^ (16 * (i % 2))
-unit_is i = shl_exact 1 (16 * (i % 2)) 32 (omega arith) (omega arith) ∙ one-mul (2 ^ (16 * (i % 2)))
-
-pub fits : (word x i : ℕ) → x < 65536 → word < 4294967296 → Fits (2 ^ (16 * (i % 2))) (unit_of i) word x
-fits word x i h b =
-    rw (unit_is i)
-    (of_two (λ r. Fits (2 ^ (16 * r)) (2 ^ (16 * r)) word x) (record { old = omega arith; new = omega arith; whole = omega arith }) (record { old = omega arith; new = omega arith; whole = omega arith }) (i % 2)
-    (omega arith))
 
 -- ---- the link of a definition
 
--- one word written, in which half i is exchanged
-exchanged_at : (ends : List ℕ) (i x : ℕ) → x < 65536 → i < most_lent → links_start + i / 2 < length ends
-    → Linked ends i x (set ends (links_start + i / 2) (exchanged_as (2 ^ (16 * (i % 2))) (2 ^ (16 * (i % 2))) (get_or ends (links_start + i / 2) 0) x))
+pub linked_is : {ends after : List ℕ} (i : ℕ) {x : ℕ} → i < most_lent → FieldPut 16 links_start ends i x after → Linked ends i x after
 unfolding link_at
-exchanged_at ends i x h m l =
-    let at = links_start + i / 2 in
-    let old = get_or ends at 0 in
-    let new = exchanged_as (2 ^ (16 * (i % 2))) (2 ^ (16 * (i % 2))) old x in
-    record {
-      same = ap (half_of (i % 2)) (get_or-set_same ends at new 0 l) ∙ half_same old x h (i % 2) (omega arith);
-      others = λ j ne. go j ne (ℕ_discrete (j / 2) (i / 2));
-      ends = take-set-le links_start ends at new (omega arith);
-      heads = drop-set-lt heads_start ends at new (omega (arith, m));
-    }
-  where
-    go : (j : ℕ) → (j ≡ i → ⊥) → Dec (j / 2 ≡ i / 2)
-        → half_of (j % 2) (get_or (set ends (links_start + i / 2) (exchanged_as (2 ^ (16 * (i % 2))) (2 ^ (16 * (i % 2))) (get_or ends (links_start + i / 2) 0) x)) (links_start + j / 2) 0)
-        ≡ half_of (j % 2) (get_or ends (links_start + j / 2) 0)
-    go j ne (yes e) =
-        let at = links_start + i / 2 in
-        let old = get_or ends at 0 in
-        let new = exchanged_as (2 ^ (16 * (i % 2))) (2 ^ (16 * (i % 2))) old x in
-        rw e (ap (half_of (j % 2)) (get_or-set_same ends at new 0 l) ∙ half_other old x h (i % 2) (omega arith) (j % 2) (omega arith) (λ q. ne (omega (arith, e, q))))
-    go j ne (no d) = ap (half_of (j % 2)) (get_or-set_other ends (links_start + i / 2) (links_start + j / 2) _ 0 (λ q. d (omega arith)))
-
-pub linked_at : (ends : List ℕ) (i x : ℕ) → x < 65536 → i < most_lent → links_start + i / 2 < length ends
-    → Linked ends i x (set ends (links_start + i / 2) (exchanged_as (2 ^ (16 * (i % 2))) (unit_of i) (get_or ends (links_start + i / 2) 0) x))
-linked_at ends i x h m l = rw (unit_is i) (exchanged_at ends i x h m l)
+linked_is i m p = record { same = p.same; others = p.others; ends = p.front; heads = p.behind heads_start (omega (arith, m)) }
 
 pub link_small : (ends : List ℕ) (i : ℕ) → link_at ends i < 65536
-unfolding link_at half_of
+unfolding link_at field_at field_of
 link_small ends i = omega arith
 
 -- what stands behind a place is as it was: so are links, heads and numbers of predefined names
 module _ (c : ℕ) (before after : List ℕ) (e : drop c after ≡ drop c before) where
   pub links_kept : c ≤ links_start → (i : ℕ) → link_at after i ≡ link_at before i
-  unfolding link_at
-  links_kept l i = ap (half_of (i % 2)) (word_behind c before after e (links_start + i / 2) (omega arith))
+  unfolding link_at field_at
+  links_kept l i = ap (field_of 16 (i % 2)) (word_behind c before after e (links_start + i / 2) (omega arith))
 
   pub heads_kept : c ≤ heads_start → (b : ℕ) → head_at after b ≡ head_at before b
   unfolding head_at
@@ -103,8 +37,8 @@ module _ (c : ℕ) (before after : List ℕ) (e : drop c after ≡ drop c before
   candidates_kept l b = ap (λ (n : ℕ). n / 131072) (word_behind c before after e (heads_start + b) (omega arith))
 
 links_before : (before after : List ℕ) → take heads_start after ≡ take heads_start before → (i : ℕ) → i < most_lent → link_at after i ≡ link_at before i
-unfolding link_at
-links_before before after e i l = ap (half_of (i % 2)) (word_before heads_start before after e (links_start + i / 2) (omega (arith, l)))
+unfolding link_at field_at
+links_before before after e i l = ap (field_of 16 (i % 2)) (word_before heads_start before after e (links_start + i / 2) (omega (arith, l)))
 
 -- ---- the word of a bucket
 
@@ -130,19 +64,28 @@ headed_at ends b head h l =
         rw e (ap (λ (n : ℕ). n / 131072) (get_or-set_same ends (heads_start + b) new 0 l) ∙ omega (arith, h))
     go c (no ne) = ap (λ (n : ℕ). n / 131072) (get_or-set_other ends (heads_start + b) (heads_start + c) _ 0 (λ q. ne (omega (arith, q))))
 
--- the number of a predefined name is a byte
-first_few : (b k : ℕ) (ns : List Bytes) → first_in b k ns ≤ k + length ns
-unfolding first_in
-first_few b k [] = omega arith
-first_few b k (n ∷ ns) = go (eqb b (bucket_of n)) (first_few b (suc k) ns)
-  where
-    go : (t : Bool) → first_in b (suc k) ns ≤ suc k + length ns → elim t as (λ _. ℕ) [ true ↦ k | false ↦ first_in b (suc k) ns ] ≤ k + suc (length ns)
-    go true h = omega arith
-    go false h = omega (arith, h)
+-- the number that stands with a bucket is a byte, and tells which predefined name has it, or that none has it
+module _ (b : ℕ) {k : ℕ} (e : k ≡ unwrap_or (candidate_in b) 0) where
+  pub candidate_byte : k < 256
+  candidate_byte = go (candidate_in b) refl e
+    where
+      go : (o : Option ℕ) → candidate_in b ≡ o → k ≡ unwrap_or o 0 → k < 256
+      go None q z = omega (arith, z)
+      go (Some j) q z = omega (arith, z, (candidate_few b q).1)
 
-pub candidate_few : (b : ℕ) → candidate_in b < 256
-unfolding candidate_in predefined_names
-candidate_few b = omega (arith, first_few b 1 predefined_names)
+  pub candidate_none : k ≡ 0 → candidate_in b ≡ None
+  candidate_none n = go (candidate_in b) refl e
+    where
+      go : (o : Option ℕ) → candidate_in b ≡ o → k ≡ unwrap_or o 0 → candidate_in b ≡ None
+      go None q z = q
+      go (Some j) q z = absurd (omega (arith, z, (candidate_few b q).0, n))
+
+  pub candidate_told : then_some (not (eqb k 0)) k ≡ candidate_in b
+  candidate_told = go (candidate_in b) refl e
+    where
+      go : (o : Option ℕ) → candidate_in b ≡ o → k ≡ unwrap_or o 0 → then_some (not (eqb k 0)) k ≡ candidate_in b
+      go None q z = rw z (sym q)
+      go (Some j) q z = rw (ne_eqb k 0 (λ n. omega (arith, z, n, (candidate_few b q).0))) (ap Some z ∙ sym q)
 
 -- ---- the newest of a bucket
 
@@ -313,14 +256,14 @@ zero_on {before} {after} {b} k f c l = go (ℕ_discrete c b)
     go (yes e) = ap (head_at after) e ∙ k.same
     go (no ne) = k.others c ne ∙ f c (omega (arith, l, ne))
 
--- the words of the first b buckets have the numbers of the predefined names, and no head
+-- the words of the first b buckets have the numbers of the predefined names, or 0, and no head
 abbrev pub Fresh : List ℕ → ℕ → Type 0
-Fresh ends b = (c : ℕ) → c < b → get_or ends (heads_start + c) 0 ≡ candidate_in c * 131072
+Fresh ends b = (c : ℕ) → c < b → get_or ends (heads_start + c) 0 ≡ unwrap_or (candidate_in c) 0 * 131072
 
-pub fresh_on : (ends : List ℕ) (b : ℕ) → heads_start + b < length ends → Fresh ends b → {x : ℕ} → x ≡ candidate_in b → Fresh (set ends (heads_start + b) (x * 131072)) (b + 1)
+pub fresh_on : (ends : List ℕ) (b : ℕ) → heads_start + b < length ends → Fresh ends b → {x : ℕ} → x ≡ unwrap_or (candidate_in b) 0 → Fresh (set ends (heads_start + b) (x * 131072)) (b + 1)
 fresh_on ends b l f {x} e c m = go (ℕ_discrete c b)
   where
-    go : Dec (c ≡ b) → get_or (set ends (heads_start + b) (x * 131072)) (heads_start + c) 0 ≡ candidate_in c * 131072
+    go : Dec (c ≡ b) → get_or (set ends (heads_start + b) (x * 131072)) (heads_start + c) 0 ≡ unwrap_or (candidate_in c) 0 * 131072
     go (yes q) = rw q (get_or-set_same ends (heads_start + b) (x * 131072) 0 l ∙ ap (λ (n : ℕ). n * 131072) e)
     go (no ne) = get_or-set_other ends (heads_start + b) (heads_start + c) (x * 131072) 0 (λ q. ne (omega (arith, q))) ∙ f c (omega (arith, m, ne))
 

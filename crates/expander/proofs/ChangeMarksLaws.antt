@@ -56,14 +56,6 @@ end_mark_sized w e = go (is_mark w) (same_bytes w newline_mark) (mark_sized w) (
 pub made_full : {w : Bytes} {m : Mark} → MarkSized w → m.len ≡ length w → FullMark m
 made_full h e = record { least = omega (arith, h.least); most = omega (arith, h.most) }
 
--- a good begin mark and a good end mark, as the code tests them
-module _ (x y : Bytes) {r : Bool} (e : r ≡ is_mark x) where
-  pub both_marks : r ≡ true → {q : Bool} → q ≡ is_end_mark y → q ≡ is_mark x && is_end_mark y
-  both_marks h f = f ∙ rw (sym e ∙ h)
-
-  pub not_both : r ≡ false → false ≡ is_mark x && is_end_mark y
-  not_both h = sym (rw (sym e ∙ h))
-
 pub record MarksSized (x y : Bytes) : Type 0 where
   pub begin : MarkSized x
   pub end : MarkSized y

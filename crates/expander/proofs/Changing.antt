@@ -1,5 +1,5 @@
 -- Laws of changes to a table, to the strings that it is and to the bytes of its meanings. Assumes nothing.
-use Rattle.rules.proofs.Base.{◌≤◌, ◌+◌, ◌-◌, ℕ, ◌<◌, suc, zero, ◌*◌, ◌/◌, ◌∙◌, refl, sym, ap, ◌≡◌, subst, true, Bool, false, some, none, Option, List, [], ◌++◌, ◌∷◌, append_assoc, arith, length, drop, take, get_or, length-append, length-drop, set, length-set, ℕ_discrete, dec_lt, length-take-le, get_or-set_same, get_or-set_other, get_or-take, get_or-drop, List·getD-append, get_or-append-add}
+use Rattle.rules.proofs.Base.{◌≤◌, ◌+◌, ◌-◌, ℕ, ◌<◌, suc, zero, ◌*◌, ◌/◌, ◌∙◌, refl, sym, ap, ◌≡◌, subst, true, Bool, false, Some, None, Option, List, [], ◌++◌, ◌∷◌, append_assoc, arith, length, drop, take, get_or, length-append, length-drop, set, length-set, ℕ_discrete, dec_lt, length-take-le, get_or-set_same, get_or-set_other, get_or-take, get_or-drop, List·getD-append, get_or-append-add}
 use Rattle.rules.specs.Bytes.{Bytes, same_bytes}
 use Rattle.rules.specs.Streams.{joined}
 use Rattle.rules.proofs.SameBytes.{same_is}
@@ -9,10 +9,8 @@ use Rattle.expander.specs.Limits.{most_lent, bucket_count, meanings_start, links
 use Rattle.expander.specs.Meanings.{number_at, Put, ClosedUp}
 use Rattle.expander.specs.Buckets.{head_at, Chained}
 use Rattle.expander.specs.Packed.{Packs}
-use Rattle.expander.specs.Table.{meaning_text, rows, meaning_number, Numbered, Means, Sound, blank, DefinitionsIn, TableIn, place_of}
+use Rattle.expander.specs.Table.{meaning_text, rows, meaning_number, Numbered, Means, Sound, blank, DefinitionsIn, TableIn}
 use Rattle.expander.specs.declared.packed.Packed.{Packed}
-use Rattle.expander.specs.declared.table.Found.{Found}
-use Rattle.expander.specs.declared.table.Found.TheVariants as found
 use Rattle.expander.proofs.Packing.{joined-append, count_is, used_is, length-replaced}
 use Rattle.expander.proofs.MaskLaws.{lost_less}
 use Rattle.expander.proofs.MeaningLaws.{numbers_kept, numbers_before, packs_kept, packs_before}
@@ -100,14 +98,10 @@ removed_rows ds i k =
     let n : 2 * i + 2 ≡ 2 * suc i = omega arith in
     rw (rows_append (take i ds) (drop (suc i) ds), ← rows_take i ds, ← rows_drop (suc i) ds, sym n) k
 
--- a text, and a predefined meaning, by text and byte
+-- a text, by itself and its byte
 pub text_means : (x : Bytes) → Means (text x) x 0
 unfolding meaning_text meaning_number Numbered
 text_means x = record { text_is = refl; number_is = refl; numbered = tt }
-
-pub predefined_means : (k : ℕ) → 0 < k → Means (predefined k) [] k
-unfolding meaning_text meaning_number Numbered
-predefined_means k h = record { text_is = refl; number_is = refl; numbered = h }
 
 -- what definitions cost is how many bytes their strings have
 pub meaning_cost_lem : (m : Meaning) → meaning_cost m ≡ length (meaning_text m)
@@ -133,20 +127,20 @@ unfolding table_cost Sound
 cost_least [] p = omega arith
 cost_least (d ∷ ds) p = omega (arith, cost_least ds p.2, p.0)
 
-pub newest_name : (w : Bytes) (ds : List Definition) (i : ℕ) → newest_place w ds ≡ some i → w ≡ (get_or ds i blank).name
+pub newest_name : (w : Bytes) (ds : List Definition) (i : ℕ) → newest_place w ds ≡ Some i → w ≡ (get_or ds i blank).name
 unfolding newest_place
 newest_name w [] i e = absurd (let z : ◌≡◌ {A = ℕ} 0 1 = cc in omega arith)
 newest_name w (d ∷ ds) i e = go (newest_place w ds) (newest_name w ds) (same_bytes w d.name) refl e
   where
-    go : (o : Option ℕ) → ((j : ℕ) → o ≡ some j → w ≡ (get_or ds j blank).name) → (t : Bool) → same_bytes w d.name ≡ t
-        → ◌≡◌ {A = Option ℕ} (elim o [ some j ↦ some (suc j) | none ↦ elim t [ true ↦ some 0 | false ↦ none ] ]) (some i) → w ≡ (get_or (d ∷ ds) i blank).name
-    go (some j) f t s e =
+    go : (o : Option ℕ) → ((j : ℕ) → o ≡ Some j → w ≡ (get_or ds j blank).name) → (t : Bool) → same_bytes w d.name ≡ t
+        → ◌≡◌ {A = Option ℕ} (elim o [ Some j ↦ Some (suc j) | None ↦ elim t [ true ↦ Some 0 | false ↦ None ] ]) (Some i) → w ≡ (get_or (d ∷ ds) i blank).name
+    go (Some j) f t s e =
         let n : suc j ≡ i = cc in
         rw (sym n) (f j refl)
-    go none f true s e =
+    go None f true s e =
         let n : 0 ≡ i = cc in
         rw (sym n) (same_is w d.name s)
-    go none f false s e = absurd (let z : ◌≡◌ {A = ℕ} 0 1 = cc in omega arith)
+    go None f false s e = absurd (let z : ◌≡◌ {A = ℕ} 0 1 = cc in omega arith)
 
 -- ---- the bytes of the meanings
 
@@ -254,13 +248,9 @@ module _ {bytes : Bytes} {ends : List ℕ} {p : Packed} {ds : List Definition} (
   pub heads_stay : (ends₁ ends₂ : List ℕ) (c : ℕ) → c ≤ meanings_start → drop c ends₁ ≡ drop c ends → drop links_start ends₂ ≡ drop links_start ends₁ → (b : ℕ) → b < bucket_count → head_at ends₂ b ≤ p.count / 2
   heads_stay ends₁ ends₂ c few kept e b l = omega (arith, head_small (chains_stay ends₁ {ends₂ = ends₂} c few kept e) b l, string_count h)
 
-  pub place_in : (w : Bytes) (i : ℕ) → newest_place w ds ≡ place_of (found.At i) → i < length ds
-  unfolding place_of
-  place_in w i e = newest_in_lem w ds i e
-
   -- the definition that a search found has its two strings
-  pub found_strings : (w : Bytes) {r : Found} (i : ℕ) → newest_place w ds ≡ place_of r → r ≡ found.At i → 2 * i + 2 ≤ p.count
-  found_strings w i e g = omega (arith, string_count h, place_in w i (e ∙ ap place_of g))
+  pub found_strings : (w : Bytes) (i : ℕ) → newest_place w ds ≡ Some i → 2 * i + 2 ≤ p.count
+  found_strings w i e = omega (arith, string_count h, newest_in_lem w ds i e)
 
 module _ {bytes : Bytes} {ends : List ℕ} {p : Packed} {own : ℕ} {t : Table} (h : TableIn bytes ends p own t) (w : Bytes) where
   -- the name's own meaning is gone
@@ -272,9 +262,9 @@ module _ {bytes : Bytes} {ends : List ℕ} {p : Packed} {own : ℕ} {t : Table} 
       {bytes' : Bytes} {ends₁ ends₂ : List ℕ} {r : Packed} (lb : length bytes' ≡ length bytes) (l₁ : length ends₁ ≡ length ends) (l₂ : length ends₂ ≡ length ends₁)
       (c : ℕ) (few : c ≤ meanings_start) (kept : drop c ends₁ ≡ drop c ends)
     where
-      pub replaced_in : (i : ℕ) (m : Meaning) {x : Bytes} {k : ℕ} → Means m x k → 0 < length w → newest_place w t.definitions ≡ place_of (found.At i)
+      pub replaced_in : (i : ℕ) (m : Meaning) {x : Bytes} {k : ℕ} → Means m x k → 0 < length w → newest_place w t.definitions ≡ Some i
           → Packs ends₁ r.count bytes' r.used (set (rows t.definitions) (2 * i + 1) x) → Put ends₁ i k ends₂ → TableIn bytes' ends₂ r own (defined w m t)
-      unfolding defined place_of
+      unfolding defined
       replaced_in i m {x} means pos e k put =
           let ds = t.definitions in
           let d : Definition = record { name = w; meaning = m } in
@@ -313,12 +303,12 @@ module _ {bytes : Bytes} {ends : List ℕ} {p : Packed} {own : ℕ} {t : Table} 
               own_few = h.own_few;
             }
 
-        pub popped_in : (i : ℕ) {n : ℕ} → newest_place w t.definitions ≡ place_of (found.At i) → n ≡ p.count / 2
+        pub popped_in : (i : ℕ) {n : ℕ} → newest_place w t.definitions ≡ Some i → n ≡ p.count / 2
             → Packs ends₁ r.count bytes' r.used (take (2 * i) (rows t.definitions) ++ drop (2 * i + 2) (rows t.definitions)) → ClosedUp ends₁ i n ends₂
             → ((ds : List Definition) → i < length ds → bucket_of w ≡ bucket_of (get_or ds i blank).name → Chained ends₂ ds
             → Packs ends₂ r.count bytes' r.used (rows (take i ds ++ drop (suc i) ds)) → Chained ends' (take i ds ++ drop (suc i) ds))
             → TableIn bytes' ends' r own (popped w t)
-        unfolding popped place_of
+        unfolding popped
         popped_in i e en k closed leave =
             let ds = t.definitions in
             let told = told_kept c ends ends₁ ds kept few h.holds.numbers in
@@ -334,25 +324,25 @@ module _ {bytes : Bytes} {ends : List ℕ} {p : Packed} {own : ℕ} {t : Table} 
               own_few = h.own_few;
             })
 
-  pub popped_own : newest_place w t.definitions ≡ place_of found.Nowhere → {lost : ℕ} → lost ≡ own_lost w own → TableIn bytes ends p lost (popped w t)
-  unfolding popped place_of
+  pub popped_own : newest_place w t.definitions ≡ None → {lost : ℕ} → lost ≡ own_lost w own → TableIn bytes ends p lost (popped w t)
+  unfolding popped
   popped_own e f = rw (e, f, popped) own_less
 
-  pub defined_own : {bytes' : Bytes} {ends' : List ℕ} {r : Packed} {o : ℕ} (m : Meaning) → newest_place w t.definitions ≡ place_of found.Nowhere → {lost : ℕ} → lost ≡ own_lost w own
+  pub defined_own : {bytes' : Bytes} {ends' : List ℕ} {r : Packed} {o : ℕ} (m : Meaning) → newest_place w t.definitions ≡ None → {lost : ℕ} → lost ≡ own_lost w own
       → ((u : Table) → u.definitions ≡ t.definitions → TableIn bytes ends p lost u → TableIn bytes' ends' r o (pushed w m u)) → TableIn bytes' ends' r o (defined w m t)
-  unfolding defined place_of
+  unfolding defined
   defined_own m e f push =
       let u : Table = record { definitions = t.definitions; own = own_lost w t.own } in
       rw (e, defined) (push u refl (subst (λ (n : ℕ). TableIn bytes ends p n u) (sym f) own_less))
 
 -- what the definitions cost once a name means another text
 module _ {bytes : Bytes} {ends : List ℕ} {p : Packed} (t : Table) (h : DefinitionsIn bytes ends p t.definitions) (w x : Bytes) where
-  pub size_replaced : (i : ℕ) → newest_place w t.definitions ≡ place_of (found.At i)
+  pub size_replaced : (i : ℕ) → newest_place w t.definitions ≡ Some i
       → table_cost (defined w (text x) t).definitions + length (get_or (rows t.definitions) (2 * i + 1) []) ≡ p.used + length x
-  unfolding defined place_of meaning_text
+  unfolding defined meaning_text
   size_replaced i e =
       let ds = t.definitions in
-      let lt = place_in h w i e in
+      let lt = newest_in_lem w ds i e in
       let s : rows (set ds i (record { name = w; meaning = text x })) ≡ set (rows ds) (2 * i + 1) x =
       ap (λ (n : Bytes). rows (set ds i (record { name = n; meaning = text x }))) (newest_name w ds i e) ∙ rows-set ds i (text x) in
       rw (e, defined)
@@ -364,8 +354,8 @@ module _ {bytes : Bytes} {ends : List ℕ} {p : Packed} (t : Table) (h : Definit
         used_is h.packs,
       ))
 
-  pub size_pushed : newest_place w t.definitions ≡ place_of found.Nowhere → table_cost (defined w (text x) t).definitions ≡ p.used + (length w + length x)
-  unfolding defined pushed place_of meaning_text
+  pub size_pushed : newest_place w t.definitions ≡ None → table_cost (defined w (text x) t).definitions ≡ p.used + (length w + length x)
+  unfolding defined pushed meaning_text
   size_pushed e =
       let ds = t.definitions in
       let d : Definition = record { name = w; meaning = text x } in

@@ -1,5 +1,5 @@
 -- Laws of the scan for the end of a comment. Assumes nothing.
-use Rattle.rules.proofs.Base.{◌≤◌, ◌+◌, ℕ, ◌<◌, suc, ◌∙◌, refl, sym, ap, ◌≡◌, true, Bool, false, some, none, Option, [], ◌∷◌, add-one, arith, eqb, length, drop, get_or, drop_of_length-le, drop-drop, lt-ltb, le-ltb}
+use Rattle.rules.proofs.Base.{◌≤◌, ◌+◌, ℕ, ◌<◌, suc, ◌∙◌, refl, sym, ap, ◌≡◌, true, Bool, false, Some, None, Option, [], ◌∷◌, add-one, arith, eqb, length, drop, get_or, drop_of_length-le, drop-drop, lt-ltb, le-ltb}
 use Rattle.rules.specs.declared.Token.TheVariants as token
 use Rattle.rules.specs.declared.Reading.TheVariants.{Is, OpenComment}
 use Rattle.rules.specs.Bytes.{Bytes, same_bytes}
@@ -55,19 +55,19 @@ module _ (end : Bytes) (n : ℕ) where
 -- a comment in a text of n bytes, a place further on
 comment_later : (m : Bytes) (n i : ℕ) (o : Option ℕ) → comment_read m n i (plus_one o) ≡ comment_read m n (suc i) o
 unfolding comment_read plus_one
-comment_later m n i none = refl
-comment_later m n i (some k) = let z : i + (suc k + length m) ≡ suc i + (k + length m) = omega arith in ap (λ (e : ℕ). Is (token.Comment e)) z
+comment_later m n i None = refl
+comment_later m n i (Some k) = let z : i + (suc k + length m) ≡ suc i + (k + length m) = omega arith in ap (λ (e : ℕ). Is (token.Comment e)) z
 
 pub first_later : (m : Bytes) (x : ℕ) (xs : Bytes) → begins_with m (x ∷ xs) ≡ false → first_place m (x ∷ xs) ≡ plus_one (first_place m xs)
 unfolding first_place
 first_later m x xs e = rw (e, first_place)
 
-pub first_here : (m s : Bytes) → begins_with m s ≡ true → first_place m s ≡ some 0
+pub first_here : (m s : Bytes) → begins_with m s ≡ true → first_place m s ≡ Some 0
 unfolding first_place
 first_here m [] e = rw (e, first_place)
 first_here m (x ∷ xs) e = rw (e, first_place)
 
-pub first_none : (m : Bytes) → begins_with m [] ≡ false → first_place m [] ≡ none
+pub first_none : (m : Bytes) → begins_with m [] ≡ false → first_place m [] ≡ None
 unfolding first_place
 first_none m e = rw (e, first_place)
 

@@ -1,5 +1,5 @@
 -- define, copydef, pushdef, popdef and undefine: a table that is changed once, or in turn by each argument.
-use Rattle.rules.proofs.Base.{◌≤◌, ◌+◌, ℕ, ◌<◌, suc, zero, ◌∙◌, refl, sym, ap, ◌≡◌, subst, true, Bool, false, not, some, none, Option, List, [], ◌++◌, ◌∷◌, set, add-one, arith, length, drop, drop_of_length-le, drop-cons, not-true, not-false}
+use Rattle.rules.proofs.Base.{◌≤◌, ◌+◌, ℕ, ◌<◌, suc, zero, ◌∙◌, refl, sym, ap, ◌≡◌, subst, true, Bool, false, not, Some, None, Option, List, [], ◌++◌, ◌∷◌, set, add-one, arith, length, drop, drop_of_length-le, drop-cons, not-true, not-false}
 use Rattle.rules.specs.declared.Answer.TheVariants as answer
 use Rattle.rules.specs.Answers.{no_name, no_definition, fault_answer}
 use Rattle.rules.specs.Arguments.{arg}
@@ -65,10 +65,10 @@ cost_means {m} {x} h w t = go (newest_place w t.definitions)
     same = meaning_cost_lem m ∙ ap length h.text_is
 
     go : (o : Option ℕ)
-        → table_cost (elim o as (λ _. Table) [ some i ↦ record { definitions = set t.definitions i (record { name = w; meaning = m }); own = t.own } | none ↦ pushed w m (record { definitions = t.definitions; own = own_lost w t.own }) ]).definitions
-        ≡ table_cost (elim o as (λ _. Table) [ some i ↦ record { definitions = set t.definitions i (record { name = w; meaning = text x }); own = t.own } | none ↦ pushed w (text x) (record { definitions = t.definitions; own = own_lost w t.own }) ]).definitions
-    go (some i) = cost_set t.definitions i w x m same
-    go none = cost_last t.definitions w x m same
+        → table_cost (elim o as (λ _. Table) [ Some i ↦ record { definitions = set t.definitions i (record { name = w; meaning = m }); own = t.own } | None ↦ pushed w m (record { definitions = t.definitions; own = own_lost w t.own }) ]).definitions
+        ≡ table_cost (elim o as (λ _. Table) [ Some i ↦ record { definitions = set t.definitions i (record { name = w; meaning = text x }); own = t.own } | None ↦ pushed w (text x) (record { definitions = t.definitions; own = own_lost w t.own }) ]).definitions
+    go (Some i) = cost_set t.definitions i w x m same
+    go None = cost_last t.definitions w x m same
 
 -- ---- a name gets a meaning
 
@@ -113,11 +113,11 @@ module _ {w : Bytes} {q : Bool} (i : q ≡ is_name w) where
         rw (h, call_copydef, m, e)
 
 -- the meaning that is copied, and that there is none
-pub copying_some : (m : Meaning) (w : Bytes) (s : State) → copying (some m) w s ≡ next (with_table (defined w m s.table) s)
+pub copying_some : (m : Meaning) (w : Bytes) (s : State) → copying (Some m) w s ≡ next (with_table (defined w m s.table) s)
 unfolding copying
 copying_some m w s = refl
 
-pub copying_none : (w : Bytes) (s : State) → copying none w s ≡ refused no_definition
+pub copying_none : (w : Bytes) (s : State) → copying None w s ≡ refused no_definition
 unfolding copying
 copying_none w s = refl
 

@@ -1,11 +1,13 @@
 -- Laws of the result of defn, argument by argument. Assumes nothing.
-use Rattle.rules.proofs.Base.{◌≤◌, ◌+◌, ℕ, ◌<◌, ◌*◌, ◌^◌, ◌∙◌, refl, sym, ap, ◌≡◌, subst, some, none, Option, List, [], ◌++◌, ◌∷◌, append_assoc, append-nil, add-one, arith, length, drop, take, get_or, length-append, drop_of_length-le, length-take-le, drop-cons, take_all}
+use Rattle.rules.proofs.Base.{◌≤◌, ◌+◌, ℕ, ◌<◌, ◌*◌, ◌^◌, ◌∙◌, refl, sym, ap, ◌≡◌, subst, Some, None, Option, List, [], ◌++◌, ◌∷◌, append_assoc, append-nil, add-one, arith, length, drop, take, get_or, length-append, drop_of_length-le, length-take-le, drop-cons, take_all}
+use Rattle.std.specs.Prelude.{Result, Ok, Err}
 use Rattle.rules.specs.Bytes.{Bytes}
-use Rattle.rules.specs.Answers.{Fault, no_text}
+use Rattle.rules.specs.declared.Answer.{Answer}
+use Rattle.rules.specs.Answers.{Fault, fault_answer, no_text}
 use Rattle.rules.specs.Marks.{MarkTexts, quoted}
 use Rattle.rules.specs.Table.{Meaning, text, predefined, Table, meaning_of}
 use Rattle.rules.specs.Arguments.{arg}
-use Rattle.rules.specs.Results.{Result, yields, fails, in_front, defn_result}
+use Rattle.rules.specs.Results.{Result as Given, yields, fails, in_front, defn_result}
 use Rattle.expander.specs.Limits.{macro_count}
 use Rattle.expander.specs.Substitution.{Lays}
 use Rattle.expander.specs.Table.{rows, meaning_for, ValidDefinitions, TableIn, Finds}
@@ -13,64 +15,62 @@ use Rattle.expander.specs.Defn.{measured_as, named_result, followed_by, longer}
 use Rattle.expander.specs.declared.packed.Packed.{Packed}
 use Rattle.expander.specs.declared.table.Meaning.{Meaning as Looked}
 use Rattle.expander.specs.declared.table.Meaning.TheVariants as looked
-use Rattle.expander.specs.declared.defn.DefnLength.{DefnLength}
-use Rattle.expander.specs.declared.defn.DefnLength.TheVariants as defn_length
 use Rattle.expander.proofs.ArgumentLaws.{arg_next}
 use Rattle.expander.proofs.FilledLaws.{filled_front, filled_nothing}
 use Rattle.expander.proofs.Rows.{finds_within}
 
 -- ---- results one behind the other
 
-front_nothing : (r : Result) → in_front [] r ≡ r
+front_nothing : (r : Given) → in_front [] r ≡ r
 unfolding in_front
 front_nothing (yields w) = refl
 front_nothing (fails f) = refl
 
-front_twice : (v w : Bytes) (r : Result) → in_front v (in_front w r) ≡ in_front (v ++ w) r
+front_twice : (v w : Bytes) (r : Given) → in_front v (in_front w r) ≡ in_front (v ++ w) r
 unfolding in_front
 front_twice v w (yields x) = ap yields (sym (append_assoc v w x))
 front_twice v w (fails f) = refl
 
-measured_front : (w : Bytes) (r : Result) → measured_as (in_front w r) ≡ longer (length w) (measured_as r)
+measured_front : (w : Bytes) (r : Given) → measured_as (in_front w r) ≡ longer (length w) (measured_as r)
 unfolding in_front measured_as longer
-measured_front w (yields x) = ap defn_length.Bytes (length-append w x)
+measured_front w (yields x) = ap Ok (length-append w x)
 measured_front w (fails f) = refl
 
-longer_twice : (a b : ℕ) (l : DefnLength) → longer a (longer b l) ≡ longer (a + b) l
+longer_twice : (a b : ℕ) (l : Result ℕ Answer) → longer a (longer b l) ≡ longer (a + b) l
 unfolding longer
-longer_twice a b (defn_length.Bytes k) = ap defn_length.Bytes (omega arith)
-longer_twice a b defn_length.NoText = refl
+longer_twice a b (Ok k) = ap Ok (omega arith)
+longer_twice a b (Err x) = refl
 
-longer_zero : (l : DefnLength) → longer 0 l ≡ l
+longer_zero : (l : Result ℕ Answer) → longer 0 l ≡ l
 unfolding longer
-longer_zero (defn_length.Bytes k) = ap defn_length.Bytes (omega arith)
-longer_zero defn_length.NoText = refl
+longer_zero (Ok k) = ap Ok (omega arith)
+longer_zero (Err x) = refl
 
-pub no_length : {n : ℕ} → defn_length.Bytes n ≡ defn_length.NoText → ⊥
-no_length e = let z : ◌≡◌ {A = ℕ} 0 1 = cc in omega arith
-
-pub same_bytes_lem : {a b : ℕ} → defn_length.Bytes a ≡ defn_length.Bytes b → a ≡ b
-same_bytes_lem e = cc
-
-longer_none : (n : ℕ) (l : DefnLength) → longer n l ≡ defn_length.NoText → l ≡ defn_length.NoText
+longer_least : (n : ℕ) (l : Result ℕ Answer) {k : ℕ} → longer n l ≡ Ok k → n ≤ k
 unfolding longer
-longer_none n (defn_length.Bytes k) e = absurd (no_length e)
-longer_none n defn_length.NoText e = refl
+longer_least n (Ok j) {k} e = let h : n + j ≡ k = cc in omega arith
+longer_least n (Err x) e = cc
 
-longer_least : (n : ℕ) (l : DefnLength) {k : ℕ} → longer n l ≡ defn_length.Bytes k → n ≤ k
-unfolding longer
-longer_least n (defn_length.Bytes j) e = omega (arith, same_bytes_lem e)
-longer_least n defn_length.NoText e = absurd (no_length (sym e))
-
-followed_long : (q r : Result) {n : ℕ} → measured_as q ≡ defn_length.Bytes n → measured_as (followed_by q r) ≡ longer n (measured_as r)
+followed_long : (q r : Given) {n : ℕ} → measured_as q ≡ Ok n → measured_as (followed_by q r) ≡ longer n (measured_as r)
 unfolding followed_by measured_as
-followed_long (yields w) r e = measured_front w r ∙ ap (λ (k : ℕ). longer k (measured_as r)) (same_bytes_lem e)
-followed_long (fails f) r e = absurd (no_length (sym e))
+followed_long (yields w) r e = measured_front w r ∙ ap (λ (k : ℕ). longer k (measured_as r)) cc
+followed_long (fails f) r e = cc
 
-followed_none : (q r : Result) → measured_as q ≡ defn_length.NoText → measured_as (followed_by q r) ≡ defn_length.NoText
+followed_none : (q r : Given) {x : Answer} → measured_as q ≡ Err x → measured_as (followed_by q r) ≡ Err x
 unfolding followed_by measured_as
-followed_none (yields w) r e = absurd (no_length e)
-followed_none (fails f) r e = refl
+followed_none (yields w) r e = cc
+followed_none (fails f) r e = e
+
+-- a result that is measured by an answer is refused with it
+pub record RefusedBy (r : Given) (x : Answer) : Type 0 where
+  pub fault : Fault
+  pub is : r ≡ fails fault
+  pub answer_is : x ≡ fault_answer fault
+
+pub measured_refused : (r : Given) {x : Answer} → measured_as r ≡ Err x → RefusedBy r x
+unfolding measured_as
+measured_refused (yields w) e = cc
+measured_refused (fails f) e = record { fault = f; is = refl; answer_is = cc }
 
 -- the first argument's part
 module _ (m : MarkTexts) (t : Table) where
@@ -79,24 +79,11 @@ module _ (m : MarkTexts) (t : Table) where
   defn_cons w ws = go (meaning_of w t)
     where
       go : (o : Option Meaning)
-          → ◌≡◌ {A = Result} (elim o [ none ↦ defn_result m t ws | some (text x) ↦ in_front (quoted m x) (defn_result m t ws) | some (predefined k) ↦ fails no_text ])
-          (followed_by (elim o [ none ↦ yields [] | some (text x) ↦ yields (quoted m x) | some (predefined k) ↦ fails no_text ]) (defn_result m t ws))
-      go none = sym (front_nothing (defn_result m t ws))
-      go (some (text x)) = refl
-      go (some (predefined k)) = refl
-
-  -- a result without a length is refused for want of a text
-  pub defn_fails : (args : List Bytes) → measured_as (defn_result m t args) ≡ defn_length.NoText → defn_result m t args ≡ fails no_text
-  unfolding defn_result measured_as in_front
-  defn_fails [] e = absurd (no_length e)
-  defn_fails (w ∷ ws) e = go (meaning_of w t) (defn_fails ws) e
-    where
-      go : (o : Option Meaning) → (measured_as (defn_result m t ws) ≡ defn_length.NoText → defn_result m t ws ≡ fails no_text)
-          → measured_as (elim o [ none ↦ defn_result m t ws | some (text x) ↦ in_front (quoted m x) (defn_result m t ws) | some (predefined k) ↦ fails no_text ]) ≡ defn_length.NoText
-          → ◌≡◌ {A = Result} (elim o [ none ↦ defn_result m t ws | some (text x) ↦ in_front (quoted m x) (defn_result m t ws) | some (predefined k) ↦ fails no_text ]) (fails no_text)
-      go none f e = f e
-      go (some (text x)) f e = ap (in_front (quoted m x)) (f (longer_none (length (quoted m x)) _ (sym (measured_front (quoted m x) (defn_result m t ws)) ∙ e)))
-      go (some (predefined k)) f e = refl
+          → ◌≡◌ {A = Given} (elim o [ None ↦ defn_result m t ws | Some (text x) ↦ in_front (quoted m x) (defn_result m t ws) | Some (predefined k) ↦ fails no_text ])
+          (followed_by (elim o [ None ↦ yields [] | Some (text x) ↦ yields (quoted m x) | Some (predefined k) ↦ fails no_text ]) (defn_result m t ws))
+      go None = sym (front_nothing (defn_result m t ws))
+      go (Some (text x)) = refl
+      go (Some (predefined k)) = refl
 
   -- the arguments from k on
   module _ (args : List Bytes) (k : ℕ) where
@@ -120,19 +107,19 @@ pub measured_begins : (m : MarkTexts) (t : Table) (args : List Bytes) → Measur
 measured_begins m t args = record { so_far = sym (longer_zero (measured_as (defn_result m t args))) }
 
 module _ {m : MarkTexts} {t : Table} {args : List Bytes} {k total : ℕ} (s : Measured m t args k total) where
-  pub measured_ends : length args ≤ k → defn_length.Bytes total ≡ measured_as (defn_result m t args)
+  pub measured_ends : length args ≤ k → Ok total ≡ measured_as (defn_result m t args)
   unfolding measured_as longer
-  measured_ends h = sym (s.so_far ∙ ap (λ (r : Result). longer total (measured_as r)) (past m t args k h) ∙ ap defn_length.Bytes (omega arith))
+  measured_ends h = sym (s.so_far ∙ ap (λ (r : Given). longer total (measured_as r)) (past m t args k h) ∙ ap Ok (omega arith))
 
-  module _ {name : Bytes} {r : DefnLength} (e : name ≡ arg (k + 1) args) (h : k < length args) (f : r ≡ measured_as (named_result m t name)) where
+  module _ {name : Bytes} {r : Result ℕ Answer} (e : name ≡ arg (k + 1) args) (h : k < length args) (f : r ≡ measured_as (named_result m t name)) where
     measured_turn : measured_as (defn_result m t args) ≡ longer total (measured_as (followed_by (named_result m t name) (defn_result m t (drop (k + 1) args))))
-    measured_turn = s.so_far ∙ ap (λ (q : Result). longer total (measured_as q)) (turn m t args k e h)
+    measured_turn = s.so_far ∙ ap (λ (q : Given). longer total (measured_as q)) (turn m t args k e h)
 
-    pub measured_on : {n : ℕ} → r ≡ defn_length.Bytes n → Measured m t args (k + 1) (total + n)
+    pub measured_on : {n : ℕ} → r ≡ Ok n → Measured m t args (k + 1) (total + n)
     measured_on {n} g =
         record { so_far = measured_turn ∙ ap (longer total) (followed_long (named_result m t name) _ (sym f ∙ g)) ∙ longer_twice total n _ }
 
-    pub measured_none : r ≡ defn_length.NoText → defn_length.NoText ≡ measured_as (defn_result m t args)
+    pub measured_none : {x : Answer} → r ≡ Err x → Err x ≡ measured_as (defn_result m t args)
     unfolding longer
     measured_none g = sym (measured_turn ∙ ap (longer total) (followed_none (named_result m t name) _ (sym f ∙ g)))
 
@@ -140,10 +127,10 @@ module _ {m : MarkTexts} {t : Table} {args : List Bytes} {k total : ℕ} (s : Me
 
 pub record Joining (m : MarkTexts) (t : Table) (args : List Bytes) (k : ℕ) (dst : Bytes) (at : ℕ) : Type 0 where
   pub in_buffer : at ≤ length dst
-  pub long : measured_as (defn_result m t args) ≡ defn_length.Bytes (length dst)
+  pub long : measured_as (defn_result m t args) ≡ Ok (length dst)
   pub so_far : defn_result m t args ≡ in_front (take at dst) (defn_result m t (drop k args))
 
-pub joining_begins : {m : MarkTexts} {t : Table} {args : List Bytes} {dst : Bytes} → measured_as (defn_result m t args) ≡ defn_length.Bytes (length dst) → Joining m t args 0 dst 0
+pub joining_begins : {m : MarkTexts} {t : Table} {args : List Bytes} {dst : Bytes} → measured_as (defn_result m t args) ≡ Ok (length dst) → Joining m t args 0 dst 0
 joining_begins {m} {t} {args} e = record { in_buffer = omega arith; long = e; so_far = sym (front_nothing (defn_result m t args)) }
 
 module _ {m : MarkTexts} {t : Table} {args : List Bytes} {k : ℕ} {dst : Bytes} {at : ℕ} (s : Joining m t args k dst at) where
@@ -151,7 +138,8 @@ module _ {m : MarkTexts} {t : Table} {args : List Bytes} {k : ℕ} {dst : Bytes}
   unfolding in_front measured_as
   joining_ends h =
       let e : defn_result m t args ≡ yields (take at dst) = s.so_far ∙ ap (in_front (take at dst)) (past m t args k h) ∙ ap yields (append-nil (take at dst)) in
-      let l : length (take at dst) ≡ length dst = same_bytes_lem (sym (ap measured_as e) ∙ s.long) in
+      let m : ◌≡◌ {A = Result ℕ Answer} (Ok (length (take at dst))) (Ok (length dst)) = sym (ap measured_as e) ∙ s.long in
+      let l : length (take at dst) ≡ length dst = cc in
       e ∙ ap yields (take_all at dst (omega (arith, l, length-take-le at dst s.in_buffer)))
 
   module _ {name : Bytes} (e : name ≡ arg (k + 1) args) (h : k < length args) where
@@ -162,7 +150,7 @@ module _ {m : MarkTexts} {t : Table} {args : List Bytes} {k : ℕ} {dst : Bytes}
     unfolding followed_by
     with_text {w} g =
         joining_turn
-        ∙ ap (λ (q : Result). in_front (take at dst) (followed_by q (defn_result m t (drop (k + 1) args)))) g
+        ∙ ap (λ (q : Given). in_front (take at dst) (followed_by q (defn_result m t (drop (k + 1) args)))) g
         ∙ front_twice (take at dst) w (defn_result m t (drop (k + 1) args))
 
     pub joining_room : {w : Bytes} → named_result m t name ≡ yields w → at + length w ≤ length dst
@@ -173,18 +161,21 @@ module _ {m : MarkTexts} {t : Table} {args : List Bytes} {k : ℕ} {dst : Bytes}
     -- a name without a text would leave the whole without a length
     no_text_after : (f : Fault) → named_result m t name ≡ fails f → ⊥
     unfolding followed_by in_front measured_as
-    no_text_after f g = no_length (sym s.long ∙ ap measured_as (joining_turn ∙ ap (λ (q : Result). in_front (take at dst) (followed_by q (defn_result m t (drop (k + 1) args)))) g))
+    no_text_after f g =
+        let e : Ok (length dst) ≡ Err (fault_answer f) =
+        sym s.long ∙ ap measured_as (joining_turn ∙ ap (λ (q : Given). in_front (take at dst) (followed_by q (defn_result m t (drop (k + 1) args)))) g) in
+        cc
 
     pub joining_on : {dst' : Bytes} {end : ℕ} → ((w : Bytes) → named_result m t name ≡ yields w → Lays dst at w dst' end) → length dst' ≡ length dst
         → Joining m t args (k + 1) dst' end
     joining_on {dst'} {end} f d = go (named_result m t name) refl
       where
-        go : (q : Result) → named_result m t name ≡ q → Joining m t args (k + 1) dst' end
+        go : (q : Given) → named_result m t name ≡ q → Joining m t args (k + 1) dst' end
         go (yields w) g =
             let l = f w g in
             record {
               in_buffer = omega (arith, l.behind, l.filled.fits, d);
-              long = s.long ∙ ap defn_length.Bytes (sym d);
+              long = s.long ∙ ap Ok (sym d);
               so_far =
                   with_text g
                   ∙ ap (λ (v : Bytes). in_front v (defn_result m t (drop (k + 1) args))) (sym (ap (λ (j : ℕ). take j dst') l.behind ∙ filled_front l.filled));
@@ -219,11 +210,11 @@ module _ {bytes : Bytes} {ends : List ℕ} {p : Packed} {own : ℕ} (d : ValidDe
       finds_within d.holds (subst (λ (r : Looked). Finds t.definitions (meaning_of w t) r) e (f t valid_table))
 
 -- a text that a name gives
-pub same_text : {r : Result} {v w : Bytes} → r ≡ yields v → r ≡ yields w → v ≡ w
+pub same_text : {r : Given} {v w : Bytes} → r ≡ yields v → r ≡ yields w → v ≡ w
 same_text e f = cc
 
-pub no_text_lem : {r : Result} {f : Fault} {w : Bytes} → r ≡ fails f → r ≡ yields w → ⊥
-no_text_lem e g = let z : ◌≡◌ {A = ℕ} 0 1 = cc in omega arith
+pub no_text_lem : {r : Given} {f : Fault} {w : Bytes} → r ≡ fails f → r ≡ yields w → ⊥
+no_text_lem e g = cc
 
 -- no text: the buffer is as it was
 pub nothing_lays : (d : Bytes) (at : ℕ) → at ≤ length d → Lays d at [] d at

@@ -1,10 +1,9 @@
 -- Laws of tokens that stand for themselves, and of calls that are opened: what fits, and what is represented then. Assumes nothing.
 use Rattle.expander.specs.Limits.{most_lent}
-use Rattle.rules.proofs.Base.{◌*◌, ◌≤◌, ◌+◌, ℕ, ◌-◌, ◌<◌, suc, zero, ◌∙◌, refl, sym, ap, ◌≡◌, subst, true, Bool, false, ◌||◌, or-true, some, List, [], ◌++◌, ◌∷◌, add-one, ℕ_discrete, arith, leb, ltb, ℤ, length, drop, take, get_or, length-append, length-drop, set, length-take, le-leb, lt-leb, ltb-true, ltb-false}
+use Rattle.rules.proofs.Base.{◌*◌, ◌≤◌, ◌+◌, ℕ, ◌-◌, ◌<◌, suc, zero, ◌∙◌, refl, sym, ap, ◌≡◌, subst, true, Bool, false, ◌||◌, or-true, Some, none-some, same_Some, List, [], ◌++◌, ◌∷◌, add-one, arith, leb, ltb, pos, ℤ, length, drop, take, get_or, length-append, length-drop, set, length-take, le-leb, lt-leb, ltb-true, ltb-false}
 use Rattle.rules.specs.declared.Answer.TheVariants as answer
 use Rattle.rules.specs.Bytes.{Bytes}
 use Rattle.rules.specs.Answers.{deep, fault_answer}
-use Rattle.rules.specs.Words.{signed_value}
 use Rattle.rules.specs.Source.{Source, ahead, advance}
 use Rattle.rules.specs.Streams.{Streams, placed, changed, changed_in_turn, total_length}
 use Rattle.rules.specs.State.{Call, State, Outcome, next, refused, with_source, with_calls, with_streams, taking, changing, emitting}
@@ -20,17 +19,15 @@ use Rattle.expander.specs.Source.{SourceIn}
 use Rattle.expander.specs.Calls.{CallsIn, CallRoom}
 use Rattle.expander.specs.Streams.{IsStream, extended}
 use Rattle.expander.specs.Sinks.{SinksIn, full_buffer}
-use Rattle.expander.specs.Machine.{Memory, Represents, Reach, Refines, stepped, source_set, calls_set, sinks_set, calls_at, sinks_at}
-use Rattle.expander.proofs.SourceLaws.{ahead_long, lent_ahead, ahead_lent}
+use Rattle.expander.specs.Machine.{Memory, Represents, Reach, Refines, bytes_ahead, stepped, source_set, calls_set, sinks_set, calls_at, sinks_at}
+use Rattle.expander.proofs.SourceLaws.{ahead_long, lent_is}
 use Rattle.expander.proofs.CallsLaws.{calls_held, calls_counted}
 use Rattle.expander.proofs.Totals.{used_is}
 use Rattle.expander.proofs.StreamMoves.{placed_to, placed_out}
-use Rattle.expander.proofs.SinksLaws.{full_output, free_output, free_lost, full_stream, free_stream}
+use Rattle.expander.proofs.SinksLaws.{Waits, Current, goes_out, goes_behind, goes_lost, current_is, full_output, free_output, free_lost, full_stream, free_stream}
 use Rattle.expander.proofs.MachineLaws.{front_long, pending_fits, calls_fit, table_fits, streams_fit, wrap_fits, errors_fit, over_calls, over_streams, over_output, refines_next, refines_room, no_calls, some_call}
 use Rattle.expander.proofs.Parted.{with_source_lem, with_calls_lem, with_sinks}
-use Rattle.expander.proofs.ArgumentLaws.{bits_plain}
 use Rattle.expander.proofs.SteppedLaws.{stepped_refused}
-use Rattle.expander.proofs.Parts.{part_size}
 
 -- ---- the text ahead
 
@@ -86,33 +83,33 @@ module _ (c : Call) (cs : List Call) (s : State) where
 pub record Overfull (a : Setting) (t : State) (full : ℕ) : Type 0 where
   pub buffer : ℕ
   pub is : full ≡ buffer + 1
-  pub over : overfull (held t) (lengths a) ≡ some buffer
+  pub over : overfull (held t) (lengths a) ≡ Some buffer
 
 refines_overfull : {a : Setting} {b : Memory} {m : Machine} {t : State} {full : ℕ} → Overfull a t full → Refines a b (next t) b (stepped (progress.Refused (answer.Room full)) m)
 refines_overfull {t = t} f = rw f.is (refines_room t f.buffer f.over)
 
 module _ {a : Setting} {b : Memory} {m : Machine} {s : State} (r : Represents a b m s) (x : Source) (px : length x.pending ≤ a.pending) where
-  pub streams_over : (y : Streams) → a.streams < total_length y.waiting → overfull (held (with_streams y (with_source x s))) (lengths a) ≡ some 3
+  pub streams_over : (y : Streams) → a.streams < total_length y.waiting → overfull (held (with_streams y (with_source x s))) (lengths a) ≡ Some 3
   unfolding with_source with_streams
   streams_over y h = over_streams a (with_streams y (with_source x s)) px (calls_fit r) (table_fits r) h
 
   pub output_over :
-      (y : Streams) → total_length y.waiting ≤ a.streams → a.output < length y.output → overfull (held (with_streams y (with_source x s))) (lengths a) ≡ some 6
+      (y : Streams) → total_length y.waiting ≤ a.streams → a.output < length y.output → overfull (held (with_streams y (with_source x s))) (lengths a) ≡ Some 6
   unfolding with_source with_streams
   output_over y k h = over_output a (with_streams y (with_source x s)) px (calls_fit r) (table_fits r) k (wrap_fits r) (errors_fit r) h
 
-  pub calls_over : (cs : List Call) → a.calls < calls_cost cs → overfull (held (with_calls cs (with_source x s))) (lengths a) ≡ some 1
+  pub calls_over : (cs : List Call) → a.calls < calls_cost cs → overfull (held (with_calls cs (with_source x s))) (lengths a) ≡ Some 1
   unfolding with_source with_calls
   calls_over cs h = over_calls a (with_calls cs (with_source x s)) px h
 
   -- bytes to the current stream do not fit
   emit_over :
-      (w : Bytes) (n full : ℕ) → length w ≡ n → full ≡ full_buffer m.sinks.current n (length b.streams - m.sinks.waiting) (length b.output - m.sinks.output)
-      → (full ≡ 0 → ⊥) → Overfull a (emitting w (with_source x s)) full
+      (w : Bytes) (n full : ℕ) → length w ≡ n → Some full ≡ full_buffer m.sinks.current n (length b.streams - m.sinks.waiting) (length b.output - m.sinks.output)
+      → Overfull a (emitting w (with_source x s)) full
   unfolding emitting changing changed_in_turn changed with_source
-  emit_over w n full en ef nz = go (ℕ_discrete c 0)
+  emit_over w n full en ef = go (current_is c)
     where
-      c : ℕ
+      c : ℤ
       c = m.sinks.current
 
       left : ℕ
@@ -122,37 +119,33 @@ module _ {a : Setting} {b : Memory} {m : Machine} {s : State} (r : Represents a 
       free = length b.output - m.sinks.output
 
       -- by what the streams are then
-      by : (k : ℕ) (y : Streams) → full ≡ k + 1 → placed s.streams.current w s.streams ≡ y → overfull (held (with_streams y (with_source x s))) (lengths a) ≡ some k
+      by : (k : ℕ) (y : Streams) → full ≡ k + 1 → placed s.streams.current w s.streams ≡ y → overfull (held (with_streams y (with_source x s))) (lengths a) ≡ Some k
           → Overfull a (emitting w (with_source x s)) full
       by k y e p h =
-          record { buffer = k; is = e; over = subst (λ (z : Streams). overfull (held (with_streams z (with_source x s))) (lengths a) ≡ some k) (sym p) h }
+          record { buffer = k; is = e; over = subst (λ (z : Streams). overfull (held (with_streams z (with_source x s))) (lengths a) ≡ Some k) (sym p) h }
 
-      out : (t : Bool) → ltb free n ≡ t → c ≡ 0 → Overfull a (emitting w (with_source x s)) full
+      out : (t : Bool) → ltb free n ≡ t → c ≡ pos 0 → Overfull a (emitting w (with_source x s)) full
       out true q e =
           let y : Streams = record { output = s.streams.output ++ w; waiting = s.streams.waiting; current = s.streams.current } in
-          by 6 y (ef ∙ sym (full_output c n left free e (ltb-true free n q)))
-          (ap (λ (z : ℤ). placed z w s.streams) (r.sinks.current ∙ ap signed_value e ∙ bits_plain 0 (omega arith)) ∙ placed_out w s.streams)
+          by 6 y (same_Some full 7 (ef ∙ sym (full_output c n left free e (ltb-true free n q))))
+          (ap (λ (z : ℤ). placed z w s.streams) (r.sinks.current ∙ e) ∙ placed_out w s.streams)
           (output_over y (streams_fit r)
           (omega (arith, ltb-true free n q, length-append s.streams.output w, front_long r.sinks.written, r.sinks.written.inside, r.limits.output)))
-      out false q e = absurd (nz (ef ∙ sym (free_output c n left free e (ltb-false free n q))))
+      out false q e = absurd (none-some full (sym (ef ∙ sym (free_output c n left free e (ltb-false free n q)))))
 
-      stream : (t : Bool) → ltb left n ≡ t → (c ≡ 0 → ⊥) → c ≤ 9 → Overfull a (emitting w (with_source x s)) full
-      stream true q e l =
-          let i : IsStream c = record { low = omega arith; high = l } in
-          let y : Streams = record { output = s.streams.output; waiting = extended c w s.streams.waiting; current = s.streams.current } in
-          by 3 y (ef ∙ sym (full_stream c n left free e l (ltb-true left n q)))
-          (ap (λ (z : ℤ). placed z w s.streams) (r.sinks.current ∙ bits_plain c (omega arith)) ∙ placed_to c i w s.streams)
+      stream : (t : Bool) → ltb left n ≡ t → (i : ℕ) → Waits c i → Overfull a (emitting w (with_source x s)) full
+      stream true q i h =
+          let y : Streams = record { output = s.streams.output; waiting = extended i w s.streams.waiting; current = s.streams.current } in
+          by 3 y (same_Some full 4 (ef ∙ sym (full_stream c n left free h (ltb-true left n q))))
+          (ap (λ (z : ℤ). placed z w s.streams) (r.sinks.current ∙ h.is) ∙ placed_to i h.stream w s.streams)
           (streams_over y
-          (omega (arith, ltb-true left n q, total_extended c w s.streams.waiting i r.sinks.waiting.nine, used_is r.sinks.waiting, r.sinks.waiting.owned.in_bytes, r.limits.streams)))
-      stream false q e l = absurd (nz (ef ∙ sym (free_stream c n left free e l (ltb-false left n q))))
+          (omega (arith, ltb-true left n q, total_extended i w s.streams.waiting h.stream r.sinks.waiting.nine, used_is r.sinks.waiting, r.sinks.waiting.owned.in_bytes, r.limits.streams)))
+      stream false q i h = absurd (none-some full (sym (ef ∙ sym (free_stream c n left free h (ltb-false left n q)))))
 
-      other : (t : Bool) → ltb 9 c ≡ t → (c ≡ 0 → ⊥) → Overfull a (emitting w (with_source x s)) full
-      other true q e = absurd (nz (ef ∙ sym (free_lost c n left free e (ltb-true 9 c q))))
-      other false q e = stream (ltb left n) refl e (ltb-false 9 c q)
-
-      go : Dec (c ≡ 0) → Overfull a (emitting w (with_source x s)) full
-      go (yes e) = out (ltb free n) refl e
-      go (no e) = other (ltb 9 c) refl e
+      go : Current c → Overfull a (emitting w (with_source x s)) full
+      go (goes_out e) = out (ltb free n) refl e
+      go (goes_behind i h) = stream (ltb left n) refl i h
+      go (goes_lost e) = absurd (none-some full (sym (ef ∙ sym (free_lost c n left free e))))
 
 -- ---- the bounds that `Represents` gives
 
@@ -165,11 +158,10 @@ module _ {a : Setting} {b : Memory} {m : Machine} {s : State} (r : Represents a 
     omega (arith, h.whole, r.limits.pending_most, r.limits.text),
   )
 
-  -- of the two slices that are lent
-  pub reach_lent :
-      start + n ≤ length (take (length b.pending - m.source.from) (drop m.source.from b.pending)) + length (take (length b.text - m.source.taken) (drop m.source.taken b.text))
-  reach_lent =
-      omega (arith, h.some, part_size b.pending m.source.from, part_size b.text m.source.taken)
+  -- of what is lent
+  pub reach_lent : {t : Bytes} → t ≡ bytes_ahead b.text b.pending m.source → start + n ≤ length t
+  reach_lent e =
+      omega (arith, h.some, ahead_long r.source, ap length (lent_is r.source e))
 
   pub reach_whole : width ≤ length (ahead s.source)
   reach_whole = omega (arith, h.whole, ahead_long r.source)
@@ -180,11 +172,6 @@ module _ {a : Setting} {b : Memory} {m : Machine} {s : State} (r : Represents a 
 -- a name and the byte behind it
 pub reach_name : {text pending : Bytes} {p : Position} {n : ℕ} → Reach text pending p 0 n (suc n) → Reach text pending p 0 n (n + 1)
 reach_name h = record { some = h.some; whole = omega (arith, h.whole) }
-
-pub reach_first :
-    {a : Setting} {b : Memory} {m : Machine} {s : State} (r : Represents a b m s) {n width : ℕ} → Reach b.text b.pending m.source 0 n width
-    → n ≤ length (take (length b.pending - m.source.from) (drop m.source.from b.pending)) + length (take (length b.text - m.source.taken) (drop m.source.taken b.text))
-reach_first r h = omega (arith, reach_lent r h)
 
 module _ {a : Setting} {b : Memory} {m : Machine} {s : State} (r : Represents a b m s) where
   -- n bytes more fit behind the strings of the open calls
@@ -207,16 +194,16 @@ module _ {a : Setting} {b : Memory} {m : Machine} {s : State} (r : Represents a 
   after width = omega (arith, shorter width s.source, pending_fits r)
 
   pub token_full :
-      (w : Bytes) (n width full : ℕ) → length w ≡ n → full ≡ full_buffer m.sinks.current n (length b.streams - m.sinks.waiting) (length b.output - m.sinks.output)
-      → (full ≡ 0 → ⊥) → Refines a b (next (emitting w (taking width s))) b (stepped (progress.Refused (answer.Room full)) m)
+      (w : Bytes) (n width full : ℕ) → length w ≡ n → Some full ≡ full_buffer m.sinks.current n (length b.streams - m.sinks.waiting) (length b.output - m.sinks.output)
+      → Refines a b (next (emitting w (taking width s))) b (stepped (progress.Refused (answer.Room full)) m)
   unfolding taking
-  token_full w n width full en ef nz = refines_overfull (emit_over r (advance width s.source) (after width) w n full en ef nz)
+  token_full w n width full en ef = refines_overfull (emit_over r (advance width s.source) (after width) w n full en ef)
 
   pub byte_full :
-      (z full : ℕ) → full ≡ full_buffer m.sinks.current 1 (length b.streams - m.sinks.waiting) (length b.output - m.sinks.output)
-      → (full ≡ 0 → ⊥) → Refines a b (next (emitting (z ∷ []) s)) b (stepped (progress.Refused (answer.Room full)) m)
+      (z full : ℕ) → Some full ≡ full_buffer m.sinks.current 1 (length b.streams - m.sinks.waiting) (length b.output - m.sinks.output)
+      → Refines a b (next (emitting (z ∷ []) s)) b (stepped (progress.Refused (answer.Room full)) m)
   unfolding with_source
-  byte_full z full ef nz = refines_overfull (emit_over r s.source (pending_fits r) (z ∷ []) 1 full refl ef nz)
+  byte_full z full ef = refines_overfull (emit_over r s.source (pending_fits r) (z ∷ []) 1 full refl ef)
 
   -- they are placed
   module _
@@ -224,14 +211,14 @@ module _ {a : Setting} {b : Memory} {m : Machine} {s : State} (r : Represents a 
       (e-output : length output' ≡ length b.output)
     where
       pub token_emitted :
-          {p : Position} (start n width : ℕ)
-          → SinksIn streams' owners' output' k (placed s.streams.current (take n (drop start (lent_ahead b.text b.pending m.source))) s.streams)
+          {p : Position} {t : Bytes} (start n width : ℕ) → t ≡ bytes_ahead b.text b.pending m.source
+          → SinksIn streams' owners' output' k (placed s.streams.current (take n (drop start t)) s.streams)
           → SourceIn b.text b.pending p (advance width s.source)
           → Refines a b (next (emitting (take n (drop start (ahead s.source))) (taking width s))) (sinks_at streams' owners' output' b) (stepped progress.On (sinks_set k (source_set p m)))
       unfolding emitting changing changed_in_turn changed taking with_source
-      token_emitted {p} start n width h q =
+      token_emitted start n width e h q =
           let g : SinksIn streams' owners' output' k (placed s.streams.current (take n (drop start (ahead s.source))) s.streams) =
-          subst (λ (l : Bytes). SinksIn streams' owners' output' k (placed s.streams.current (take n (drop start l)) s.streams)) (ahead_lent r.source) h in
+          subst (λ (l : Bytes). SinksIn streams' owners' output' k (placed s.streams.current (take n (drop start l)) s.streams)) (lent_is r.source e) h in
           refines_next (with_sinks (with_source_lem r q refl) g e-streams e-owners e-output)
 
       pub byte_emitted :
@@ -277,14 +264,14 @@ module _ {a : Setting} {b : Memory} {m : Machine} {s : State} (r : Represents a 
       both_changed cs width h q = refines_next (with_calls_lem (with_source_lem r q refl) h e-calls e-ends e-stack)
 
       pub token_collected :
-          {p : Position} (start n width : ℕ) (c : Call) (cs : List Call)
-          → CallsIn calls' ends' stack' k (collecting (take n (drop start (lent_ahead b.text b.pending m.source))) c.depth c ∷ cs)
+          {p : Position} {t : Bytes} (start n width : ℕ) (c : Call) (cs : List Call) → t ≡ bytes_ahead b.text b.pending m.source
+          → CallsIn calls' ends' stack' k (collecting (take n (drop start t)) c.depth c ∷ cs)
           → SourceIn b.text b.pending p (advance width s.source)
           → Refines a b (next (with_calls (collecting (take n (drop start (ahead s.source))) c.depth c ∷ cs) (taking width s))) (calls_at calls' ends' stack' b)
           (stepped progress.On (calls_set k (source_set p m)))
-      token_collected start n width c cs h q =
+      token_collected start n width c cs e h q =
           let g : CallsIn calls' ends' stack' k (collecting (take n (drop start (ahead s.source))) c.depth c ∷ cs) =
-          subst (λ (l : Bytes). CallsIn calls' ends' stack' k (collecting (take n (drop start l)) c.depth c ∷ cs)) (ahead_lent r.source) h in
+          subst (λ (l : Bytes). CallsIn calls' ends' stack' k (collecting (take n (drop start l)) c.depth c ∷ cs)) (lent_is r.source e) h in
           both_changed (collecting (take n (drop start (ahead s.source))) c.depth c ∷ cs) width g q
 
   -- ---- a call is opened
@@ -323,14 +310,15 @@ module _ {a : Setting} {b : Memory} {m : Machine} {s : State} (r : Represents a 
       (omega (arith, cost_opened name s.calls, calls_held r.calls, r.calls.strings.used_in, r.limits.calls))))
 
   pub call_opened :
-      {calls' : Bytes} {ends' stack' : List ℕ} {k : Calls} {p : Position} → length calls' ≡ length b.calls → length ends' ≡ length b.call_ends
+      {calls' t : Bytes} {ends' stack' : List ℕ} {k : Calls} {p : Position} → length calls' ≡ length b.calls → length ends' ≡ length b.call_ends
       → length stack' ≡ length b.stack → (n : ℕ) → m.calls.opens < 64 → m.calls.strings.count - m.calls.opens < 256
-      → CallsIn calls' ends' stack' k (open_call (take n (lent_ahead b.text b.pending m.source)) ∷ s.calls)
+      → t ≡ bytes_ahead b.text b.pending m.source
+      → CallsIn calls' ends' stack' k (open_call (take n t) ∷ s.calls)
       → SourceIn b.text b.pending p (advance (n + 1) s.source)
       → Refines a b (opened (take n (ahead s.source)) (taking (suc n) s)) (calls_at calls' ends' stack' b) (stepped progress.On (calls_set k (source_set p m)))
-  call_opened {calls'} {ends'} {stack'} {k} e-calls e-ends e-stack n l f h q =
+  call_opened {calls'} {ends' = ends'} {stack' = stack'} {k = k} e-calls e-ends e-stack n l f e h q =
       let g : CallsIn calls' ends' stack' k (open_call (take n (ahead s.source)) ∷ s.calls) =
-      subst (λ (t : Bytes). CallsIn calls' ends' stack' k (open_call (take n t) ∷ s.calls)) (ahead_lent r.source) h in
+      subst (λ (w : Bytes). CallsIn calls' ends' stack' k (open_call (take n w) ∷ s.calls)) (lent_is r.source e) h in
       rw (open_free (take n (ahead s.source)) (suc n) l f)
       (both_changed e-calls e-ends e-stack (open_call (take n (ahead s.source)) ∷ s.calls) (suc n) g (rw add-one at q))
 

@@ -1,11 +1,8 @@
 -- Laws of the macros that change the streams, and of the end of the run. Assumes nothing.
-use Rattle.rules.proofs.Base.{◌≤◌, ◌+◌, ℕ, ◌-◌, ◌<◌, suc, zero, ◌∙◌, refl, sym, ap, ◌≡◌, subst, ap₂, subst₂, true, Bool, false, ◌⊎◌, inl, inr, ⊎_elim, some, none, List, [], ◌++◌, ◌∷◌, append-nil, ℕ_discrete, arith, leb, pos, ℤ, negsuc, length, drop, take, get_or, length-append, length-drop, set, length-set, replicate, length-replicate, get_or-replicate, get_or-drop, get_or-set_same, get_or-set_other, leb-true, leb-false, lt-ltb}
+use Rattle.rules.proofs.Base.{◌≤◌, ◌+◌, ℕ, ◌-◌, ◌<◌, suc, zero, ◌∙◌, refl, sym, ap, ◌≡◌, subst, ap₂, subst₂, true, false, ◌⊎◌, inl, inr, ⊎_elim, Some, None, List, [], ◌++◌, ◌∷◌, append-nil, ℕ_discrete, arith, leb, pos, ℤ, length, drop, take, get_or, length-append, length-drop, set, length-set, replicate, length-replicate, get_or-replicate, get_or-drop, get_or-set_same, get_or-set_other, leb-false}
 use borrow.Rule.Slice.PartMut.{put_mid}
-use Rattle.numerals.specs.declared.Decimal.TheVariants as decimal
-use Rattle.numerals.specs.Answers.{decimal_of}
 use Rattle.rules.specs.declared.Answer.TheVariants as answer
 use Rattle.rules.specs.Bytes.{Bytes}
-use Rattle.rules.specs.Words.{signed_value}
 use Rattle.rules.specs.Answers.{done, ending_answer, no_number, fault_answer}
 use Rattle.rules.specs.Arguments.{number_or}
 use Rattle.rules.specs.Streams.{Streams, total_length, moved, moved_in_turn, joined, finished_streams, diverted, changed, changed_in_turn, discards}
@@ -23,11 +20,10 @@ use Rattle.expander.specs.Filled.{Filled}
 use Rattle.expander.specs.Front.{Front}
 use Rattle.expander.specs.Diverting.{all_named, turns, Idle, Seen}
 use Rattle.expander.specs.Machine.{Memory, Represents, Refines, stepped, sinks_set, sinks_at}
-use Rattle.expander.proofs.ArgumentLaws.{number_or_bits, decimal_none, decimal_some, bits_plain}
 use Rattle.expander.proofs.CallsLaws.{joined_total}
 use Rattle.expander.proofs.Waiting.{none_held, text_of, length_of_lem, nothing_out, nothing-moved}
 use Rattle.expander.proofs.FilledLaws.{filled_long, part_fills, front_more}
-use Rattle.expander.proofs.SinksLaws.{lost_is}
+use Rattle.expander.proofs.SinksLaws.{Waits, Current, goes_out, goes_behind, goes_lost, current_is}
 use Rattle.expander.proofs.StreamMoves.{moved_same, moved_to, moved_out, moved_lost, turn_on, turns_end}
 use Rattle.expander.proofs.Parted.{with_sinks}
 use Rattle.expander.proofs.Totals.{used_is}
@@ -45,23 +41,16 @@ module _
     (lost : P (record { output = u.output; waiting = set u.waiting (i - 1) []; current = u.current }))
   where
     pub moved_any : P (moved i u)
-    unfolding discards
-    moved_any = go u.current refl
+    moved_any = go (current_is u.current)
       where
-        high : (j : ℕ) (t : Bool) → leb (suc j) 9 ≡ t → u.current ≡ pos (suc j) → P (moved i u)
-        high j true q e = on (ℕ_discrete i (suc j))
-          where
-            on : Dec (i ≡ suc j) → P (moved i u)
-            on (yes d) = subst P (sym (moved_same i u (e ∙ ap pos (sym d)))) (same (e ∙ ap pos (sym d)))
-            on (no d) =
-                let k : IsStream (suc j) = record { low = omega arith; high = leb-true (suc j) 9 q } in
-                subst P (sym (moved_to i h u (suc j) e k d)) (to (suc j) e k d)
-        high j false q e = subst P (sym (moved_lost i h u (ap discards e ∙ lt-ltb 9 (suc j) (leb-false (suc j) 9 q)))) lost
+        on : (j : ℕ) → Waits u.current j → Dec (i ≡ j) → P (moved i u)
+        on j w (yes d) = let e : u.current ≡ pos i = w.is ∙ ap pos (sym d) in subst P (sym (moved_same i u e)) (same e)
+        on j w (no d) = subst P (sym (moved_to i h u j w.is w.stream d)) (to j w.is w.stream d)
 
-        go : (c : ℤ) → u.current ≡ c → P (moved i u)
-        go (pos zero) e = subst P (sym (moved_out i h u e)) (out e)
-        go (pos (suc j)) e = high j (leb (suc j) 9) refl e
-        go (negsuc n) e = subst P (sym (moved_lost i h u (ap discards e))) lost
+        go : Current u.current → P (moved i u)
+        go (goes_out e) = subst P (sym (moved_out i h u e)) (out e)
+        go (goes_behind j w) = on j w (ℕ_discrete i j)
+        go (goes_lost e) = subst P (sym (moved_lost i h u e)) lost
 
 -- ---- the output is no shorter then, it and what waits are no longer in all, and there are nine streams
 
@@ -193,15 +182,11 @@ written_more {output} {at} {t} h w v n e l r =
       filled_long f,
     )
 
--- the output is the current stream
-pub is_out : {streams : Bytes} {owners : List ℕ} {output : Bytes} {k : Sinks} {u : Streams} → SinksIn streams owners output k u → k.current ≡ 0 → u.current ≡ pos 0
-is_out m e = m.current ∙ ap signed_value e ∙ bits_plain 0 (omega arith)
-
 module _ {streams : Bytes} {owners : List ℕ} {output : Bytes} {k : Sinks} {u : Streams} (m : SinksIn streams owners output k u) (i : ℕ) (h : IsStream i) where
   -- to the output
-  module _ (e : k.current ≡ 0) where
+  module _ (e : k.current ≡ pos 0) where
     pub out_long : length (moved i u).output ≡ k.output + owned_count i (take k.waiting owners)
-    out_long = rw (moved_out i h u (is_out m e)) (omega (arith, length-append u.output (get_or u.waiting (i - 1) []), length_of_lem m.waiting i h, front_long m.written))
+    out_long = rw (moved_out i h u (m.current ∙ e)) (omega (arith, length-append u.output (get_or u.waiting (i - 1) []), length_of_lem m.waiting i h, front_long m.written))
 
     pub out_moves :
         {streams' : Bytes} {owners' : List ℕ} {kept : ℕ} (n : ℕ) → n ≡ owned_count i (take k.waiting owners) → (w : Bytes)
@@ -211,7 +196,7 @@ module _ {streams : Bytes} {owners : List ℕ} {output : Bytes} {k : Sinks} {u :
         let e-text : w ≡ get_or u.waiting (i - 1) [] = ew ∙ sym (text_of m.waiting i h) in
         let e-long : length w ≡ n = ap length e-text ∙ length_of_lem m.waiting i h ∙ sym en in
         let after = put_mid k.output (k.output + n - k.output) output w in
-        subst (λ (x : Streams). SinksIn streams' owners' after (record { current = k.current; waiting = kept; output = k.output + n }) x) (sym (moved_out i h u (is_out m e)))
+        subst (λ (x : Streams). SinksIn streams' owners' after (record { current = k.current; waiting = kept; output = k.output + n }) x) (sym (moved_out i h u (m.current ∙ e)))
         (record {
           waiting = g;
           written = (written_more m.written w (get_or u.waiting (i - 1) []) n e-text e-long (omega arith)).0;
@@ -220,26 +205,25 @@ module _ {streams : Bytes} {owners : List ℕ} {output : Bytes} {k : Sinks} {u :
 
   -- nowhere
   pub lost_moves :
-      {streams' : Bytes} {owners' : List ℕ} {kept : ℕ} → 9 < k.current → StreamsIn streams' owners' kept (set u.waiting (i - 1) [])
+      {streams' : Bytes} {owners' : List ℕ} {kept : ℕ} → discards k.current ≡ true → StreamsIn streams' owners' kept (set u.waiting (i - 1) [])
       → SinksIn streams' owners' output (record { current = k.current; waiting = kept; output = k.output }) (moved i u)
   lost_moves {streams'} {owners'} {kept} l g =
       subst (λ (x : Streams). SinksIn streams' owners' output (record { current = k.current; waiting = kept; output = k.output }) x)
-      (sym (moved_lost i h u (ap discards m.current ∙ lost_is k.current l))) (record { waiting = g; written = m.written; current = m.current })
+      (sym (moved_lost i h u (ap discards m.current ∙ l))) (record { waiting = g; written = m.written; current = m.current })
 
   -- behind the current stream, which is another or the same
-  module _ (f : k.current ≡ 0 → ⊥) (l : k.current ≤ 9) where
+  module _ {j : ℕ} (w : Waits k.current j) where
     pub stream_moves :
-        {streams' : Bytes} {owners' : List ℕ} → (i ≡ k.current → ⊥)
-        → (IsStream i → IsStream k.current → (i ≡ k.current → ⊥) → StreamsIn streams' owners' k.waiting (behind_stream i k.current u.waiting))
+        {streams' : Bytes} {owners' : List ℕ} → (i ≡ j → ⊥)
+        → (IsStream i → IsStream j → (i ≡ j → ⊥) → StreamsIn streams' owners' k.waiting (behind_stream i j u.waiting))
         → SinksIn streams' owners' output k (moved i u)
     stream_moves {streams'} {owners'} d g =
-        let j : IsStream k.current = record { low = omega arith; high = l } in
-        subst (λ (x : Streams). SinksIn streams' owners' output k x) (sym (moved_to i h u k.current (m.current ∙ bits_plain k.current (omega arith)) j d))
-        (record { waiting = g h j d; written = m.written; current = m.current })
+        subst (λ (x : Streams). SinksIn streams' owners' output k x) (sym (moved_to i h u j (m.current ∙ w.is) w.stream d))
+        (record { waiting = g h w.stream d; written = m.written; current = m.current })
 
-    pub same_moves : i ≡ k.current → SinksIn streams owners output k (moved i u)
+    pub same_moves : i ≡ j → SinksIn streams owners output k (moved i u)
     same_moves d =
-        subst (λ (x : Streams). SinksIn streams owners output k x) (sym (moved_same i u (m.current ∙ bits_plain k.current (omega arith) ∙ ap pos (sym d)))) m
+        subst (λ (x : Streams). SinksIn streams owners output k x) (sym (moved_same i u (m.current ∙ w.is ∙ ap pos (sym d)))) m
 
 -- a stream that was moved before
 pub seen_moves :
@@ -286,34 +270,33 @@ module _ {streams : Bytes} {owners : List ℕ} {output : Bytes} {k : Sinks} {see
 -- ---- divert
 
 module _ (args : List Bytes) (s : State) where
-  divert_none : number_or (pos 0) 1 args ≡ none → call_divert args s ≡ refused no_number
+  divert_none : number_or (pos 0) 1 args ≡ None → call_divert args s ≡ refused no_number
   unfolding call_divert
   divert_none e = rw (e, call_divert)
 
-  divert_some : (z : ℤ) → number_or (pos 0) 1 args ≡ some z → call_divert args s ≡ next (with_streams (diverted z s.streams) s)
+  divert_some : (z : ℤ) → number_or (pos 0) 1 args ≡ Some z → call_divert args s ≡ next (with_streams (diverted z s.streams) s)
   unfolding call_divert changing changed_in_turn changed
   divert_some z e = rw (e, call_divert)
 
 module _ {a : Setting} {b : Memory} {m : Machine} {s : State} (r : Represents a b m s) (args : List Bytes) where
-  pub divert_unread : decimal_of (number_or (pos 0) 1 args) ≡ decimal.NoNumber → Refines a b (call_divert args s) b (stepped (progress.Refused answer.Number) m)
+  pub divert_unread : number_or (pos 0) 1 args ≡ None → Refines a b (call_divert args s) b (stepped (progress.Refused answer.Number) m)
   unfolding fault_answer
-  divert_unread e = stepped_refused no_number (divert_none args s (decimal_none refl e)) refl
+  divert_unread e = stepped_refused no_number (divert_none args s e) refl
 
   pub divert_read :
-      (bits : ℕ) → decimal_of (number_or (pos 0) 1 args) ≡ decimal.Number bits
-      → Refines a b (call_divert args s) b (stepped progress.On (sinks_set (record { current = bits; waiting = m.sinks.waiting; output = m.sinks.output }) m))
+      (z : ℤ) → number_or (pos 0) 1 args ≡ Some z
+      → Refines a b (call_divert args s) b (stepped progress.On (sinks_set (record { current = z; waiting = m.sinks.waiting; output = m.sinks.output }) m))
   unfolding diverted
-  divert_read bits e =
-      let v = decimal_some refl bits e in
+  divert_read z e =
       stepped_on
       (with_sinks r
       (record {
         waiting = r.sinks.waiting;
         written = r.sinks.written;
-        current = sym (number_or_bits 0 1 args (omega arith) v.value (omega arith) v.is) ∙ ap signed_value (sym v.by_bits);
+        current = refl;
       })
       refl refl refl)
-      (divert_some args s v.value v.is) refl
+      (divert_some args s z e) refl
 
 -- ---- undivert
 

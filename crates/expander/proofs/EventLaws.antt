@@ -20,7 +20,7 @@ use Rattle.expander.specs.declared.machine.Machine.{Machine}
 use Rattle.expander.specs.declared.source.Position.{Position}
 use Rattle.expander.specs.declared.table.Meaning.{Meaning as Looked}
 use Rattle.expander.specs.declared.table.Meaning.TheVariants as looked
-use Rattle.expander.specs.Calls.{CallsIn, bit}
+use Rattle.expander.specs.Calls.{CallsIn}
 use Rattle.expander.specs.Events.{PlainWithin, SpecialWithin, EventWithin, PlainIs, SpecialIs, EventIs, NameFound}
 use Rattle.expander.specs.Machine.{Memory, Represents, ahead_of}
 use Rattle.expander.specs.Step.{by_role, HasRole, TokenWithin}
@@ -62,9 +62,9 @@ module _ {a : Setting} {b : Memory} {m : Machine} {s : State} (r : Represents a 
   emit_is z = e ∙ byte_none x (taking 1 s) (no_calls r z)
 
   -- the innermost call's depth of parentheses, whether it collected a token, and the byte's role by these
-  module _ {depth collected : ℕ} {g : Role}
+  module _ {depth : ℕ} {collected : Bool} {g : Role}
       (at : (bytes : Bytes) (ends : List ℕ) (c : Call) (cs : List Call) → CallsIn bytes ends b.stack m.calls (c ∷ cs) → depth ≡ c.depth)
-      (has : (bytes : Bytes) (ends : List ℕ) (c : Call) (cs : List Call) → CallsIn bytes ends b.stack m.calls (c ∷ cs) → collected ≡ bit c.collected)
+      (has : (bytes : Bytes) (ends : List ℕ) (c : Call) (cs : List Call) → CallsIn bytes ends b.stack m.calls (c ∷ cs) → collected ≡ c.collected)
       (h : HasRole x depth collected g) where
     call_step : {w : Role} → g ≡ w → (c : Call) (cs : List Call) → s.calls ≡ c ∷ cs → step s ≡ by_role w x c cs (taking 1 s)
     unfolding act taking with_source

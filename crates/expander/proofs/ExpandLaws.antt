@@ -1,6 +1,7 @@
 -- What a call of the expander makes of the run: what is lent, what is copied out, and what the five working buffers hold then.
 use Rattle.expander.specs.Limits.{most_lent}
-use Rattle.rules.proofs.Base.{◌≤◌, ℕ, suc, zero, ◌∙◌, refl, sym, ap, ◌≡◌, true, Bool, false, true≢false, some, none, Option, List, [], ◌++◌, ◌∷◌, arith, eqb, leb, length, drop, take, length-append, length-drop, replicate, length-take-le, take-append-le, ne_eqb, leb-true}
+use Rattle.rules.proofs.Base.{◌≤◌, ℕ, suc, zero, ◌∙◌, refl, sym, ap, ◌≡◌, true, Bool, false, true≢false, Some, None, Option, List, [], ◌++◌, ◌∷◌, arith, eqb, leb, length, drop, take, length-append, length-drop, replicate, length-take-le, take-append-le, ne_eqb, leb-true}
+use Rattle.std.specs.Option.{is_some}
 use Rattle.rules.specs.declared.Answer.TheVariants as answer
 use Rattle.rules.specs.declared.Report.{Report}
 use Rattle.rules.specs.Bytes.{Bytes}
@@ -12,7 +13,6 @@ use Rattle.rules.specs.Step.{step}
 use Rattle.rules.specs.Run.{Setting, Ended, ended_with, held, overfull, judged, continued, lengths, run_from, all_lendable, started}
 use Rattle.rules.specs.Contract.{Buffers, setting_of, report_of, errors_of, output_of, fronted, zeroed_by, left_by, run_in, Expanded}
 use Rattle.rules.proofs.Run.{run_lend, run_starts, fault_number}
-use Rattle.container.specs.Items.{is_good}
 use Rattle.expander.specs.Front.{Front}
 use Rattle.expander.specs.Machine.{memory, Limits}
 use Rattle.expander.specs.Run.{Ran, Wrote, Lent, LinkLengths, Zeroed}
@@ -113,28 +113,26 @@ wrote {errors} {output} x p q =
 -- the items of a good set
 pub record Items (set : Bytes) : Type 0 where
   pub items : List Item
-  pub are : set_items set ≡ some items
+  pub are : set_items set ≡ Some items
 
 module _ (set : Bytes) where
-  pub good_items : true ≡ is_good set → Items set
-  unfolding is_good
+  pub good_items : true ≡ is_some (set_items set) → Items set
   good_items e = go (set_items set) refl e
     where
-      go : (o : Option (List Item)) → set_items set ≡ o → true ≡ elim o [ none ↦ false | some is ↦ true ] → Items set
-      go none q h = absurd (true≢false h)
-      go (some is) q h = record { items = is; are = q }
+      go : (o : Option (List Item)) → set_items set ≡ o → true ≡ is_some o → Items set
+      go None q h = absurd (true≢false h)
+      go (Some is) q h = record { items = is; are = q }
 
-  bad_items : false ≡ is_good set → set_items set ≡ none
-  unfolding is_good
+  bad_items : false ≡ is_some (set_items set) → set_items set ≡ None
   bad_items e = go (set_items set) refl e
     where
-      go : (o : Option (List Item)) → set_items set ≡ o → false ≡ elim o [ none ↦ false | some is ↦ true ] → set_items set ≡ none
-      go none q h = q
-      go (some is) q h = absurd (true≢false (sym h))
+      go : (o : Option (List Item)) → set_items set ≡ o → false ≡ is_some o → set_items set ≡ None
+      go None q h = q
+      go (Some is) q h = absurd (true≢false (sym h))
 
   module _ (x : Start) (a : Setting) {errors output : Bytes} {r : Report} where
     -- it is not good: nothing is written
-    pub wrote_nothing : false ≡ is_good set → r ≡ record { answer = answer.BadSet; steps = 0; place = 0; output = 0; errors = 0 }
+    pub wrote_nothing : false ≡ is_some (set_items set) → r ≡ record { answer = answer.BadSet; steps = 0; place = 0; output = 0; errors = 0 }
         → Wrote (started (set_items set) x a) errors output errors output r
     unfolding started ended_with report_of output_of errors_of is_finished answer_number start_state source_of fronted
     wrote_nothing e f = rw (bad_items e) (record { report = f; errors_are = refl; output_are = refl })
@@ -162,8 +160,8 @@ run_not_lend ls zero k s = refl
 run_not_lend ls (suc n) k s = goes (λ t. run_not_lend ls n (suc k) t) (step s)
   where
     judges : (go : State → Ended) (t : State) (o : Option ℕ) → NotLend (go t) → NotLend (judged go k s t o)
-    judges go t none h = h
-    judges go t (some b) h = refl
+    judges go t None h = h
+    judges go t (Some b) h = refl
 
     goes : ((t : State) → NotLend (run_from ls n (suc k) t)) → (o : Outcome) → NotLend (continued ls (λ t. run_from ls n (suc k) t) k s o)
     goes more (next t) = judges (λ x. run_from ls n (suc k) x) t (overfull (held t) ls) (more t)
@@ -184,8 +182,8 @@ left_are e b a p c d s w r o = rw (sym p, sym c, sym d, sym s, sym w, sym r, sym
 
 started_not_lend : (o : Option (List Item)) (x : Start) (a : Setting) → NotLend (started o x a)
 unfolding started ended_with answer_number
-started_not_lend none x a = refl
-started_not_lend (some is) x a = run_not_lend (lengths a) a.budget 0 (start_state is x)
+started_not_lend None x a = refl
+started_not_lend (Some is) x a = run_not_lend (lengths a) a.budget 0 (start_state is x)
 
 module _ (text set : Bytes) (budget : ℕ) (b : Buffers) where
   ran_in : true ≡ all_lendable (length text ∷ lengths (setting_of b budget)) → run_in text set b budget ≡ started (set_items set) (fresh_start text set) (setting_of b budget)

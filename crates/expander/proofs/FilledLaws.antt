@@ -1,13 +1,12 @@
 -- A text written into a buffer at a place.
-use Rattle.rules.proofs.Base.{◌≤◌, ◌+◌, ℕ, ◌-◌, ◌∙◌, sym, ap, ◌≡◌, subst, Bool, List, [], ◌++◌, ◌∷◌, append_assoc, add-one, arith, length, drop, take, length-append, set, length-take, replicate, take-append-drop, length-replicate, length-take-le, drop-drop, drop_at, set_split}
+use Rattle.rules.proofs.Base.{◌≤◌, ◌+◌, ℕ, ◌-◌, ◌∙◌, sym, ap, ◌≡◌, subst, List, [], ◌++◌, ◌∷◌, append_assoc, add-one, arith, length, drop, take, length-append, set, length-take, replicate, take-append-drop, length-replicate, length-take-le, drop-drop, drop_at, set_split}
 use borrow.Rule.Slice.PartMut.{put_mid}
 use Rattle.rules.specs.Bytes.{Bytes}
-use Rattle.ascii.specs.Copied.{Copied}
 use Rattle.expander.specs.Filled.{Filled}
 use Rattle.expander.specs.Packed.{overlaid}
 use Rattle.expander.specs.Front.{Front}
 use Rattle.expander.proofs.Overwriting.{drop-overlaid, take-overlaid, length-overlaid}
-use Rattle.expander.proofs.Parts.{copied_whole, part_long}
+use Rattle.expander.proofs.Parts.{part_long}
 
 module _ {before : Bytes} {at : ℕ} {w after : Bytes} (f : Filled before at w after) where
   -- what stood in front still does, and the text stands behind it
@@ -28,11 +27,6 @@ module _ {before : Bytes} {at : ℕ} {w after : Bytes} (f : Filled before at w a
   pub filled_behind : (n : ℕ) → at + length w ≤ n → drop n after ≡ drop n before
   unfolding overlaid
   filled_behind n h = ap (drop n) f.is ∙ drop-overlaid at w before n f.fits h
-
--- as the functions that write over a list leave it
-pub overlaid_fills : (d w : Bytes) (a : ℕ) {after : Bytes} → a + length w ≤ length d → after ≡ overlaid a w d → Filled d a w after
-unfolding overlaid
-overlaid_fills d w a h e = record { fits = h; is = e }
 
 pub filled_nothing : (d : Bytes) (a : ℕ) → a ≤ length d → Filled d a [] d
 filled_nothing d a h =
@@ -75,7 +69,7 @@ byte_fills d a x h =
     let l : a + 1 ≤ length d = h in
     record { fits = omega arith; is = set_split d a x (omega arith) ∙ ap (λ (k : ℕ). take a d ++ (x ∷ drop k d)) (sym (add-one a)) }
 
--- as the two copying functions leave it: y is what the part of d from a on holds then
+-- as a copying function leaves it: y is what the part of d from a on holds then
 module _ (d y : Bytes) (a n : ℕ) (fits : a + n ≤ length d) where
   part_size : length (take (a + n - a) (drop a d)) ≡ n
   part_size = omega (arith, part_long d a (a + n) fits)
@@ -84,9 +78,6 @@ module _ (d y : Bytes) (a n : ℕ) (fits : a + n ≤ length d) where
   fills_front xs h e =
       let w : y ≡ take n xs = e ∙ ap (λ (k : ℕ). take k xs) part_size in
       rw w (part_fills d (take n xs) a (a + n) (omega (arith, length-take n xs)) fits)
-
-  pub fills_copy : {s : Bytes} {r : Bool} → length s ≡ n → Copied s (take (a + n - a) (drop a d)) r y → Filled d a s (put_mid a (a + n - a) d y)
-  fills_copy {s} h k = rw (copied_whole k (h ∙ sym part_size)) (part_fills d s a (a + n) (omega arith) fits)
 
 -- owners as they are marked
 pub owned_fills :

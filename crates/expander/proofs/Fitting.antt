@@ -1,20 +1,18 @@
 -- Laws of what undivert would add to the output, counted before anything is moved. Assumes nothing.
 use Rattle.rules.proofs.Base.{◌≤◌, ◌+◌, ℕ, ◌-◌, ◌<◌, suc, zero, ◌∙◌, refl, sym, ap, ◌≡◌, true, Bool, false, List, [], ◌∷◌, ℕ_discrete, arith, leb, pos, length, drop, take, get_or, length-append, set, length-set, length-take-le, get_or-set_same, get_or-set_other, le-leb, leb-true, lt-leb, leb-false}
 use Rattle.rules.specs.Bytes.{Bytes}
-use Rattle.rules.specs.Streams.{Streams, moved, moved_in_turn, discards}
+use Rattle.rules.specs.Streams.{Streams, moved, moved_in_turn}
 use Rattle.rules.proofs.StreamLaws.{moved_current}
 use Rattle.expander.specs.declared.sinks.Sinks.{Sinks}
 use Rattle.expander.specs.Streams.{IsStream, owned_count, Ten}
 use Rattle.expander.specs.Sinks.{SinksIn}
 use Rattle.expander.specs.Diverting.{Leaving}
-use Rattle.expander.proofs.ArgumentLaws.{bits_plain}
 use Rattle.expander.proofs.OwnedBytes.{owned_within}
 use Rattle.expander.proofs.Waiting.{length_of_lem}
-use Rattle.expander.proofs.SinksLaws.{lost_is}
 use Rattle.expander.proofs.StreamMoves.{moved_out, turn_on, turns_end}
 use Rattle.expander.proofs.Totals.{used_is}
 use Rattle.expander.proofs.MachineLaws.{front_long}
-use Rattle.expander.proofs.DivertingLaws.{moved_any, moved_nine, turns_sum, is_out}
+use Rattle.expander.proofs.DivertingLaws.{moved_any, moved_nine, turns_sum}
 
 -- ---- one stream
 
@@ -87,25 +85,14 @@ pub counts_most : (owners : List ℕ) (used : ℕ) {counts : List ℕ} → used 
 counts_most owners used l t i h = omega (arith, t.each i h, owned_within i (take used owners), length-take-le used owners l)
 
 module _ {streams : Bytes} {owners : List ℕ} {output : Bytes} {k : Sinks} {u : Streams} (m : SinksIn streams owners output k u) where
-  pub leaving_all : k.current ≡ 0 → {counts : List ℕ} → Ten (λ i. owned_count i (take k.waiting owners)) counts → Leaving counts u
+  pub leaving_all : k.current ≡ pos 0 → {counts : List ℕ} → Ten (λ i. owned_count i (take k.waiting owners)) counts → Leaving counts u
   leaving_all e t =
       record {
-        out = is_out m e;
+        out = m.current ∙ e;
         nine = m.waiting.nine;
         ten = t.ten;
         long = λ i h. length_of_lem m.waiting i h ∙ sym (t.each i (omega (arith, h.high)));
       }
-
-  elsewhere : (k.current ≡ 0 → ⊥) → u.current ≡ pos 0 → ⊥
-  unfolding discards
-  elsewhere f e = go (leb k.current 9) refl
-    where
-      go : (t : Bool) → leb k.current 9 ≡ t → ⊥
-      go true q = f (let z : pos k.current ≡ pos 0 = sym (bits_plain k.current (omega (arith, leb-true k.current 9 q))) ∙ sym m.current ∙ e in cc)
-      go false q =
-          let z : false ≡ true = ap discards (sym e ∙ m.current) ∙ lost_is k.current (leb-false k.current 9 q) in
-          let y : ◌≡◌ {A = ℕ} 0 1 = cc in
-          omega arith
 
   module _ (ns : List ℕ) where
     -- as was counted
@@ -123,6 +110,6 @@ module _ {streams : Bytes} {owners : List ℕ} {output : Bytes} {k : Sinks} {u :
           sym (le-leb (length (moved_in_turn ns u).output) (length output) (omega (arith, (turns_sum ns each u m.waiting.nine).1, used_is m.waiting, front_long m.written, m.written.inside)))
 
       -- where the output is not the current stream
-      pub fits_elsewhere : (k.current ≡ 0 → ⊥) → true ≡ leb (length (moved_in_turn ns u).output) (length output)
+      pub fits_elsewhere : (k.current ≡ pos 0 → ⊥) → true ≡ leb (length (moved_in_turn ns u).output) (length output)
       fits_elsewhere f =
-          sym (le-leb (length (moved_in_turn ns u).output) (length output) (omega (arith, ap length (turns_still ns each u (elsewhere f)), front_long m.written, m.written.inside)))
+          sym (le-leb (length (moved_in_turn ns u).output) (length output) (omega (arith, ap length (turns_still ns each u (λ e. f (sym m.current ∙ e))), front_long m.written, m.written.inside)))

@@ -1,43 +1,32 @@
 -- Results in front of the text ahead: refused where buffer 1 lacks room, else written just before the pending text.
-use Rattle.rules.proofs.Base.{◌≤◌, ◌+◌, ℕ, ◌-◌, ◌<◌, ◌∙◌, refl, sym, ap, ◌≡◌, subst, true, Bool, List, [], ◌++◌, arith, length, drop, take, get_or, length-append, eq-eqb}
+use Rattle.rules.proofs.Base.{◌≤◌, ◌+◌, ℕ, ◌-◌, ◌<◌, ◌∙◌, refl, ap, ◌≡◌, subst, true, false, Bool, List, [], ◌++◌, arith, length, drop, take, get_or, length-append, eq-eqb, leb, leb-true, leb-false}
 use borrow.Rule.Slice.PartMut.{put_mid}
+use Rattle.rules.specs.declared.Answer.{Answer}
 use Rattle.rules.specs.declared.Answer.TheVariants as answer
 use Rattle.rules.specs.Bytes.{Bytes}
-use Rattle.rules.specs.Answers.{Fault, fault_answer, no_number, no_text}
+use Rattle.rules.specs.Answers.{Fault, fault_answer}
 use Rattle.rules.specs.Marks.{MarkTexts}
 use Rattle.rules.specs.Source.{push_back}
 use Rattle.rules.specs.State.{State, Outcome, next, refused, resulting, with_source}
 use Rattle.rules.specs.Run.{Setting}
 use Rattle.rules.specs.Table.{Definition}
-use Rattle.rules.specs.Words.{signed_value}
-use Rattle.rules.specs.Numerals.{written_in}
 use Rattle.rules.specs.Arguments.{arg, commas, quoted_each, substituted}
-use Rattle.rules.specs.Results.{Result, yields, fails, defn_result, shift_result, transliterated, translit_result}
+use Rattle.rules.specs.Results.{Result as Given, yields, fails, defn_result, shift_result, transliterated, translit_result}
 use Rattle.rules.specs.Macros.{giving, call_defn, call_shift, call_translit}
-use Rattle.numerals.specs.Answers.{is_radix, length_of, Written}
-use Rattle.numerals.specs.declared.Length.{Length}
-use Rattle.numerals.specs.declared.Length.TheVariants as measured
+use Rattle.numerals.specs.Answers.{Written}
 use Rattle.matching.specs.Partners.{partner_table, replaced}
 use Rattle.matching.proofs.Partners.{table_puts}
-use Rattle.expander.specs.declared.arguments.Arguments.{Arguments}
-use Rattle.expander.specs.declared.part_results.PartResult.{PartResult}
-use Rattle.expander.specs.declared.part_results.PartResult.TheVariants as part_result
-use Rattle.expander.specs.declared.defn.DefnLength.TheVariants as defn_length
-use Rattle.expander.specs.declared.number_results.NumberResult.{NumberResult}
-use Rattle.expander.specs.declared.number_results.NumberResult.TheVariants as number-result
-use Rattle.expander.specs.declared.giving.Pushed.TheVariants as pushed
 use Rattle.expander.specs.declared.machine.Machine.{Machine}
 use Rattle.expander.specs.declared.machine.Stepped.{Stepped}
 use Rattle.expander.specs.declared.packed.Packed.{Packed}
 use Rattle.expander.specs.Limits.{most_lent}
-use Rattle.expander.specs.Arguments.{ArgumentsIn}
 use Rattle.expander.specs.Defn.{measured_as}
 use Rattle.expander.specs.Filled.{Filled}
-use Rattle.expander.specs.Giving.{pushed_step}
+use Rattle.expander.specs.Giving.{place_before, pushed_step}
 use Rattle.expander.specs.Machine.{Memory, memory, Represents, Refines}
-use Rattle.expander.specs.Results.{result_of_number, GoodRadix, Shows, result_of_part, PartInside, ShowsPart}
 use Rattle.expander.specs.Table.{rows, DefinitionsIn}
-use Rattle.expander.proofs.ArgumentLaws.{argument_bytes}
+use Rattle.std.specs.Prelude.{Result, Ok, Err}
+use Rattle.expander.specs.Results.{answered}
 use Rattle.expander.proofs.FilledLaws.{filled_long, filled_from, part_fills}
 use Rattle.expander.proofs.MachineLaws.{over_pending, refines_next, refines_room}
 use Rattle.expander.proofs.Packing.{string_fits}
@@ -53,15 +42,53 @@ pub refines_given : {a : Setting} {o : Outcome} {before b : Memory} {t t' : Step
 refines_given e g = refines_by refl e g
 
 -- it is refused
-pub giving_refused : {a : Setting} {o : Outcome} {b : Memory} {m : Machine} {s : State} → Represents a b m s → (f : Fault) → o ≡ refused f → Refines a b o b (pushed_step m (pushed.Refused (fault_answer f)))
+pub giving_refused : {a : Setting} {o : Outcome} {b : Memory} {m : Machine} {s : State} → Represents a b m s → (f : Fault) → o ≡ refused f → Refines a b o b (pushed_step m (Err (fault_answer f)))
 unfolding pushed_step
 giving_refused r f e = stepped_refused f e refl
 
+-- by the answer that refuses it
+pub giving_answered :
+    {a : Setting} {b : Memory} {m : Machine} {s : State} (v : Given) {x : Answer} → Represents a b m s → answered v ≡ Err x → Refines a b (giving v s) b (pushed_step m (Err x))
+unfolding answered giving
+giving_answered (yields w) r e = let z : ◌≡◌ {A = ℕ} 0 1 = cc in absurd (omega arith)
+giving_answered {a} {b} {m} {s} (fails f) {x} r e = let k : fault_answer f ≡ x = cc in subst (λ (y : Answer). Refines a b (refused f) b (pushed_step m (Err y))) k (giving_refused r f refl)
+
+-- by the text that it is
+pub giving_text : (v : Given) (s : State) {w : Bytes} → answered v ≡ Ok w → giving v s ≡ next (resulting w s)
+unfolding answered giving
+giving_text (yields w) s e = let k : w ≡ _ = cc in ap (λ (y : Bytes). next (resulting y s)) k
+giving_text (fails f) s e = let z : ◌≡◌ {A = ℕ} 0 1 = cc in absurd (omega arith)
+
 -- ---- a text of n bytes in front of the text ahead
 
--- the part of a buffer that it is written into
-pub gap_long : (d : Bytes) (from n : ℕ) → n ≤ from → from ≤ length d → length (take (from - (from - n)) (drop (from - n) d)) ≡ n
-gap_long d from n h k = omega (arith, part_long d (from - n) from k)
+-- where it begins, if there is room for it
+pub record At (from n at : ℕ) : Type 0 where
+  pub fits : n ≤ from
+  pub is : at ≡ from - n
+
+pub placed_at : (from n : ℕ) {at : ℕ} → place_before from n ≡ Ok at → At from n at
+unfolding place_before
+placed_at from n {at} e = go (leb n from) refl e
+  where
+    go : (t : Bool) → leb n from ≡ t → ◌≡◌ {A = Result ℕ Answer} (elim t [ true ↦ Ok (from - n) | false ↦ Err (answer.Room 1) ]) (Ok at) → At from n at
+    go true q f = record { fits = leb-true n from q; is = cc }
+    go false q f = let z : ◌≡◌ {A = ℕ} 0 1 = cc in absurd (omega arith)
+
+-- how long the part of a buffer is that it is written into
+pub gap_long : (d : Bytes) (from n : ℕ) {at : ℕ} → place_before from n ≡ Ok at → from ≤ length d → length (take (from - at) (drop at d)) ≡ n
+gap_long d from n {at} e k = let q = placed_at from n e in omega (arith, part_long d at from k, q.is, q.fits)
+
+pub record NoRoom (from n : ℕ) (x : Answer) : Type 0 where
+  pub over : from < n
+  pub is : x ≡ answer.Room 1
+
+pub placed_nowhere : (from n : ℕ) {x : Answer} → place_before from n ≡ Err x → NoRoom from n x
+unfolding place_before
+placed_nowhere from n {x} e = go (leb n from) refl e
+  where
+    go : (t : Bool) → leb n from ≡ t → ◌≡◌ {A = Result ℕ Answer} (elim t [ true ↦ Ok (from - n) | false ↦ Err (answer.Room 1) ]) (Err x) → NoRoom from n x
+    go true q f = let z : ◌≡◌ {A = ℕ} 0 1 = cc in absurd (omega arith)
+    go false q f = record { over = leb-false n from q; is = cc }
 
 module _
     {a : Setting} {text set pending calls : Bytes} {call_ends stack : List ℕ} {definitions : Bytes} {table_ends : List ℕ} {streams : Bytes} {owners : List ℕ}
@@ -75,102 +102,63 @@ module _
 
     -- there is no room for it
     pub giving_room :
-        m.source.from < n
+        {x : Answer} → place_before m.source.from n ≡ Err x
         → Refines a (memory text set pending calls call_ends stack definitions table_ends streams owners wrap errors output) (next (resulting w s))
-        (memory text set pending calls call_ends stack definitions table_ends streams owners wrap errors output) (pushed_step m (pushed.Refused (answer.Room 1)))
+        (memory text set pending calls call_ends stack definitions table_ends streams owners wrap errors output) (pushed_step m (Err x))
     unfolding pushed_step
-    giving_room h =
-        refines_room (resulting w s) 0 (over_pending a (resulting w s) (omega (arith, resulting_long, r.limits.pending, r.source.from_in)))
+    giving_room k =
+        let q = placed_nowhere m.source.from n k in
+        rw q.is (refines_room (resulting w s) 0 (over_pending a (resulting w s) (omega (arith, resulting_long, q.over, r.limits.pending, r.source.from_in))))
 
-    module _ (fits : n ≤ m.source.from) where
+    module _ {at : ℕ} (k : place_before m.source.from n ≡ Ok at) where
+      placed_lem : At m.source.from n at
+      placed_lem = placed_at m.source.from n k
+
       -- it stands there
       pub giving_front :
-          {before : Memory} {pending' : Bytes} {at : ℕ} → at ≡ m.source.from - n → length pending' ≡ length pending → drop at pending' ≡ w ++ drop m.source.from pending
+          {before : Memory} {pending' : Bytes} → length pending' ≡ length pending → drop at pending' ≡ w ++ drop m.source.from pending
           → Refines a before (next (resulting w s)) (memory text set pending' calls call_ends stack definitions table_ends streams owners wrap errors output)
-          (pushed_step m (pushed.At at))
+          (pushed_step m (Ok at))
       unfolding resulting pushed_step
-      giving_front {at = at} i l k = refines_next (with_source_lem r (pushed_back w at r.source (omega (arith, r.source.from_in)) k) l)
+      giving_front l g = refines_next (with_source_lem r (pushed_back w at r.source (omega (arith, r.source.from_in, placed_lem.is, placed_lem.fits)) g) l)
 
       -- it was written there, into the buffer
       pub giving_filled :
-          {before : Memory} {pending' : Bytes} → Filled pending (m.source.from - n) w pending'
+          {before : Memory} {pending' : Bytes} → Filled pending at w pending'
           → Refines a before (next (resulting w s)) (memory text set pending' calls call_ends stack definitions table_ends streams owners wrap errors output)
-          (pushed_step m (pushed.At (m.source.from - n)))
+          (pushed_step m (Ok at))
       giving_filled f =
-          let k : m.source.from - n + length w ≡ m.source.from = omega arith in
-          giving_front refl (filled_long f) (filled_from f ∙ ap (λ (i : ℕ). w ++ drop i pending) k)
+          let l : at + length w ≡ m.source.from = omega (arith, placed_lem.is, placed_lem.fits) in
+          giving_front (filled_long f) (filled_from f ∙ ap (λ (i : ℕ). w ++ drop i pending) l)
 
       -- or into the part of it that ends before the pending text
       pub giving_part :
           {before : Memory} {y : Bytes} → y ≡ w
           → Refines a before (next (resulting w s))
-          (memory text set (put_mid (m.source.from - n) (m.source.from - (m.source.from - n)) pending y) calls call_ends stack definitions table_ends streams owners wrap errors output)
-          (pushed_step m (pushed.At (m.source.from - n)))
+          (memory text set (put_mid at (m.source.from - at) pending y) calls call_ends stack definitions table_ends streams owners wrap errors output)
+          (pushed_step m (Ok at))
       giving_part {y = y} f =
-          giving_filled (rw f (part_fills pending w (m.source.from - n) m.source.from (omega arith) r.source.from_in))
+          giving_filled (rw f (part_fills pending w at m.source.from (omega (arith, placed_lem.is, placed_lem.fits)) r.source.from_in))
 
 -- ---- what a result comes to
 
-pub giving_yields : {v : Result} {w : Bytes} (s : State) → v ≡ yields w → giving v s ≡ next (resulting w s)
+pub giving_yields : {v : Given} {w : Bytes} (s : State) → v ≡ yields w → giving v s ≡ next (resulting w s)
 unfolding giving
 giving_yields s e = rw e refl
 
-pub giving_fails : {v : Result} {f : Fault} (s : State) → v ≡ fails f → giving v s ≡ refused f
+pub giving_fails : {v : Given} {f : Fault} (s : State) → v ≡ fails f → giving v s ≡ refused f
 unfolding giving
 giving_fails s e = rw e refl
-
--- ---- a number
-
-module _ (radix : ℕ) (w : Bytes) {l : Length} (e : l ≡ length_of radix w) (g : is_radix radix ≡ true) where
-  measured_good : l ≡ measured.Bytes (length w)
-  unfolding length_of
-  measured_good = rw (g, length_of) at e
-
-  -- in a good radix it has a length
-  pub number_long : {n : ℕ} → l ≡ measured.Bytes n → length w ≡ n
-  number_long h = cc measured_good
-
-  pub number_measured : l ≡ measured.BadRadix → ⊥
-  number_measured h = let z : ◌≡◌ {A = ℕ} 0 1 = cc measured_good in omega arith
 
 -- written into a slice of its length
 pub number-written : {good r : Bool} {w before after : Bytes} → Written good w before r after → good ≡ true → length w ≡ length before → after ≡ w
 number-written {w} {before} k g l = rw (g, eq-eqb (length w) (length before) l) at k.written
 
--- the result that it stands for
-pub number_result_fails : {v : Result} {f g : NumberResult} {x : Fault} → Shows v f → f ≡ g → result_of_number g ≡ fails x → v ≡ fails x
-number_result_fails h e k = h.is ∙ ap result_of_number e ∙ k
-
-pub number_result_yields : {v : Result} {f : NumberResult} {bits radix least : ℕ} → Shows v f → f ≡ number-result.Number bits radix least → v ≡ yields (written_in radix least (signed_value bits))
-unfolding result_of_number
-number_result_yields h e = h.is ∙ ap result_of_number e
-
-pub number_result_radix : {v : Result} {f : NumberResult} {bits radix least : ℕ} → Shows v f → f ≡ number-result.Number bits radix least → is_radix radix ≡ true
-unfolding GoodRadix
-number_result_radix h e = rw e at h.radix
-
--- ---- a part of a buffer
-
-pub part_result_inside : (bytes : Bytes) {c : PartResult} {start end : ℕ} → PartInside bytes c → c ≡ part_result.Part start end → (start ≤ end) × (end ≤ length bytes)
-unfolding PartInside
-part_result_inside bytes h e = rw e at h
-
-pub part_result_yields : {bytes : Bytes} {v : Result} {c : PartResult} {start end : ℕ} → ShowsPart bytes v c → c ≡ part_result.Part start end → v ≡ yields (take (end - start) (drop start bytes))
-unfolding result_of_part
-part_result_yields {bytes} h e = h.is ∙ ap (result_of_part bytes) e
-
-pub part_result_fails : {bytes : Bytes} {v : Result} {c : PartResult} → ShowsPart bytes v c → c ≡ part_result.NoNumber → v ≡ fails no_number
-unfolding result_of_part
-part_result_fails {bytes} h e = h.is ∙ ap (result_of_part bytes) e
-
 -- ---- the macros
 
 -- the table of translit's second and third arguments replaces a text as the rules do
-pub table_is : {bytes : Bytes} {ends : List ℕ} {x : Arguments} {args : List Bytes} → ArgumentsIn bytes ends x args → ((i : ℕ) → get_or bytes i 0 < 256)
-    → {y z t : Bytes} → y ≡ arg 2 args → z ≡ arg 3 args → t ≡ partner_table y z → (w : Bytes) → replaced t w ≡ transliterated y z w
-table_is h b {y} {z} {t} e f g w =
-    ap (λ (u : Bytes). replaced u w) g
-    ∙ table_puts y z (λ i. subst (λ (v : Bytes). get_or v i 0 < 256) (sym e) (argument_bytes h b 2 (omega arith) i)) (λ i. subst (λ (v : Bytes). get_or v i 0 < 256) (sym f) (argument_bytes h b 3 (omega arith) i)) w
+pub table_is : (y z : Bytes) {t : Bytes} → ((i : ℕ) → get_or y i 0 < 256) → ((i : ℕ) → get_or z i 0 < 256) → t ≡ partner_table y z → (w : Bytes) → replaced t w ≡ transliterated y z w
+table_is y z b d g w = ap (λ (u : Bytes). replaced u w) g ∙ table_puts y z b d w
 
 module _ (s : State) (args : List Bytes) where
   pub translit_refines : {x y z : Bytes} → x ≡ arg 1 args → y ≡ arg 2 args → z ≡ arg 3 args → call_translit args s ≡ next (resulting (transliterated y z x) s)
@@ -186,13 +174,9 @@ module _ (s : State) (args : List Bytes) where
     unfolding giving
     text_refines name f = rw (e, f) refl
 
-    pub defn_refines : {w : Bytes} → defn_result k s.table args ≡ yields w → call_defn args s ≡ next (resulting w s)
+    pub defn_refines : call_defn args s ≡ giving (defn_result k s.table args) s
     unfolding call_defn
-    defn_refines h = giving_yields s (ap (λ (x : MarkTexts). defn_result x s.table args) e ∙ h)
-
-    pub defn_refused : defn_result k s.table args ≡ fails no_text → call_defn args s ≡ refused no_text
-    unfolding call_defn
-    defn_refused h = giving_fails s (ap (λ (x : MarkTexts). defn_result x s.table args) e ∙ h)
+    defn_refines = ap (λ (x : MarkTexts). giving (defn_result x s.table args) s) e
 
 -- the text of a definition is no longer than its buffer
 pub text_short :
@@ -202,12 +186,17 @@ text_short h k l e = omega (arith, ap length e, string_fits h.packs k l, h.packs
 
 -- ---- a result of defn by its length
 
-pub record Measured (v : Result) (n : ℕ) : Type 0 where
+pub record Measured (v : Given) (n : ℕ) : Type 0 where
   pub text : Bytes
   pub is : v ≡ yields text
   pub long : length text ≡ n
 
-pub defn_measured : (v : Result) (n : ℕ) → measured_as v ≡ defn_length.Bytes n → Measured v n
+pub defn_measured : (v : Given) (n : ℕ) → measured_as v ≡ Ok n → Measured v n
 unfolding measured_as
 defn_measured (yields w) n e = record { text = w; is = refl; long = cc }
 defn_measured (fails f) n e = let z : ◌≡◌ {A = ℕ} 0 1 = cc in absurd (omega arith)
+
+pub defn_unmeasured : (v : Given) {x : Answer} → measured_as v ≡ Err x → answered v ≡ Err x
+unfolding measured_as answered
+defn_unmeasured (yields w) e = let z : ◌≡◌ {A = ℕ} 0 1 = cc in absurd (omega arith)
+defn_unmeasured (fails f) e = let k : fault_answer f ≡ _ = cc in ap Err k

@@ -13,6 +13,7 @@ pub mod DeliveringLaws
 pub mod DivertingLaws
 pub mod EventLaws
 pub mod ExpandLaws
+pub mod FieldLaws
 pub mod FilledLaws
 pub mod Fitting
 pub mod GivingLaws

@@ -1,17 +1,17 @@
 -- Laws of arguments joined by a byte, each between quote marks: how long they are, and how they are written one behind the other. Assumes nothing.
-use Rattle.rules.proofs.Base.{◌≤◌, ◌+◌, ℕ, ◌-◌, ◌<◌, suc, ◌*◌, ◌∙◌, refl, sym, ap, ◌≡◌, subst, List, [], ◌++◌, ◌∷◌, append_assoc, append-nil, add-mul, mul-le-mul, add-one, arith, length, drop, take, length-append, length-drop, set, drop_of_length-le, take-append-drop, drop-cons, drop-drop}
+use Rattle.rules.proofs.Base.{◌≤◌, ◌+◌, ℕ, ◌-◌, ◌<◌, suc, ◌*◌, ◌∙◌, refl, sym, ap, ◌≡◌, subst, List, [], ◌++◌, ◌∷◌, append_assoc, append-nil, add-mul, mul-le-mul, add-one, arith, length, drop, take, length-append, length-drop, drop_of_length-le, take-append-drop, drop-cons, drop-drop}
 use Rattle.rules.specs.Bytes.{Bytes}
 use Rattle.rules.specs.declared.Marks.{Marks}
 use Rattle.rules.specs.Marks.{MarkTexts, mark_text, mark_texts, quoted}
 use Rattle.rules.specs.Streams.{joined}
 use Rattle.rules.specs.Arguments.{arg, separated, quoted_each}
-use Rattle.expander.specs.declared.arguments.Arguments.{Arguments}
+use Rattle.expander.specs.declared.argument_strings.Arguments.{Arguments}
 use Rattle.expander.specs.Limits.{most_lent, call_ends_length}
 use Rattle.expander.specs.Filled.{Filled}
 use Rattle.expander.specs.Packed.{start_of}
-use Rattle.expander.specs.Arguments.{ArgumentsIn, ShortQuotes}
-use Rattle.expander.proofs.ArgumentLaws.{arg_next, arguments_counted}
-use Rattle.expander.proofs.FilledLaws.{filled_long, filled_nothing, filled_then, filled_next, byte_fills}
+use Rattle.expander.specs.Arguments.{ShortQuotes}
+use Rattle.expander.proofs.ArgumentLaws.{ArgumentsIn, arg_next, arguments_counted}
+use Rattle.expander.proofs.FilledLaws.{filled_long, filled_nothing, filled_then, filled_next}
 use Rattle.expander.proofs.MarkPlaces.{mark_length}
 use Rattle.expander.proofs.Packing.{joined-append, used_is, start_is, start_in_lem}
 
@@ -47,11 +47,6 @@ module _ {m : Marks} (q : QuotesAre m) (w : Bytes) where
   unfolding quoted mark_texts
   quoted_fills f e g k = filled_next f (omega (arith, q.begin_is)) (filled_then g k)
 
--- the same behind a byte: v is the n-th argument, as it was read
-pub next_fills : (d : Bytes) (at gap : ℕ) (m : MarkTexts) {v w after : Bytes} → at + 1 ≤ length d → v ≡ w → Filled (set d at gap) (at + 1) (quoted m v) after
-    → Filled d at (gap ∷ quoted m w) after
-next_fills d at gap m {after = after} h e f = filled_next (byte_fills d at gap h) (omega arith) (subst (λ (y : Bytes). Filled (set d at gap) (at + 1) (quoted m y) after) e f)
-
 -- how long texts are, joined
 separated_long : (gap : ℕ) (ws : List Bytes) → length (separated gap ws) ≡ length (joined ws) + (length ws - 1)
 unfolding separated joined
@@ -80,14 +75,14 @@ pub record Measured (used start n q : ℕ) : Type 0 where
   pub short : used ≤ most_lent
   pub marked : n * q ≤ 3200
 
-module _ {bytes : Bytes} {ends : List ℕ} {x : Arguments} {args : List Bytes} (h : ArgumentsIn bytes ends x args) (m : MarkTexts) (gap skip : ℕ) where
+module _ {x : Arguments} {args : List Bytes} (h : ArgumentsIn x args) (m : MarkTexts) (gap skip : ℕ) where
   -- no argument stands behind the first `skip`
   pub list_none : length args ≤ skip → separated gap (quoted_each m (drop skip args)) ≡ []
   unfolding separated quoted_each
   list_none le = rw (drop_of_length-le args le)
 
   -- how long those are that do: the strings from a place on have all bytes but those before it
-  rest_long : x.base + skip ≤ x.strings.count → length (joined (drop skip args)) ≡ x.strings.used - start_of ends (x.base + skip)
+  rest_long : x.base + skip ≤ x.strings.count → length (joined (drop skip args)) ≡ x.strings.used - start_of x.ends.now (x.base + skip)
   rest_long le =
       let s = h.strings in
       let k = x.base + skip in
@@ -104,7 +99,7 @@ module _ {bytes : Bytes} {ends : List ℕ} {x : Arguments} {args : List Bytes} (
 
   -- the numbers that are added up are small
   pub list_measured :
-      (n start q : ℕ) → n ≡ x.strings.count - x.base - skip → x.base + skip ≤ x.strings.count → start ≡ start_of ends (x.base + skip) → q ≤ 10
+      (n start q : ℕ) → n ≡ x.strings.count - x.base - skip → x.base + skip ≤ x.strings.count → start ≡ start_of x.ends.now (x.base + skip) → q ≤ 10
       → Measured x.strings.used start n q
   list_measured n start q en le es eq =
       let hn : n ≤ call_ends_length = omega (arith, h.few) in
@@ -116,7 +111,7 @@ module _ {bytes : Bytes} {ends : List ℕ} {x : Arguments} {args : List Bytes} (
       }
 
   pub list_long :
-      (n start q : ℕ) → n ≡ x.strings.count - x.base - skip → x.base + skip ≤ x.strings.count → start ≡ start_of ends (x.base + skip)
+      (n start q : ℕ) → n ≡ x.strings.count - x.base - skip → x.base + skip ≤ x.strings.count → start ≡ start_of x.ends.now (x.base + skip)
       → q ≡ length m.begin_quote + length m.end_quote → x.strings.used - start + (n - 1) + n * q ≡ length (separated gap (quoted_each m (drop skip args)))
   list_long n start q en le es eq =
       let c : n ≡ length (drop skip args) = omega (arith, length-drop skip args, arguments_counted h) in
@@ -183,9 +178,6 @@ module _ {before : Bytes} {at : ℕ} {whole after : Bytes} {to : ℕ} {left : By
     is = w.is ∙ rw e (sym (append_assoc w.done v more));
     room = w.room;
   }
-
-  pub writing_long : length after ≡ length before
-  writing_long = filled_long w.filled
 
   pub written_all : left ≡ [] → Filled before at whole after
   written_all e = rw (w.is, e, append-nil) w.filled

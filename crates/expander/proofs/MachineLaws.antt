@@ -1,5 +1,5 @@
 -- What the memory and the machine represent: which calls are open, that it fits its buffers, which buffer a step would overfill, and what a step gives. Assumes nothing.
-use Rattle.rules.proofs.Base.{◌≤◌, ◌+◌, ℕ, ◌<◌, ◌∙◌, refl, sym, ap, ◌≡◌, some, none, List, [], ◌∷◌, arith, length, length-take-le}
+use Rattle.rules.proofs.Base.{◌≤◌, ◌+◌, ℕ, ◌<◌, ◌∙◌, refl, sym, ap, ◌≡◌, Some, None, List, [], ◌∷◌, arith, length, length-take-le}
 use Rattle.rules.specs.declared.Answer.TheVariants as answer
 use Rattle.rules.specs.Bytes.{Bytes}
 use Rattle.rules.specs.Answers.{Ending, ending_answer, Fault, fault_answer}
@@ -71,7 +71,7 @@ module _ {a : Setting} {b : Memory} {m : Machine} {s : State} (r : Represents a 
 
 -- ---- the seven counts against the seven lengths: nothing is overfull, or one buffer is and those before it fit
 
-nothing_over : overfull [] [] ≡ none
+nothing_over : overfull [] [] ≡ None
 unfolding overfull
 nothing_over = refl
 
@@ -79,56 +79,56 @@ module _ (a : Setting) (t : State) where
   pub all_fit :
       length t.source.pending ≤ a.pending → calls_cost t.calls ≤ a.calls → table_cost t.table.definitions ≤ a.definitions
       → total_length t.streams.waiting ≤ a.streams → length t.wrap ≤ a.wrap → length t.errors ≤ a.errors
-      → length t.streams.output ≤ a.output → overfull (held t) (lengths a) ≡ none
+      → length t.streams.output ≤ a.output → overfull (held t) (lengths a) ≡ None
   unfolding held lengths plus_one
   all_fit p c d s w e o =
-      fits_then _ _ _ _ none p (fits_then _ _ _ _ none c (fits_then _ _ _ _ none d (fits_then _ _ _ _ none s (fits_then _ _ _ _ none w
-      (fits_then _ _ _ _ none e (fits_then _ _ _ _ none o nothing_over))))))
+      fits_then _ _ _ _ None p (fits_then _ _ _ _ None c (fits_then _ _ _ _ None d (fits_then _ _ _ _ None s (fits_then _ _ _ _ None w
+      (fits_then _ _ _ _ None e (fits_then _ _ _ _ None o nothing_over))))))
 
-  pub over_pending : a.pending < length t.source.pending → overfull (held t) (lengths a) ≡ some 0
+  pub over_pending : a.pending < length t.source.pending → overfull (held t) (lengths a) ≡ Some 0
   unfolding held lengths
   over_pending h = overflows _ _ _ _ h
 
   module _ (p : length t.source.pending ≤ a.pending) where
-    pub over_calls : a.calls < calls_cost t.calls → overfull (held t) (lengths a) ≡ some 1
+    pub over_calls : a.calls < calls_cost t.calls → overfull (held t) (lengths a) ≡ Some 1
     unfolding held lengths plus_one
-    over_calls h = fits_then _ _ _ _ (some 0) p (overflows _ _ _ _ h)
+    over_calls h = fits_then _ _ _ _ (Some 0) p (overflows _ _ _ _ h)
 
     module _ (c : calls_cost t.calls ≤ a.calls) where
-      pub over_table : a.definitions < table_cost t.table.definitions → overfull (held t) (lengths a) ≡ some 2
+      pub over_table : a.definitions < table_cost t.table.definitions → overfull (held t) (lengths a) ≡ Some 2
       unfolding held lengths plus_one
-      over_table h = fits_then _ _ _ _ (some 1) p (fits_then _ _ _ _ (some 0) c (overflows _ _ _ _ h))
+      over_table h = fits_then _ _ _ _ (Some 1) p (fits_then _ _ _ _ (Some 0) c (overflows _ _ _ _ h))
 
       module _ (d : table_cost t.table.definitions ≤ a.definitions) where
-        pub over_streams : a.streams < total_length t.streams.waiting → overfull (held t) (lengths a) ≡ some 3
+        pub over_streams : a.streams < total_length t.streams.waiting → overfull (held t) (lengths a) ≡ Some 3
         unfolding held lengths plus_one
-        over_streams h = fits_then _ _ _ _ (some 2) p (fits_then _ _ _ _ (some 1) c (fits_then _ _ _ _ (some 0) d (overflows _ _ _ _ h)))
+        over_streams h = fits_then _ _ _ _ (Some 2) p (fits_then _ _ _ _ (Some 1) c (fits_then _ _ _ _ (Some 0) d (overflows _ _ _ _ h)))
 
         module _ (s : total_length t.streams.waiting ≤ a.streams) where
-          pub over_wrap : a.wrap < length t.wrap → overfull (held t) (lengths a) ≡ some 4
+          pub over_wrap : a.wrap < length t.wrap → overfull (held t) (lengths a) ≡ Some 4
           unfolding held lengths plus_one
           over_wrap h =
-              fits_then _ _ _ _ (some 3) p
-              (fits_then _ _ _ _ (some 2) c (fits_then _ _ _ _ (some 1) d (fits_then _ _ _ _ (some 0) s (overflows _ _ _ _ h))))
+              fits_then _ _ _ _ (Some 3) p
+              (fits_then _ _ _ _ (Some 2) c (fits_then _ _ _ _ (Some 1) d (fits_then _ _ _ _ (Some 0) s (overflows _ _ _ _ h))))
 
           module _ (w : length t.wrap ≤ a.wrap) where
-            pub over_errors : a.errors < length t.errors → overfull (held t) (lengths a) ≡ some 5
+            pub over_errors : a.errors < length t.errors → overfull (held t) (lengths a) ≡ Some 5
             unfolding held lengths plus_one
             over_errors h =
-                fits_then _ _ _ _ (some 4) p
-                (fits_then _ _ _ _ (some 3) c
-                (fits_then _ _ _ _ (some 2) d (fits_then _ _ _ _ (some 1) s (fits_then _ _ _ _ (some 0) w (overflows _ _ _ _ h)))))
+                fits_then _ _ _ _ (Some 4) p
+                (fits_then _ _ _ _ (Some 3) c
+                (fits_then _ _ _ _ (Some 2) d (fits_then _ _ _ _ (Some 1) s (fits_then _ _ _ _ (Some 0) w (overflows _ _ _ _ h)))))
 
-            pub over_output : length t.errors ≤ a.errors → a.output < length t.streams.output → overfull (held t) (lengths a) ≡ some 6
+            pub over_output : length t.errors ≤ a.errors → a.output < length t.streams.output → overfull (held t) (lengths a) ≡ Some 6
             unfolding held lengths plus_one
             over_output e h =
-                fits_then _ _ _ _ (some 5) p
-                (fits_then _ _ _ _ (some 4) c
-                (fits_then _ _ _ _ (some 3) d
-                (fits_then _ _ _ _ (some 2) s (fits_then _ _ _ _ (some 1) w (fits_then _ _ _ _ (some 0) e (overflows _ _ _ _ h))))))
+                fits_then _ _ _ _ (Some 5) p
+                (fits_then _ _ _ _ (Some 4) c
+                (fits_then _ _ _ _ (Some 3) d
+                (fits_then _ _ _ _ (Some 2) s (fits_then _ _ _ _ (Some 1) w (fits_then _ _ _ _ (Some 0) e (overflows _ _ _ _ h))))))
 
 -- what is represented fits
-pub represents_fits : {a : Setting} {b : Memory} {m : Machine} {s : State} → Represents a b m s → overfull (held s) (lengths a) ≡ none
+pub represents_fits : {a : Setting} {b : Memory} {m : Machine} {s : State} → Represents a b m s → overfull (held s) (lengths a) ≡ None
 represents_fits {a} {s} r =
     all_fit a s (pending_fits r) (calls_fit r) (table_fits r) (streams_fit r) (wrap_fits r) (errors_fit r) (output_fits r)
 
@@ -149,11 +149,11 @@ module _ {a : Setting} {b : Memory} where
   refines_refused f = record { follows = rw (verdict_refused (lengths a) f) (refl, refl) }
 
   pub refines_room :
-      {m : Machine} (t : State) (k : ℕ) → overfull (held t) (lengths a) ≡ some k → Refines a b (next t) b (record { progress = progress.Refused (answer.Room (k + 1)); machine = m })
+      {m : Machine} (t : State) (k : ℕ) → overfull (held t) (lengths a) ≡ Some k → Refines a b (next t) b (record { progress = progress.Refused (answer.Room (k + 1)); machine = m })
   unfolding Follows
   refines_room t k e = record { follows = rw (verdict_room (lengths a) t k e) (ap (λ (n : ℕ). progress.Refused (answer.Room n)) (omega arith), refl) }
 
   pub refines_stop_room :
-      {m : Machine} (e : Ending) (t : State) (k : ℕ) → overfull (held t) (lengths a) ≡ some k → Refines a b (stop e t) b (record { progress = progress.Refused (answer.Room (k + 1)); machine = m })
+      {m : Machine} (e : Ending) (t : State) (k : ℕ) → overfull (held t) (lengths a) ≡ Some k → Refines a b (stop e t) b (record { progress = progress.Refused (answer.Room (k + 1)); machine = m })
   unfolding Follows
   refines_stop_room e t k q = record { follows = rw (verdict_stop_room (lengths a) e t k q) (ap (λ (n : ℕ). progress.Refused (answer.Room n)) (omega arith), refl) }

@@ -1,17 +1,14 @@
 -- Laws of the predefined macros: what a function gives and asks that is lent parts.
-use Rattle.rules.proofs.Base.{◌∙◌, sym, ap, ◌≡◌, subst, List, ℤ}
+use Rattle.rules.proofs.Base.{◌∙◌, sym, ap, ◌≡◌, List}
 use Rattle.rules.specs.declared.Answer.TheVariants as answer
 use Rattle.rules.specs.Bytes.{Bytes}
 use Rattle.rules.specs.Answers.{gone, fault_answer}
 use Rattle.rules.specs.State.{State, Outcome, refused}
 use Rattle.rules.specs.Run.{Setting}
-use Rattle.rules.specs.Results.{divnum_result}
-use Rattle.expander.specs.declared.number_results.NumberResult.{NumberResult}
 use Rattle.expander.specs.declared.machine.Machine.{Machine}
 use Rattle.expander.specs.declared.machine.Stepped.{Stepped}
 use Rattle.expander.specs.declared.machine.Progress.TheVariants as progress
 use Rattle.expander.specs.Machine.{Memory, Represents, Refines, Valid, ValidAt, stepped}
-use Rattle.expander.specs.Results.{Shows}
 use Rattle.expander.proofs.MachineLaws.{refines_refused}
 use Rattle.expander.proofs.SteppedLaws.{refines_as, refines_with}
 
@@ -38,7 +35,3 @@ pub refines_told :
     {M : Type 0} (call : M → List Bytes → State → Outcome) {a : Setting} {before b : Memory} {t : Stepped} {r x y : M} → r ≡ x → r ≡ y → (args : List Bytes) (s : State)
     → Refines a before (call x args s) b t → Refines a before (call y args s) b t
 refines_told {M} call e f args s g = refines_as (ap (λ (z : M). call z args s) (sym f ∙ e)) g
-
--- the number of the current stream
-pub shows_current : {x y : ℤ} {f : NumberResult} → x ≡ y → Shows (divnum_result y) f → Shows (divnum_result x) f
-shows_current {f = f} e h = subst (λ (z : ℤ). Shows (divnum_result z) f) (sym e) h

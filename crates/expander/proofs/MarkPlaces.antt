@@ -1,12 +1,10 @@
 -- Laws of marks, and of a text that stands at a place. Assumes nothing.
-use Rattle.rules.proofs.Base.{◌≤◌, ◌+◌, ℕ, ◌<◌, suc, ◌∙◌, refl, sym, ap, ◌≡◌, subst, true, Bool, false, true≢false, [], ◌∷◌, add-one, arith, eqb, leb, ltb, length, drop, get_or, length-drop, drop_of_length-le, length-take-le, drop-cons, get_or-take, get_or-drop, eq-eqb, ne_eqb, leb-true, leb-false, ltb-true, ltb-false}
+use Rattle.rules.proofs.Base.{◌≤◌, ◌+◌, ℕ, ◌<◌, suc, ◌∙◌, refl, sym, ap, ◌≡◌, true, Bool, false, true≢false, [], ◌∷◌, add-one, arith, eqb, leb, ltb, length, drop, get_or, length-drop, drop_of_length-le, length-take-le, drop-cons, get_or-take, get_or-drop, eq-eqb, ne_eqb, leb-true, leb-false, ltb-true, ltb-false}
 use Rattle.rules.specs.declared.Mark.{Mark}
 use Rattle.rules.specs.Bytes.{Bytes}
 use Rattle.rules.specs.Marks.{mark_text}
 use Rattle.rules.specs.Tokens.{begins_with, at_mark}
-use Rattle.expander.specs.declared.tokens.Met.{Met}
-use Rattle.expander.specs.declared.tokens.Met.TheVariants.{First, Second, Neither}
-use Rattle.expander.specs.Tokens.{FullMark, MarkLength, met_by, met_at}
+use Rattle.expander.specs.Tokens.{FullMark, MarkLength}
 
 -- the bytes of a mark
 module _ (m : Mark) where
@@ -102,43 +100,5 @@ at_one m s i h e = at_begins m (drop i s) (omega arith) ∙ go (ltb i (length s)
 pub mark_room : (m text : Bytes) (i : ℕ) → i ≤ length text → begins_with m (drop i text) ≡ true → i + length m ≤ length text
 mark_room m text i h e = omega (arith, begins_long m (drop i text) e, length-drop i text)
 
--- which of two marks stands at the front
-module _ (a b s : Bytes) where
-  pub met_first : at_mark a s ≡ true → First ≡ met_at a b s
-  unfolding met_at met_by
-  met_first e = rw e
-
-  pub met_second : at_mark a s ≡ false → at_mark b s ≡ true → Second ≡ met_at a b s
-  unfolding met_at met_by
-  met_second e f = rw (e, f)
-
-  pub met_neither : at_mark a s ≡ false → at_mark b s ≡ false → Neither ≡ met_at a b s
-  unfolding met_at met_by
-  met_neither e f = rw (e, f)
-
--- what that says of the two tests
-abbrev pub Tests : Met → Bool → Bool → Type 0
-Tests First t u = t ≡ true
-Tests Second t u = (t ≡ false) × (u ≡ true)
-Tests Neither t u = (t ≡ false) × (u ≡ false)
-
-tested : (t u : Bool) → Tests (met_by t u) t u
-unfolding met_by
-tested true u = refl
-tested false true = (refl, refl)
-tested false false = (refl, refl)
-
-pub met_tests : (a b s : Bytes) (m : Met) → met_at a b s ≡ m → Tests m (at_mark a s) (at_mark b s)
-unfolding met_at
-met_tests a b s m e = subst (λ (k : Met). Tests k (at_mark a s) (at_mark b s)) e (tested (at_mark a s) (at_mark b s))
-
--- the mark that stands at the front, whichever it is, lies in the text
-abbrev pub met_mark : Met → Bytes → Bytes → Bytes
-met_mark First a b = a
-met_mark Second a b = b
-met_mark Neither a b = []
-
-pub met_reach : (a b text : Bytes) (i : ℕ) (m : Met) → i ≤ length text → met_at a b (drop i text) ≡ m → i + length (met_mark m a b) ≤ length text
-met_reach a b text i First h e = omega (arith, at_long a (drop i text) (met_tests a b (drop i text) First e), length-drop i text)
-met_reach a b text i Second h e = omega (arith, at_long b (drop i text) (met_tests a b (drop i text) Second e).1, length-drop i text)
-met_reach a b text i Neither h e = omega arith
+pub at_room : (m text : Bytes) (i : ℕ) → i ≤ length text → at_mark m (drop i text) ≡ true → i + length m ≤ length text
+at_room m text i h e = omega (arith, at_long m (drop i text) e, length-drop i text)

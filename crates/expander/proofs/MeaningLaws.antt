@@ -1,98 +1,16 @@
 -- Laws of the bytes that say what each definition means. Assumes nothing.
-use Rattle.rules.proofs.Base.{◌≤◌, ◌+◌, ℕ, ◌-◌, ◌<◌, suc, zero, ◌*◌, ◌/◌, ◌%◌, ◌^◌, ◌∙◌, refl, sym, ap, ◌≡◌, List, one-mul, ℕ_discrete, arith, length, drop, take, get_or, set, get_or-drop, get_or-set_same, get_or-set_other, get_or-take, take-set-le, drop-set-lt, take-take}
-use Rattle.std.proofs.Common.{shl_exact}
+use Rattle.rules.proofs.Base.{◌≤◌, ◌+◌, ℕ, ◌-◌, ◌<◌, ◌/◌, ◌%◌, ◌∙◌, refl, sym, ap, ◌≡◌, List, ℕ_discrete, arith, length, drop, take, get_or, get_or-drop, get_or-take, take-take}
 use Rattle.rules.specs.Bytes.{Bytes}
 use Rattle.expander.specs.Limits.{most_lent, meanings_start, links_start}
-use Rattle.expander.specs.Meanings.{byte_of, number_at, Put, ClosedUp}
+use Rattle.expander.specs.Fields.{field_of, field_at, FieldPut}
+use Rattle.expander.specs.Meanings.{number_at, Put, ClosedUp}
 use Rattle.expander.specs.Packed.{Packs}
-
--- ---- a byte of a word
-
--- a word with a byte exchanged for x: p is the power of two that the byte counts, and u that power as the code makes it
-abbrev exchanged_as : ℕ → ℕ → ℕ → ℕ → ℕ
-exchanged_as p u word x = word - word / p % 256 * u + x * u
-
-abbrev exchanged : ℕ → ℕ → ℕ → ℕ
-exchanged p word x = exchanged_as p p word x
-
--- what holds of 0, 1, 2 and 3
-of_four : (P : ℕ → Type 0) → P 0 → P 1 → P 2 → P 3 → (r : ℕ) → r < 4 → P r
-of_four P a b c d zero l = a
-of_four P a b c d (suc zero) l = b
-of_four P a b c d (suc (suc zero)) l = c
-of_four P a b c d (suc (suc (suc zero))) l = d
-of_four P a b c d (suc (suc (suc (suc r)))) l = absurd (omega (arith, l))
-
-module _ (word x : ℕ) (h : x < 256) where
-  byte_same : (r : ℕ) → r < 4 → byte_of r (exchanged (2 ^ (8 * r)) word x) ≡ x
-  unfolding byte_of
-  byte_same = of_four (λ r. byte_of r (exchanged (2 ^ (8 * r)) word x) ≡ x) (omega arith) (omega arith) (omega arith) (omega arith)
-
-  abbrev Kept : ℕ → ℕ → Type 0
-  Kept r s = (s ≡ r → ⊥) → byte_of s (exchanged (2 ^ (8 * r)) word x) ≡ byte_of s word
-
-  byte_other : (r : ℕ) → r < 4 → (s : ℕ) → s < 4 → Kept r s
-  unfolding byte_of
-  byte_other =
-      of_four (λ r. (s : ℕ) → s < 4 → Kept r s) (of_four (Kept 0) (λ n. absurd (n refl)) (λ n. omega arith) (λ n. omega arith) (λ n. omega arith))
-      (of_four (Kept 1) (λ n. omega arith) (λ n. absurd (n refl)) (λ n. omega arith) (λ n. omega arith))
-      (of_four (Kept 2) (λ n. omega arith) (λ n. omega arith) (λ n. absurd (n refl)) (λ n. omega arith))
-      (of_four (Kept 3) (λ n. omega arith) (λ n. omega arith) (λ n. omega arith) (λ n. absurd (n refl)))
-
--- nothing wraps where it is exchanged
-pub record Fits (p u word x : ℕ) : Type 0 where
-  pub old : word / p % 256 * u ≤ word
-  pub new : x * u < 4294967296
-  pub whole : exchanged_as p u word x < 4294967296
-
-fits_four : (word x r : ℕ) → x < 256 → r < 4 → word < 4294967296 → Fits (2 ^ (8 * r)) (2 ^ (8 * r)) word x
-fits_four word x r h l b =
-    of_four (λ r. Fits (2 ^ (8 * r)) (2 ^ (8 * r)) word x) (record { old = omega arith; new = omega arith; whole = omega arith })
-    (record { old = omega arith; new = omega arith; whole = omega arith }) (record { old = omega arith; new = omega arith; whole = omega arith })
-    (record { old = omega arith; new = omega arith; whole = omega arith }) r l
-
--- the power of the byte of definition i, as the code makes it
-abbrev pub unit_of : ℕ → ℕ
-unit_of i = 1 * 2 ^ (8 * (i % 4)) % 4294967296
-
-unit_is : (i : ℕ) → unit_of i ≡ 2 ^ (8 * (i % 4))
-unit_is i = shl_exact 1 (8 * (i % 4)) 32 (omega arith) (omega arith) ∙ one-mul (2 ^ (8 * (i % 4)))
-
-pub fits : (word x i : ℕ) → x < 256 → word < 4294967296 → Fits (2 ^ (8 * (i % 4))) (unit_of i) word x
-fits word x i h b = rw (unit_is i) (fits_four word x (i % 4) h (omega arith) b)
 
 -- ---- the byte of a definition
 
--- one word written, in which byte i is exchanged
-exchanged_at : (ends : List ℕ) (i x : ℕ) → x < 256 → i < most_lent → meanings_start + i / 4 < length ends
-    → Put ends i x (set ends (meanings_start + i / 4) (exchanged (2 ^ (8 * (i % 4))) (get_or ends (meanings_start + i / 4) 0) x))
+pub put_is : {ends after : List ℕ} (i : ℕ) {x : ℕ} → i < most_lent → FieldPut 8 meanings_start ends i x after → Put ends i x after
 unfolding number_at
-exchanged_at ends i x h m l =
-    let at = meanings_start + i / 4 in
-    let old = get_or ends at 0 in
-    let new = exchanged (2 ^ (8 * (i % 4))) old x in
-    record {
-      same = ap (byte_of (i % 4)) (get_or-set_same ends at new 0 l) ∙ byte_same old x h (i % 4) (omega arith);
-      others = λ j ne. go j ne (ℕ_discrete (j / 4) (i / 4));
-      ends = take-set-le meanings_start ends at new (omega arith);
-      chains = drop-set-lt links_start ends at new (omega (arith, m));
-    }
-  where
-    go : (j : ℕ) → (j ≡ i → ⊥) → Dec (j / 4 ≡ i / 4)
-        → byte_of (j % 4) (get_or (set ends (meanings_start + i / 4) (exchanged (2 ^ (8 * (i % 4))) (get_or ends (meanings_start + i / 4) 0) x)) (meanings_start + j / 4) 0)
-        ≡ byte_of (j % 4) (get_or ends (meanings_start + j / 4) 0)
-    go j ne (yes e) =
-        let at = meanings_start + i / 4 in
-        let old = get_or ends at 0 in
-        let new = exchanged (2 ^ (8 * (i % 4))) old x in
-        rw e
-        (ap (byte_of (j % 4)) (get_or-set_same ends at new 0 l)
-        ∙ byte_other old x h (i % 4) (omega arith) (j % 4) (omega arith) (λ q. ne (omega (arith, e, q))))
-    go j ne (no d) = ap (byte_of (j % 4)) (get_or-set_other ends (meanings_start + i / 4) (meanings_start + j / 4) _ 0 (λ q. d (omega arith)))
-
-pub put_at : (ends : List ℕ) (i x : ℕ) → x < 256 → i < most_lent → meanings_start + i / 4 < length ends
-    → Put ends i x (set ends (meanings_start + i / 4) (exchanged_as (2 ^ (8 * (i % 4))) (unit_of i) (get_or ends (meanings_start + i / 4) 0) x))
-put_at ends i x h m l = rw (unit_is i) (exchanged_at ends i x h m l)
+put_is i m p = record { same = p.same; others = p.others; ends = p.front; chains = p.behind links_start (omega (arith, m)) }
 
 -- what stands behind a place is as it was: so is each word
 pub word_behind : (c : ℕ) (before after : List ℕ) → drop c after ≡ drop c before → (k : ℕ) → c ≤ k → get_or after k 0 ≡ get_or before k 0
@@ -107,13 +25,13 @@ word_before c before after e k l = sym (get_or-take c after k 0 l) ∙ ap (λ (l
 
 -- what stands behind some of the ends is as it was: so are the bytes
 pub numbers_kept : (c : ℕ) (before after : List ℕ) → drop c after ≡ drop c before → c ≤ meanings_start → (i : ℕ) → number_at after i ≡ number_at before i
-unfolding number_at
-numbers_kept c before after e l i = ap (byte_of (i % 4)) (word_behind c before after e (meanings_start + i / 4) (omega arith))
+unfolding number_at field_at
+numbers_kept c before after e l i = ap (field_of 8 (i % 4)) (word_behind c before after e (meanings_start + i / 4) (omega arith))
 
 -- and where only the chains behind them have changed
 pub numbers_before : (before after : List ℕ) → take links_start after ≡ take links_start before → (i : ℕ) → i < most_lent → number_at after i ≡ number_at before i
-unfolding number_at
-numbers_before before after e i l = ap (byte_of (i % 4)) (word_before links_start before after e (meanings_start + i / 4) (omega (arith, l)))
+unfolding number_at field_at
+numbers_before before after e i l = ap (field_of 8 (i % 4)) (word_before links_start before after e (meanings_start + i / 4) (omega (arith, l)))
 
 -- and where only bytes have changed, the strings are as they were
 pub packs_kept : {before after : List ℕ} → take meanings_start after ≡ take meanings_start before → length after ≡ length before

@@ -1,6 +1,7 @@
 -- Laws of elements that are written over a list: copied into a part of it, or moved within it. Assumes nothing.
-use Rattle.rules.proofs.Base.{◌≤◌, ◌+◌, ℕ, ◌-◌, ◌<◌, suc, zero, ◌∙◌, refl, sym, ap, ◌≡◌, List, [], ◌++◌, ◌∷◌, append_assoc, map, add-zero, not-suc-le-zero, le_of_suc-le-suc, add-one, arith, length, drop, take, get_or, length-append, length-drop, set, length-set, length-take, take-append-drop, List·getD-append, length-map, length-take-le, drop-cons, drop-drop, get_or-take, get_or-drop, take-suc, take_at, paste, take-take, drop-append-add, get_or-append-add, paste-suc, drop-length, take-length, paste-zero, set_at, length_paste_head}
+use Rattle.rules.proofs.Base.{◌≤◌, ◌+◌, ℕ, ◌-◌, ◌<◌, suc, zero, ◌∙◌, refl, sym, ap, ◌≡◌, List, [], ◌++◌, ◌∷◌, append_assoc, map, not-suc-le-zero, le_of_suc-le-suc, add-one, arith, length, drop, take, get_or, length-append, length-drop, set, length-set, length-take, take-append-drop, length-map, drop-drop, get_or-take, get_or-drop, take_at, paste, take-take, drop-append-add, get_or-append-add, paste-suc, take-length, paste-zero, length_paste_head}
 use Rattle.expander.specs.Packed.{overlaid}
+use Rattle.expander.proofs.Parts.{drop-take}
 
 pub length-overlaid : (at : ℕ) (x l : List ℕ) → at + length x ≤ length l → length (overlaid at x l) ≡ length l
 unfolding overlaid
@@ -85,49 +86,11 @@ module _ {d₀ : List ℕ} {to : ℕ} {s : List ℕ} {j : ℕ} {d : List ℕ} (h
       let e : j ≡ length s = omega (arith, h.some) in
       h.is ∙ rw (e, take-length) (append_assoc (take to d₀) s (drop (to + length s) d₀))
 
--- from the back: the elements of s from j on are written over d₀
-unfoldable pub backed : List ℕ → ℕ → List ℕ → ℕ → List ℕ
-backed d to s j = take (to + j) d ++ (drop j s ++ drop (to + length s) d)
-
-pub record Backed (d₀ : List ℕ) (to : ℕ) (s : List ℕ) (j : ℕ) (d : List ℕ) : Type 0 where
-  pub is : d ≡ backed d₀ to s j
-  pub long : length d ≡ length d₀
-  pub room : to + length s ≤ length d₀
-  pub some : j ≤ length s
-
-pub back_none : (d : List ℕ) (to : ℕ) (s : List ℕ) (j : ℕ) → j ≡ length s → to + length s ≤ length d → Backed d to s j d
-unfolding backed
-back_none d to s j e h = record { is = rw (e, drop-length) (sym (take-append-drop (to + length s) d)); long = refl; room = h; some = omega arith }
-
-module _ {d₀ : List ℕ} {to : ℕ} {s : List ℕ} {j : ℕ} {d : List ℕ} (h : Backed d₀ to s j d) where
-  -- what stands before them is as it was
-  pub before : (i : ℕ) → i < to + j → get_or d i 0 ≡ get_or d₀ i 0
-  unfolding backed
-  before i hi =
-      ap (λ (l : List ℕ). get_or l i 0) h.is
-      ∙ List·getD-append (take (to + j) d₀) (drop j s ++ drop (to + length s) d₀) 0 i (omega (arith, length-take (to + j) d₀, h.room, h.some))
-      ∙ get_or-take (to + j) d₀ i 0 hi
-
-  pub one_before : (i v : ℕ) → i + 1 ≡ j → v ≡ get_or s i 0 → Backed d₀ to s i (set d (to + i) v)
-  unfolding backed
-  one_before i v ej ev =
-      let e : to + j ≡ suc (to + i) = omega arith in
-      let f : j ≡ suc i = omega arith in
-      let rest = drop (suc i) s ++ drop (to + length s) d₀ in
-      let b : d ≡ take (to + i) d₀ ++ (get_or d₀ (to + i) 0 ∷ rest) =
-      h.is ∙ rw (e, f, take-suc d₀ (to + i) 0 (omega (arith, h.room, h.some))) (append_assoc (take (to + i) d₀) (get_or d₀ (to + i) 0 ∷ []) rest) in
-      record {
-        is =
-            rw (b, ev, drop-cons s i 0 (omega (arith, h.some)))
-            (set_at (take (to + i) d₀) (get_or d₀ (to + i) 0) rest (get_or s i 0) (to + i) (length-take-le (to + i) d₀ (omega (arith, h.room, h.some))));
-        long = length-set d (to + i) v ∙ h.long;
-        room = h.room;
-        some = omega (arith, h.some);
-      }
-
-  pub all_back : j ≡ 0 → d ≡ overlaid to s d₀
-  unfolding backed overlaid
-  all_back e = h.is ∙ rw (e, add-zero)
+-- what `copy_within` leaves: a part of the list written over it
+pub moved_at : (l : List ℕ) (to from end : ℕ) → end ≤ length l → paste l to (drop from l) (end - from) ≡ overlaid to (drop from (take end l)) l
+unfolding overlaid
+moved_at l to from end h =
+    rw (part_length l from end h, drop-take from end l) (append_assoc (take to l) (take (end - from) (drop from l)) (drop (to + (end - from)) l))
 
 -- a part that stays where it is
 pub unmoved_at : (l : List ℕ) (to from end : ℕ) → to ≡ from → from ≤ end → end ≤ length l → l ≡ overlaid to (drop from (take end l)) l

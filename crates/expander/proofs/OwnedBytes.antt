@@ -1,5 +1,6 @@
 -- Laws of the bytes that a stream owns, over plain lists: `os` are owners, `bs` the bytes beside them. Assumes nothing.
-use Rattle.rules.proofs.Base.{◌≤◌, ◌+◌, ℕ, ◌<◌, suc, zero, ◌∙◌, refl, sym, ap, ◌≡◌, true, Bool, false, List, [], ◌++◌, ◌∷◌, suc_inj, ℕ_discrete, arith, eqb, length, get_or, replicate, eq-eqb, ne_eqb}
+use Rattle.rules.proofs.Base.{◌≤◌, ◌+◌, ℕ, ◌<◌, suc, zero, ◌∙◌, refl, sym, ap, ◌≡◌, true, Bool, false, cond, List, [], ◌++◌, ◌∷◌, suc_inj, ℕ_discrete, arith, eqb, length, get_or, replicate, eq-eqb, ne_eqb}
+use Rattle.std.specs.List.{filter}
 use Rattle.rules.specs.Bytes.{Bytes}
 use Rattle.expander.specs.Streams.{owned_by, owns_one, owned_count}
 
@@ -132,3 +133,14 @@ kept_others i j d (o ∷ os) (b ∷ bs) h = go (ℕ_discrete o i) (ℕ_discrete 
     go (yes e) q f = rw (mine_out e o os os, mine_out e b os bs) (f ∙ sym (other_owned (λ m. d (sym e ∙ m)) b os bs))
     go (no n) (yes m) f = rw (other_kept n o os os, other_kept n b os bs) (mine_owned m b (not_owned i os os) (not_owned i os bs) ∙ ap (λ (l : List ℕ). b ∷ l) f ∙ sym (mine_owned m b os bs))
     go (no n) (no m) f = rw (other_kept n o os os, other_kept n b os bs) (other_owned m b (not_owned i os os) (not_owned i os bs) ∙ f ∙ sym (other_owned m b os bs))
+
+-- a count is how many pass the test
+pub owned_filtered : (i : ℕ) (os : List ℕ) → length (filter (λ (o : ℕ). eqb o i) os) ≡ owned_count i os
+unfolding owned_count owns_one
+owned_filtered i [] = refl
+owned_filtered i (o ∷ os) = go (eqb o i) (owned_filtered i os)
+  where
+    go : (t : Bool) → length (filter (λ (o : ℕ). eqb o i) os) ≡ owned_count i os
+        → ◌≡◌ {A = ℕ} (length (cond t (o ∷ filter (λ (o : ℕ). eqb o i) os) (filter (λ (o : ℕ). eqb o i) os))) (elim t [ true ↦ 1 | false ↦ 0 ] + owned_count i os)
+    go true h = omega (arith, h)
+    go false h = omega (arith, h)

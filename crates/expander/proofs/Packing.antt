@@ -1,8 +1,8 @@
 -- Laws of packed strings. Assumes nothing.
-use Rattle.rules.proofs.Base.{◌≤◌, ◌+◌, ℕ, ◌-◌, ◌<◌, suc, zero, ◌∙◌, refl, sym, ap, ◌≡◌, subst, List, [], ◌++◌, ◌∷◌, append_assoc, append-nil, add-zero, not-suc-le-zero, le_of_suc-le-suc, add_assoc, add-one, arith, length, drop, take, get_or, length-append, set, length-set, length-take, take-append-drop, length-take-le, get_or-take, take-suc-set, take-suc, take_at, drop_at, take-append_seam, set_split, take-take, take-set-lt, split_at}
+use Rattle.rules.proofs.Base.{◌≤◌, ◌+◌, ℕ, ◌-◌, ◌<◌, suc, zero, ◌∙◌, refl, sym, ap, ap₂, ◌≡◌, subst, List, [], ◌++◌, ◌∷◌, append_assoc, append-nil, add-zero, not-suc-le-zero, le_of_suc-le-suc, add_assoc, add-one, arith, length, drop, take, get_or, length-append, set, length-set, length-take, take-append-drop, length-take-le, get_or-take, take-suc-set, take-suc, take_at, drop_at, take-append_seam, drop-append_seam, set_split, take-take, take-set-lt, split_at}
 use Rattle.rules.specs.Bytes.{Bytes, same_bytes}
 use Rattle.rules.specs.Streams.{joined}
-use Rattle.expander.specs.Packed.{ends_from, Packs, Formed, start_of, last_more}
+use Rattle.expander.specs.Packed.{ends_from, Packs, Formed, start_of, last_more, cut, strings_in}
 
 -- strings one after the other, and their ends
 pub joined-append : (ss ts : List Bytes) → joined (ss ++ ts) ≡ joined ss ++ joined ts
@@ -230,3 +230,17 @@ length-replaced ss k x lt =
       length-append P (x ++ Q),
       length-append x Q,
     )
+
+-- what is cut at the ends of packed strings are these
+cut_all : (at : ℕ) (ss : List Bytes) (rest : Bytes) → cut at (ends_from at ss) (joined ss ++ rest) ≡ ss
+unfolding cut joined ends_from
+cut_all at [] rest = refl
+cut_all at (s ∷ ss) rest =
+    let e : at + length s - at ≡ length s = omega arith in
+    rw (append_assoc, e, take-append_seam s (joined ss ++ rest), drop-append_seam s (joined ss ++ rest), cut_all (at + length s) ss rest)
+
+pub strings_are : {ends : List ℕ} {count : ℕ} {bytes : Bytes} {used : ℕ} {ss : List Bytes} → Packs ends count bytes used ss → strings_in ends count bytes ≡ ss
+unfolding strings_in
+strings_are {bytes = bytes} {used} {ss} h =
+    let b : bytes ≡ joined ss ++ drop used bytes = sym (take-append-drop used bytes) ∙ ap (λ (w : Bytes). w ++ drop used bytes) h.bytes_are in
+    ap₂ (cut 0) h.ends_are b ∙ cut_all 0 ss (drop used bytes)

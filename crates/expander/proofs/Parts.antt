@@ -1,6 +1,5 @@
 -- Laws of lists and of their parts, as slices are lent. Assumes nothing.
-use Rattle.rules.proofs.Base.{◌≤◌, ◌+◌, ℕ, ◌-◌, suc, zero, ◌∙◌, refl, sym, ap, ◌≡◌, ap₂, Bool, List, [], ◌++◌, ◌∷◌, append-nil, arith, length, drop, take, length-drop, drop_of_length-le, length-take, replicate, take_all, drop-length, drop-drop, take-nil, eq-eqb}
-use Rattle.ascii.specs.Copied.{Copied}
+use Rattle.rules.proofs.Base.{◌≤◌, ◌+◌, ℕ, ◌-◌, suc, zero, ◌∙◌, refl, sym, ap, ◌≡◌, ap₂, Bool, List, [], ◌++◌, ◌∷◌, append-nil, arith, length, drop, take, length-drop, drop_of_length-le, length-take, replicate, take_all, drop-length, drop-drop, take-nil}
 use Rattle.matching.specs.Partners.{Fitted}
 
 -- the part of a slice from a place on
@@ -26,10 +25,6 @@ drop-take (suc m) (suc n) [] = sym (take-nil (suc n - suc m))
 drop-take (suc m) (suc n) (x ∷ l) =
     let e : n - m ≡ suc n - suc m = omega arith in
     drop-take m n l ∙ ap (λ (k : ℕ). take k (drop m l)) e
-
--- a copy into a slice of its length
-pub copied_whole : {s before after : List ℕ} {r : Bool} → Copied s before r after → length s ≡ length before → after ≡ s
-copied_whole {s} {before} c h = rw (eq-eqb (length s) (length before) h) at c.written
 
 -- a text, said otherwise, written into a slice of its length
 pub fitted_whole : {w v before after : List ℕ} {r : Bool} → Fitted w before r after → w ≡ v → length v ≡ length before → after ≡ v

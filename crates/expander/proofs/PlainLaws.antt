@@ -1,5 +1,5 @@
 -- Plain steps: what an event says by its variant, a byte that was taken, and that no plain step ends a run.
-use Rattle.rules.proofs.Base.{◌≤◌, ℕ, ◌<◌, ◌∙◌, refl, sym, ap, ◌≡◌, subst, true, Bool, false, ◌||◌, some, none, Option, List, ◌∷◌, arith, leb, length}
+use Rattle.rules.proofs.Base.{◌≤◌, ℕ, ◌<◌, ◌∙◌, refl, sym, ap, ◌≡◌, subst, true, Bool, false, ◌||◌, Some, None, Option, List, ◌∷◌, arith, leb, length}
 use Rattle.rules.specs.declared.Answer.{Answer}
 use Rattle.rules.specs.Answers.{deep}
 use Rattle.rules.specs.Bytes.{Bytes}
@@ -99,8 +99,8 @@ Not-over (denied x) = Unit {0}
 
 room_not_over : (o : Option ℕ) (u : State) → Not-over (roomed o (going u))
 unfolding Not-over roomed
-room_not_over none u = tt
-room_not_over (some k) u = tt
+room_not_over None u = tt
+room_not_over (Some k) u = tt
 
 not_over : (ls : List ℕ) (o : Outcome) → Goes_on o → Not-over (verdict ls o)
 unfolding Not-over Goes_on verdict

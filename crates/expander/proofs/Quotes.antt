@@ -8,10 +8,9 @@ use Rattle.rules.specs.Bytes.{Bytes}
 use Rattle.rules.specs.Marks.{mark_text}
 use Rattle.rules.specs.Tokens.{begins_with, at_mark, QuoteEnd, closes_at, left_open, end_plus_one, quote_end}
 use Rattle.expander.specs.Ahead.{is_other, plain_length, NextEither}
-use Rattle.expander.specs.Tokens.{closed_from, quoted_from, met_at, Inside, Passed}
-use Rattle.expander.specs.declared.tokens.Met.TheVariants.{First, Second, Neither}
+use Rattle.expander.specs.Tokens.{closed_from, quoted_from, Inside, Passed}
 use Rattle.expander.proofs.Prefixes.{skip_plain, other_first, other_second}
-use Rattle.expander.proofs.MarkPlaces.{begins_short, at_begins, other_byte, full_mark, mark_room, met_tests}
+use Rattle.expander.proofs.MarkPlaces.{begins_short, at_begins, other_byte, full_mark, mark_room}
 
 -- a quoted text whose marks have b and e bytes, a place further on
 module _ (begin end : Bytes) (b e : ℕ) where
@@ -147,10 +146,10 @@ module _ (begin end : Mark) (text : Bytes) (i depth : ℕ) (b5 : length begin.by
   begins : (m : Bytes) (t : Bool) → 1 ≤ length m → at_mark m (drop i text) ≡ t → begins_with m (drop i text) ≡ t
   begins m t k e = sym (at_begins m (drop i text) k) ∙ e
 
-  pub end_passed : (n : ℕ) → n ≡ length (mark_text end) → met_at (mark_text end) (mark_text begin) (drop i text) ≡ First
+  pub end_passed : (n : ℕ) → n ≡ length (mark_text end) → at_mark (mark_text end) (drop i text) ≡ true
       → Passed (mark_text begin) (mark_text end) text i depth (record { depth = depth - 1; place = i + n })
   end_passed n e m =
-      let t = begins (mark_text end) true has_end (met_tests (mark_text end) (mark_text begin) (drop i text) First m) in
+      let t = begins (mark_text end) true has_end m in
       record {
         same = ap (λ (k : ℕ). quoted_from (mark_text begin) (mark_text end) text (depth - 1) (i + k)) e ∙ quoted_less (mark_text begin) (mark_text end) text i has_begin has_end depth h.some t;
         on = omega (arith, has_end);
@@ -159,26 +158,24 @@ module _ (begin end : Mark) (text : Bytes) (i depth : ℕ) (b5 : length begin.by
         closed = λ z. omega arith;
       }
 
-  pub begin_passed : (n : ℕ) → n ≡ length (mark_text begin) → met_at (mark_text end) (mark_text begin) (drop i text) ≡ Second
+  pub begin_passed : (n : ℕ) → n ≡ length (mark_text begin) → at_mark (mark_text end) (drop i text) ≡ false → at_mark (mark_text begin) (drop i text) ≡ true
       → Passed (mark_text begin) (mark_text end) text i depth (record { depth = depth + 1; place = i + n })
-  begin_passed n e m =
-      let t = met_tests (mark_text end) (mark_text begin) (drop i text) Second m in
-      let u = begins (mark_text begin) true has_begin t.1 in
+  begin_passed n e f m =
+      let u = begins (mark_text begin) true has_begin m in
       record {
         same =
             ap (λ (k : ℕ). quoted_from (mark_text begin) (mark_text end) text (depth + 1) (i + k)) e
-            ∙ quoted_more (mark_text begin) (mark_text end) text i has_begin has_end depth h.some (begins (mark_text end) false has_end t.0) u;
+            ∙ quoted_more (mark_text begin) (mark_text end) text i has_begin has_end depth h.some (begins (mark_text end) false has_end f) u;
         on = omega (arith, has_begin);
         within = omega (arith, mark_room (mark_text begin) text i h.within u);
         deep = omega (arith, has_begin);
         closed = λ z. absurd (omega arith);
       }
 
-  pub byte_passed : met_at (mark_text end) (mark_text begin) (drop i text) ≡ Neither → Passed (mark_text begin) (mark_text end) text i depth (record { depth = depth; place = i + 1 })
-  byte_passed m =
-      let t = met_tests (mark_text end) (mark_text begin) (drop i text) Neither m in
+  pub byte_passed : at_mark (mark_text end) (drop i text) ≡ false → at_mark (mark_text begin) (drop i text) ≡ false → Passed (mark_text begin) (mark_text end) text i depth (record { depth = depth; place = i + 1 })
+  byte_passed f g =
       record {
-        same = quoted_same (mark_text begin) (mark_text end) text i has_begin has_end depth h.some (begins (mark_text end) false has_end t.0) (begins (mark_text begin) false has_begin t.1);
+        same = quoted_same (mark_text begin) (mark_text end) text i has_begin has_end depth h.some (begins (mark_text end) false has_end f) (begins (mark_text begin) false has_begin g);
         on = omega arith;
         within = omega arith;
         deep = omega arith;

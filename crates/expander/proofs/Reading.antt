@@ -4,10 +4,8 @@ use Rattle.rules.specs.declared.Token.TheVariants as token
 use Rattle.rules.specs.declared.Reading.TheVariants.{Is}
 use Rattle.rules.specs.Bytes.{Bytes, begins_name, name_length}
 use Rattle.rules.specs.Marks.{MarkTexts}
-use Rattle.rules.specs.Tokens.{QuoteEnd, closes_at, left_open, quote_end, quote_read, read_comment, read_quoted, read_token}
-use Rattle.expander.specs.declared.tokens.Met.TheVariants.{First, Second, Neither}
-use Rattle.expander.specs.Tokens.{met_at, comment_from, closed_from, quoted_from, plain_read}
-use Rattle.expander.proofs.MarkPlaces.{met_tests}
+use Rattle.rules.specs.Tokens.{at_mark, QuoteEnd, closes_at, left_open, quote_end, quote_read, read_comment, read_quoted, read_token}
+use Rattle.expander.specs.Tokens.{comment_from, closed_from, quoted_from, plain_read}
 
 -- a name or a single byte, which begins with x
 module _ (text : Bytes) (x : ℕ) (e : x ≡ get_or text 0 0) where
@@ -31,21 +29,18 @@ module _ (m : MarkTexts) where
   token_end [] h = refl
   token_end (x ∷ xs) h = absurd (omega arith)
 
-  pub token_comment : (text : Bytes) → 1 ≤ length text → met_at m.begin_comment m.begin_quote text ≡ First → comment_from m.end_comment text (length m.begin_comment) ≡ read_token m text
+  pub token_comment : (text : Bytes) → 1 ≤ length text → at_mark m.begin_comment text ≡ true → comment_from m.end_comment text (length m.begin_comment) ≡ read_token m text
   unfolding read_token read_comment comment_from
   token_comment [] h e = absurd (omega arith)
-  token_comment (x ∷ xs) h e = rw (met_tests m.begin_comment m.begin_quote (x ∷ xs) First e, read_token)
+  token_comment (x ∷ xs) h e = rw (e, read_token)
 
-  pub token_quoted : (text : Bytes) → 1 ≤ length text → met_at m.begin_comment m.begin_quote text ≡ Second → quoted_from m.begin_quote m.end_quote text 1 (length m.begin_quote) ≡ read_token m text
+  pub token_quoted : (text : Bytes) → 1 ≤ length text → at_mark m.begin_comment text ≡ false → at_mark m.begin_quote text ≡ true → quoted_from m.begin_quote m.end_quote text 1 (length m.begin_quote) ≡ read_token m text
   unfolding read_token read_quoted quoted_from
-  token_quoted [] h e = absurd (omega arith)
-  token_quoted (x ∷ xs) h e =
-      let t = met_tests m.begin_comment m.begin_quote (x ∷ xs) Second e in
-      rw (t.0, t.1, read_token) (closed_read (length m.begin_quote) (length m.end_quote) (quote_end m.begin_quote m.end_quote 0 0 (drop (length m.begin_quote) (x ∷ xs))))
+  token_quoted [] h e f = absurd (omega arith)
+  token_quoted (x ∷ xs) h e f =
+      rw (e, f, read_token) (closed_read (length m.begin_quote) (length m.end_quote) (quote_end m.begin_quote m.end_quote 0 0 (drop (length m.begin_quote) (x ∷ xs))))
 
-  pub token_plain : (text : Bytes) → 1 ≤ length text → met_at m.begin_comment m.begin_quote text ≡ Neither → plain_read text ≡ read_token m text
+  pub token_plain : (text : Bytes) → 1 ≤ length text → at_mark m.begin_comment text ≡ false → at_mark m.begin_quote text ≡ false → plain_read text ≡ read_token m text
   unfolding read_token plain_read
-  token_plain [] h e = absurd (omega arith)
-  token_plain (x ∷ xs) h e =
-      let t = met_tests m.begin_comment m.begin_quote (x ∷ xs) Neither e in
-      rw (t.0, t.1, read_token)
+  token_plain [] h e f = absurd (omega arith)
+  token_plain (x ∷ xs) h e f = rw (e, f, read_token)

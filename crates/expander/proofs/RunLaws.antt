@@ -1,5 +1,5 @@
 -- The run loop: one law for its start, one for each way out and one for a turn; and what a call makes of the run.
-use Rattle.rules.proofs.Base.{◌≤◌, ◌+◌, ℕ, ◌-◌, ◌<◌, suc, zero, ◌∙◌, refl, sym, ap, ◌≡◌, subst, true, Bool, false, some, List, [], ◌∷◌, arith, length, drop_of_length-le, le-leb, lt-leb}
+use Rattle.rules.proofs.Base.{◌≤◌, ◌+◌, ℕ, ◌-◌, ◌<◌, suc, zero, ◌∙◌, refl, sym, ap, ◌≡◌, subst, true, Bool, false, Some, List, [], ◌∷◌, arith, pos, length, drop_of_length-le, le-leb, lt-leb}
 use Rattle.std.proofs.Common.{Fits-le, w32, Fits}
 use Rattle.rules.specs.declared.Answer.{Answer}
 use Rattle.rules.specs.declared.Answer.TheVariants as answer
@@ -14,7 +14,6 @@ use Rattle.rules.specs.declared.Marks.{Marks}
 use Rattle.rules.specs.Marks.{mark_texts, default_marks}
 use Rattle.rules.specs.Source.{source_of}
 use Rattle.rules.specs.Streams.{empty_streams, joined}
-use Rattle.rules.specs.Words.{signed_value}
 use Rattle.expander.specs.Calls.{open_strings, Stacked}
 use Rattle.expander.specs.Packed.{ends_from}
 use Rattle.expander.specs.Tokens.{GoodMarks}
@@ -107,17 +106,17 @@ nothing_front : (buffer : Bytes) → Front buffer 0 []
 nothing_front buffer = record { text_is = refl; inside = omega arith }
 
 pub started :
-    (a : Setting) (b : Memory) (is : List Item) (marks : Marks) (from : ℕ) → mark_texts marks ≡ default_marks → GoodMarks marks → Limits a b → Chained b.table_ends [] → set_items b.set ≡ some is → length b.pending ≡ from
+    (a : Setting) (b : Memory) (is : List Item) (marks : Marks) (from : ℕ) → mark_texts marks ≡ default_marks → GoodMarks marks → Limits a b → Chained b.table_ends [] → set_items b.set ≡ Some is → length b.pending ≡ from
     → Represents a b (record {
       marks = marks;
       source = record { from = from; taken = 0 };
       calls = record { strings = record { count = 0; used = 0 }; opens = 0 };
       table = record { packed = record { count = 0; used = 0 }; own = all_own };
-      sinks = record { current = 0; waiting = 0; output = 0 };
+      sinks = record { current = pos 0; waiting = 0; output = 0 };
       wrap = 0;
       errors = 0;
     }) (start_state is (fresh_start b.text b.set))
-unfolding start_state fresh_start source_of empty_streams open_strings ends_from joined Stacked signed_value
+unfolding start_state fresh_start source_of empty_streams open_strings ends_from joined Stacked
 started a b is marks from e g l k i q =
     let h : length b.pending ≤ from = omega arith in
     record {

@@ -1,5 +1,5 @@
 -- Laws of names that are scanned: where a name in two slices ends, its hash, and of which token a hash was taken. Assumes nothing.
-use Rattle.rules.proofs.Base.{◌≤◌, ◌+◌, ℕ, ◌<◌, ◌∙◌, refl, sym, ap, ◌≡◌, subst, true, Bool, false, true≢false, some, none, Option, ◌⊎◌, inl, inr, [], ◌++◌, ◌∷◌, arith, length, drop, take, get_or, take-append-le, take-append-add, take_all}
+use Rattle.rules.proofs.Base.{◌≤◌, ◌+◌, ℕ, ◌<◌, ◌∙◌, refl, sym, ap, ◌≡◌, subst, true, Bool, false, true≢false, Some, None, Option, ◌⊎◌, inl, inr, [], ◌++◌, ◌∷◌, arith, length, drop, take, get_or, take-append-le, take-append-add, take_all}
 use Rattle.rules.specs.declared.Token.{Token}
 use Rattle.rules.specs.declared.Token.TheVariants as token
 use Rattle.rules.specs.declared.Reading.{Reading}
@@ -151,8 +151,8 @@ comment_no_name end text i = go (first_place end (drop i text))
     to_end false = tt
 
     go : (o : Option ℕ) → NoName (comment_read end (length text) i o)
-    go none = to_end (same_bytes end newline_mark)
-    go (some n) = tt
+    go None = to_end (same_bytes end newline_mark)
+    go (Some n) = tt
 
 pub quoted_no_name : (begin end text : Bytes) → NoName (quoted_from begin end text 1 (length begin))
 unfolding quoted_from closed_from

@@ -99,25 +99,24 @@ sifted_kept w bytes ends kept from middle end lo mid hi fits room e f eb =
       used_most = omega arith;
     }
 
--- a pass that has come to string k, which starts at `from`: `done` are kept, `rest` is to come
-pub record Sifting (w : Bytes) (ds : List Definition) (count : ℕ) (bytes : Bytes) (ends : List ℕ) (kept : Packed) (k from : ℕ) : Type 0 where
+-- a pass that has come to definition i, which starts at `from`: `done` are kept, `rest` is to come
+pub record Sifting (w : Bytes) (ds : List Definition) (count : ℕ) (bytes : Bytes) (ends : List ℕ) (kept : Packed) (i from : ℕ) : Type 0 where
   pub done : List Definition
   pub rest : List Definition
   pub so_far : without w ds ≡ done ++ without w rest
   pub packs : Packs ends kept.count bytes kept.used (rows done)
   pub free_ends : List ℕ
-  pub ends_are : drop k ends ≡ ends_from from (rows rest) ++ free_ends
+  pub ends_are : drop (2 * i) ends ≡ ends_from from (rows rest) ++ free_ends
   pub free_bytes : Bytes
   pub bytes_are : drop from bytes ≡ joined (rows rest) ++ free_bytes
-  pub left : k + length (rows rest) ≡ count
-  pub count_behind : kept.count ≤ k
+  pub left : 2 * i + length (rows rest) ≡ count
+  pub count_behind : kept.count ≤ 2 * i
   pub used_behind : kept.used ≤ from
   pub from_in : from ≤ length bytes
   pub count_in : count ≤ length ends
   pub count_few : count ≤ meanings_start
-  pub half : k ≡ 2 * (k / 2)
   pub done_told : Told ends done
-  pub rest_told : (i : ℕ) → i < length rest → number_at ends (k / 2 + i) ≡ meaning_number (get_or rest i blank).meaning
+  pub rest_told : (j : ℕ) → j < length rest → number_at ends (i + j) ≡ meaning_number (get_or rest j blank).meaning
 
 pub sifting_begins : (w : Bytes) {bytes : Bytes} {ends : List ℕ} {p : Packed} {ds : List Definition} {count : ℕ} → p.count ≡ count → DefinitionsIn bytes ends p ds
     → Sifting w ds count bytes ends (record { count = 0; used = 0 }) 0 0
@@ -137,14 +136,13 @@ sifting_begins w {bytes} {ends} {p} {ds} e h = record {
   from_in = omega arith;
   count_in = omega (arith, h.packs.count_in);
   count_few = omega (arith, few_strings h);
-  half = omega arith;
   done_told = λ i l. absurd (not-suc-le-zero l);
   rest_told = λ i l. ap (number_at ends) (omega arith) ∙ h.numbers i l;
 }
 
 -- the definition that the pass comes to
-pub record Facing (w : Bytes) (ds : List Definition) (count : ℕ) (bytes : Bytes) (ends : List ℕ) (kept : Packed) (k from middle end : ℕ) : Type 0 where
-  pub at : Sifting w ds count bytes ends kept k from
+pub record Facing (w : Bytes) (ds : List Definition) (count : ℕ) (bytes : Bytes) (ends : List ℕ) (kept : Packed) (i from middle end : ℕ) : Type 0 where
+  pub at : Sifting w ds count bytes ends kept i from
   pub first : Definition
   pub others : List Definition
   pub rest_is : at.rest ≡ first ∷ others
@@ -153,20 +151,21 @@ pub record Facing (w : Bytes) (ds : List Definition) (count : ℕ) (bytes : Byte
   pub from_middle : from ≤ middle
   pub middle_end : middle ≤ end
   pub end_in : end ≤ length bytes
-  pub ends_are : drop (k + 2) ends ≡ ends_from end (rows others) ++ at.free_ends
+  pub ends_are : drop (2 * i + 2) ends ≡ ends_from end (rows others) ++ at.free_ends
   pub bytes_are : drop end bytes ≡ joined (rows others) ++ at.free_bytes
-  pub left : k + 2 + length (rows others) ≡ count
+  pub left : 2 * i + 2 + length (rows others) ≡ count
 
-module _ {w : Bytes} {ds : List Definition} {count : ℕ} {bytes : Bytes} {ends : List ℕ} {kept : Packed} {k from : ℕ} (h : Sifting w ds count bytes ends kept k from) where
-  pub facing : (middle end : ℕ) → k < count → middle ≡ get_or ends k 0 → end ≡ get_or ends (k + 1) 0 → Facing w ds count bytes ends kept k from middle end
+module _ {w : Bytes} {ds : List Definition} {count : ℕ} {bytes : Bytes} {ends : List ℕ} {kept : Packed} {i from : ℕ} (h : Sifting w ds count bytes ends kept i from) where
+  pub facing : (middle end : ℕ) → i < count / 2 → middle ≡ get_or ends (2 * i) 0 → end ≡ get_or ends (2 * i + 1) 0 → Facing w ds count bytes ends kept i from middle end
   unfolding rows ends_from joined
   facing middle end lt em ee = go h.rest refl
     where
-      go : (r : List Definition) → h.rest ≡ r → Facing w ds count bytes ends kept k from middle end
+      go : (r : List Definition) → h.rest ≡ r → Facing w ds count bytes ends kept i from middle end
       go [] e = absurd (omega (arith, h.left, ap (λ (l : List Definition). length (rows l)) e))
       go (d ∷ rs) e =
           let x = d.name in
           let y = meaning_text d.meaning in
+          let k = 2 * i in
           let E : drop k ends ≡ (from + length x) ∷ (from + length x + length y) ∷ (ends_from (from + length x + length y) (rows rs) ++ h.free_ends) =
           h.ends_are ∙ ap (λ (l : List Definition). ends_from from (rows l) ++ h.free_ends) e in
           let B : drop from bytes ≡ x ++ (y ++ (joined (rows rs) ++ h.free_bytes)) =
@@ -198,14 +197,14 @@ module _ {w : Bytes} {ds : List Definition} {count : ℕ} {bytes : Bytes} {ends 
                   length-drop from bytes,
                   h.from_in,
                 );
-            ends_are = sym (drop-drop 2 k ends) ∙ ap (drop 2) E ∙ ap (λ (i : ℕ). ends_from i (rows rs) ++ h.free_ends) (sym n);
+            ends_are = sym (drop-drop 2 k ends) ∙ ap (drop 2) E ∙ ap (λ (j : ℕ). ends_from j (rows rs) ++ h.free_ends) (sym n);
             bytes_are =
-                let i : middle + length y ≡ end = omega arith in
-                ap (λ (i : ℕ). drop i bytes) (sym i) ∙ sym (drop-drop (length y) middle bytes) ∙ ap (drop (length y)) B' ∙ drop-append_seam y (joined (rows rs) ++ h.free_bytes);
+                let m : middle + length y ≡ end = omega arith in
+                ap (λ (j : ℕ). drop j bytes) (sym m) ∙ sym (drop-drop (length y) middle bytes) ∙ ap (drop (length y)) B' ∙ drop-append_seam y (joined (rows rs) ++ h.free_bytes);
             left = omega (arith, h.left, ap (λ (l : List Definition). length (rows l)) e);
           }
 
-  pub sifting_ends : count ≤ k → Packs ends kept.count bytes kept.used (rows (without w ds)) × Told ends (without w ds)
+  pub sifting_ends : count / 2 ≤ i → Packs ends kept.count bytes kept.used (rows (without w ds)) × Told ends (without w ds)
   unfolding rows without
   sifting_ends le = go h.rest refl
     where
@@ -224,9 +223,10 @@ put_both {before} {after} i j {x} e p = p.same ∙ go (ℕ_discrete j i)
     go (no q) = e ∙ sym (p.others j q)
 
 -- the byte of the definition that the pass comes to has been put behind those kept
-pub sifting_put : {w : Bytes} {ds : List Definition} {count : ℕ} {bytes : Bytes} {ends : List ℕ} {kept : Packed} {k from : ℕ} → Sifting w ds count bytes ends kept k from
-    → {ends' : List ℕ} {x : ℕ} → x ≡ number_at ends (k / 2) → Put ends (kept.count / 2) x ends' → length ends' ≡ length ends → Sifting w ds count bytes ends' kept k from
-sifting_put {count = count} {ends = ends} {kept = kept} {k = k} {from = from} h {ends'} {x} e p le =
+pub sifting_put : {w : Bytes} {ds : List Definition} {count : ℕ} {bytes : Bytes} {ends : List ℕ} {kept : Packed} {i from : ℕ} → Sifting w ds count bytes ends kept i from
+    → {ends' : List ℕ} {x : ℕ} → x ≡ number_at ends i → Put ends (kept.count / 2) x ends' → length ends' ≡ length ends → Sifting w ds count bytes ends' kept i from
+sifting_put {count = count} {ends = ends} {kept = kept} {i = i} {from = from} h {ends'} {x} e p le =
+    let k = 2 * i in
     let same : take count ends' ≡ take count ends =
     sym (take-take count meanings_start ends' h.count_few) ∙ ap (take count) p.ends ∙ take-take count meanings_start ends h.count_few in
     let long : (l : List ℕ) → count ≤ length l → drop k l ≡ drop k (take count l) ++ drop count l =
@@ -248,19 +248,18 @@ sifting_put {count = count} {ends = ends} {kept = kept} {k = k} {from = from} h 
       from_in = h.from_in;
       count_in = omega (arith, h.count_in);
       count_few = h.count_few;
-      half = h.half;
-      done_told = λ i l. p.others i (λ q. omega (arith, q, l, done_count)) ∙ h.done_told i l;
-      rest_told = λ i l. go i (ℕ_discrete (k / 2 + i) (kept.count / 2)) ∙ h.rest_told i l;
+      done_told = λ j l. p.others j (λ q. omega (arith, q, l, done_count)) ∙ h.done_told j l;
+      rest_told = λ j l. go j (ℕ_discrete (i + j) (kept.count / 2)) ∙ h.rest_told j l;
     }
   where
     done_count : 2 * length h.done ≡ kept.count
     done_count = sym (length-rows h.done) ∙ count_is h.packs
 
-    go : (i : ℕ) → Dec (k / 2 + i ≡ kept.count / 2) → number_at ends' (k / 2 + i) ≡ number_at ends (k / 2 + i)
-    go i (yes q) =
-        let z : k / 2 ≡ k / 2 + i = omega (arith, q, h.count_behind, done_count) in
+    go : (j : ℕ) → Dec (i + j ≡ kept.count / 2) → number_at ends' (i + j) ≡ number_at ends (i + j)
+    go j (yes q) =
+        let z : i ≡ i + j = omega (arith, q, h.count_behind, done_count) in
         ap (number_at ends') q ∙ p.same ∙ e ∙ ap (number_at ends) z
-    go i (no q) = p.others _ q
+    go j (no q) = p.others _ q
 
 -- one definition of a list
 without_cons : (w : Bytes) (d : Definition) (ds : List Definition) → without w (d ∷ ds) ≡ without w (d ∷ []) ++ without w ds
@@ -289,10 +288,10 @@ told_unless w d ends ds f n = go (same_bytes w d.name)
     go true = λ i l. f i (omega (arith, l, length-append ds [])) ∙ ap (λ (l : List Definition). meaning_number (get_or l i blank).meaning) (sym (append-nil ds))
     go false = told_last ends ds d f n
 
-pub sifting_on : {w : Bytes} {ds : List Definition} {count : ℕ} {bytes : Bytes} {ends : List ℕ} {kept : Packed} {k from middle end : ℕ}
-    → Facing w ds count bytes ends kept k from middle end → {bytes' : Bytes} {ends' : List ℕ} {r : Packed} → Sifted w bytes ends kept from middle end bytes' ends' r
-    → number_at ends (kept.count / 2) ≡ number_at ends (k / 2) → length bytes' ≡ length bytes → length ends' ≡ length ends → Sifting w ds count bytes' ends' r (k + 2) end
-sifting_on {w} {ds} {bytes = bytes} {ends = ends} {kept = kept} {k = k} {from = from} {middle = middle} {end = end} f {bytes'} {ends'} {r} s both lb le =
+pub sifting_on : {w : Bytes} {ds : List Definition} {count : ℕ} {bytes : Bytes} {ends : List ℕ} {kept : Packed} {i from middle end : ℕ}
+    → Facing w ds count bytes ends kept i from middle end → {bytes' : Bytes} {ends' : List ℕ} {r : Packed} → Sifted w bytes ends kept from middle end bytes' ends' r
+    → number_at ends (kept.count / 2) ≡ number_at ends i → length bytes' ≡ length bytes → length ends' ≡ length ends → Sifting w ds count bytes' ends' r (i + 1) end
+sifting_on {w} {ds} {bytes = bytes} {ends = ends} {kept = kept} {i = i} {from = from} {middle = middle} {end = end} f {bytes'} {ends'} {r} s both lb le =
     let h = f.at in
     let d = f.first in
     let one = without w (d ∷ []) in
@@ -308,29 +307,30 @@ sifting_on {w} {ds} {bytes = bytes} {ends = ends} {kept = kept} {k = k} {from = 
           ∙ sym (append_assoc h.done one (without w f.others));
       packs = rw u at (s.packs (rows h.done) h.packs);
       free_ends = h.free_ends;
-      ends_are = drop_later (kept.count + 2) (k + 2) ends' ends (omega (arith, h.count_behind)) s.ends_behind ∙ f.ends_are;
+      ends_are =
+          let two : 2 * (i + 1) ≡ 2 * i + 2 = omega arith in
+          ap (λ (k : ℕ). drop k ends') two ∙ drop_later (kept.count + 2) (2 * i + 2) ends' ends (omega (arith, h.count_behind)) s.ends_behind ∙ f.ends_are;
       free_bytes = h.free_bytes;
       bytes_are = s.bytes_behind ∙ f.bytes_are;
-      left = f.left;
+      left = omega (arith, f.left);
       count_behind = omega (arith, s.count_most, h.count_behind);
       used_behind = s.used_most;
       from_in = omega (arith, f.end_in);
       count_in = omega (arith, h.count_in);
       count_few = h.count_few;
-      half = omega (arith, h.half);
       done_told = told_unless w d ends' h.done (λ i l. stay i ∙ h.done_told i l) (stay (length h.done) ∙ ap (number_at ends) first_kept ∙ both ∙ mine);
-      rest_told = λ i l. stay ((k + 2) / 2 + i) ∙ ap (number_at ends) (omega arith) ∙ h.rest_told (suc i) (omega (arith, l, ap length f.rest_is)) ∙ ap (λ (l : List Definition). meaning_number (get_or l (suc i) blank).meaning) f.rest_is;
+      rest_told = λ j l. stay (i + 1 + j) ∙ ap (number_at ends) (omega arith) ∙ h.rest_told (suc j) (omega (arith, l, ap length f.rest_is)) ∙ ap (λ (l : List Definition). meaning_number (get_or l (suc j) blank).meaning) f.rest_is;
     }
   where
-    stay : (i : ℕ) → number_at ends' i ≡ number_at ends i
+    stay : (j : ℕ) → number_at ends' j ≡ number_at ends j
     stay = numbers_kept (kept.count + 2) ends ends' s.ends_behind (omega (arith, f.at.count_behind, f.left, f.at.count_few))
 
     first_kept : length f.at.done ≡ kept.count / 2
     first_kept = omega (arith, length-rows f.at.done, count_is f.at.packs)
 
-    mine : number_at ends (k / 2) ≡ meaning_number f.first.meaning
+    mine : number_at ends i ≡ meaning_number f.first.meaning
     mine =
-        let z : k / 2 ≡ k / 2 + 0 = omega arith in
+        let z : i ≡ i + 0 = omega arith in
         ap (number_at ends) z ∙ f.at.rest_told 0 (omega (arith, ap length f.rest_is)) ∙ ap (λ (l : List Definition). meaning_number (get_or l 0 blank).meaning) f.rest_is
 
 sound_without : (w : Bytes) (ds : List Definition) → Sound ds → Sound (without w ds)

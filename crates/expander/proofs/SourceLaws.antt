@@ -1,10 +1,9 @@
 -- Laws of the text ahead in its two buffers.
-use Rattle.rules.proofs.Base.{◌≤◌, ◌+◌, ℕ, ◌-◌, ◌<◌, ◌∙◌, sym, ap, ◌≡◌, ap₂, ◌++◌, arith, length, drop, take, length-append, length-drop, drop_of_length-le, drop-drop}
+use Rattle.rules.proofs.Base.{◌≤◌, ◌+◌, ℕ, ◌-◌, ◌<◌, ◌∙◌, sym, ap, ◌≡◌, ◌++◌, arith, length, drop, length-append, length-drop, drop_of_length-le, drop-drop}
 use Rattle.rules.specs.Bytes.{Bytes}
 use Rattle.rules.specs.Source.{Source, ahead, advance, push_back}
 use Rattle.expander.specs.declared.source.Position.{Position}
-use Rattle.expander.specs.Source.{SourceIn}
-use Rattle.expander.proofs.Parts.{part_all}
+use Rattle.expander.specs.Source.{SourceIn, bytes_ahead}
 
 module _ {text pending : Bytes} {p : Position} {x : Source} (m : SourceIn text pending p x) where
   -- how much pending text there is, and what is ahead
@@ -50,12 +49,9 @@ module _ {text pending : Bytes} {p : Position} {x : Source} (m : SourceIn text p
         taken_is = omega (arith, k, m.taken_is);
       }
 
--- the text ahead in two slices that are lent from its position on
-abbrev pub lent_ahead : Bytes → Bytes → Position → Bytes
-lent_ahead text pending p = take (length pending - p.from) (drop p.from pending) ++ take (length text - p.taken) (drop p.taken text)
-
-pub ahead_lent : {text pending : Bytes} {p : Position} {x : Source} → SourceIn text pending p x → lent_ahead text pending p ≡ ahead x
-ahead_lent {text} {pending} {p} h = ap₂ (λ (u v : Bytes). u ++ v) (part_all pending p.from) (part_all text p.taken) ∙ sym (ahead_is h)
+-- what is lent from a position on is the text ahead
+pub lent_is : {text pending t : Bytes} {p : Position} {x : Source} → SourceIn text pending p x → t ≡ bytes_ahead text pending p → t ≡ ahead x
+lent_is h e = e ∙ sym (ahead_is h)
 
 -- a result stands in front: the buffer then holds it from `from` on
 pub pushed_back :

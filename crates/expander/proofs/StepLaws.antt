@@ -1,5 +1,5 @@
 -- One step by what the code goes by: the open calls, a byte in a call, a name's meaning, the end, and the token ahead. Assumes nothing.
-use Rattle.rules.proofs.Base.{◌≤◌, ◌+◌, ℕ, ◌-◌, ◌<◌, suc, zero, ◌∙◌, refl, sym, ap, ◌≡◌, subst, true, Bool, false, cond, ◌⊎◌, inl, inr, some, Option, Option·none-ne-some, Option·some-injective, List, [], ◌++◌, ◌∷◌, arith, eqb, length, drop, take, get_or, length-append, ne_eqb, eqb-true}
+use Rattle.rules.proofs.Base.{◌≤◌, ◌+◌, ℕ, ◌-◌, ◌<◌, suc, zero, ◌∙◌, refl, sym, ap, ◌≡◌, subst, true, Bool, false, cond, ◌⊎◌, inl, inr, Some, Option, none-some, same_Some, List, [], ◌++◌, ◌∷◌, arith, eqb, length, drop, take, get_or, length-append, ne_eqb, eqb-true}
 use Rattle.rules.specs.declared.Answer.TheVariants as answer
 use Rattle.rules.specs.declared.Reading.{Reading}
 use Rattle.rules.specs.declared.Reading.TheVariants.{Is, OpenQuote, OpenComment}
@@ -23,19 +23,18 @@ use Rattle.expander.specs.declared.events.Role.{Role}
 use Rattle.expander.specs.declared.events.Role.TheVariants as role
 use Rattle.expander.specs.declared.table.Meaning.{Meaning as Looked}
 use Rattle.expander.specs.declared.table.Meaning.TheVariants as looked
-use Rattle.expander.specs.Calls.{CallsIn, bit}
+use Rattle.expander.specs.Calls.{CallsIn}
 use Rattle.expander.specs.Front.{Front}
 use Rattle.expander.specs.Machine.{Memory, Represents, Valid, Refines, Reach, ahead_of, bytes_ahead, pending_at, source_set, wrap_set, stepped}
 use Rattle.expander.specs.Source.{SourceIn}
 use Rattle.expander.specs.Step.{by_role, deep_at, HasRole, TokenWithin}
 use Rattle.expander.specs.Table.{Finds, meaning_for, plain_unopened}
 use Rattle.expander.specs.Tokens.{Within, NameHashed}
-use Rattle.expander.proofs.Parts.{part_all}
 use Rattle.expander.proofs.CallsLaws.{calls_held, depth_in}
 use Rattle.expander.proofs.MachineLaws.{front_long, over_pending, refines_next, refines_refused, refines_room}
 use Rattle.expander.proofs.Parted.{with_source_lem, with_wrap_lem}
 use Rattle.expander.proofs.SteppedLaws.{refines_as}
-use Rattle.expander.proofs.SourceLaws.{ahead_is, ahead_long, pushed_back}
+use Rattle.expander.proofs.SourceLaws.{ahead_long, lent_is, pushed_back}
 
 -- ---- promises handed on
 
@@ -89,17 +88,7 @@ unfolding right_met
 right_deep zero c cs s f = absurd (f refl)
 right_deep (suc d) c cs s f = ap (λ (n : ℕ). next (with_calls (collecting (41 ∷ []) n c ∷ cs) s)) (omega arith)
 
-bit_none : (b : Bool) → bit b ≡ 0 → b ≡ false
-unfolding bit
-bit_none true e = absurd (omega arith)
-bit_none false e = refl
-
-bit_some : (b : Bool) → (bit b ≡ 0 → ⊥) → b ≡ true
-unfolding bit
-bit_some true f = refl
-bit_some false f = absurd (f refl)
-
-module _ (x d k : ℕ) where
+module _ (x d : ℕ) (k : Bool) where
   pub role_left : x ≡ 40 → HasRole x d k (role.Collected (d + 1))
   unfolding in_call by_role deep_at
   role_left e =
@@ -134,21 +123,21 @@ module _ (x d k : ℕ) where
     kept_at : (c : Call) (cs : List Call) (s : State) → c.depth ≡ d → next (with_calls (collecting (x ∷ []) c.depth c ∷ cs) s) ≡ next (with_calls (collecting (x ∷ []) d c ∷ cs) s)
     kept_at c cs s ed = ap (λ (n : ℕ). next (with_calls (collecting (x ∷ []) n c ∷ cs) s)) ed
 
-    pub role_dropped : is_blank x ≡ true → k ≡ 0 → HasRole x d k role.Dropped
+    pub role_dropped : is_blank x ≡ true → k ≡ false → HasRole x d k role.Dropped
     unfolding by_role deep_at other_met
     role_dropped t z =
-        record { is = λ c cs s ed ek. other_in c cs s ∙ rw (t, bit_none c.collected (ek ∙ z), other_met); deep = omega arith }
+        record { is = λ c cs s ed ek. other_in c cs s ∙ rw (t, ek ∙ z, other_met); deep = omega arith }
 
     blank_in : (c : Call) (cs : List Call) (s : State) → is_blank x ≡ true → c.collected ≡ true → other_met x c cs s ≡ next (with_calls (collecting (x ∷ []) c.depth c ∷ cs) s)
     unfolding other_met
     blank_in c cs s t e =
         rw (t, other_met) (ap (λ (b : Bool). elim b [ true ↦ next (with_calls (collecting (x ∷ []) c.depth c ∷ cs) s) | false ↦ next s ]) e)
 
-    pub role_blank : is_blank x ≡ true → (k ≡ 0 → ⊥) → HasRole x d k (role.Collected d)
+    pub role_blank : is_blank x ≡ true → k ≡ true → HasRole x d k (role.Collected d)
     unfolding by_role deep_at
-    role_blank t f =
+    role_blank t z =
         record {
-          is = λ c cs s ed ek. other_in c cs s ∙ blank_in c cs s t (bit_some c.collected (λ z. f (sym ek ∙ z))) ∙ kept_at c cs s ed;
+          is = λ c cs s ed ek. other_in c cs s ∙ blank_in c cs s t (ek ∙ z) ∙ kept_at c cs s ed;
           deep = omega arith;
         }
 
@@ -158,11 +147,11 @@ module _ (x d k : ℕ) where
 
 -- what follows by the role
 pub role_is :
-    {x d k : ℕ} {r w : Role} → HasRole x d k r → r ≡ w → (c : Call) (cs : List Call) (s : State) → d ≡ c.depth → k ≡ bit c.collected
+    {x d : ℕ} {k : Bool} {r w : Role} → HasRole x d k r → r ≡ w → (c : Call) (cs : List Call) (s : State) → d ≡ c.depth → k ≡ c.collected
     → in_call x c cs s ≡ by_role w x c cs s
 role_is {x} h e c cs s ed ek = h.is c cs s (sym ed) (sym ek) ∙ ap (λ (y : Role). by_role y x c cs s) e
 
-pub role_deep : {x d k n : ℕ} {r : Role} (c : Call) → HasRole x d k r → r ≡ role.Collected n → d ≡ c.depth → c.depth ≤ length c.current → n ≤ length c.current + 1
+pub role_deep : {x d n : ℕ} {k : Bool} {r : Role} (c : Call) → HasRole x d k r → r ≡ role.Collected n → d ≡ c.depth → c.depth ≤ length c.current → n ≤ length c.current + 1
 unfolding deep_at
 role_deep c h e ed l = omega (arith, h.deep, ap deep_at e, ed, l)
 
@@ -179,19 +168,6 @@ module _ (x : ℕ) (s : State) where
 
 -- ---- a name
 
--- the text ahead as the parts of the two buffers that the code reads
-pub bytes_parts :
-    (text pending : Bytes) (p : Position)
-    → take (length pending - p.from) (drop p.from pending) ++ take (length text - p.taken) (drop p.taken text) ≡ bytes_ahead text pending p
-bytes_parts text pending p =
-    ap (λ (l : Bytes). l ++ take (length text - p.taken) (drop p.taken text)) (part_all pending p.from)
-    ∙ ap (λ (l : Bytes). drop p.from pending ++ l) (part_all text p.taken)
-
-pub ahead_parts :
-    {text pending : Bytes} {p : Position} {x : Source} → SourceIn text pending p x
-    → take (length pending - p.from) (drop p.from pending) ++ take (length text - p.taken) (drop p.taken text) ≡ ahead x
-ahead_parts {text} {pending} {p} m = bytes_parts text pending p ∙ sym (ahead_is m)
-
 at_within : (xs : Bytes) (n : ℕ) → get_or xs n 0 ≡ 40 → n < length xs
 at_within [] n e = absurd (omega arith)
 at_within (x ∷ xs) zero e = omega arith
@@ -206,8 +182,8 @@ reach_open {x} {n} m h e t =
 -- a name that means something
 pub record Known (ds : List Definition) (o : Option Meaning) (r : Looked) : Type 0 where
   pub meaning : Meaning
-  pub is : o ≡ some meaning
-  pub finds : Finds ds (some meaning) r
+  pub is : o ≡ Some meaning
+  pub finds : Finds ds (Some meaning) r
 
 pub known : {ds : List Definition} {o : Option Meaning} {r : Looked} → Finds ds o r → (r ≡ looked.Undefined → ⊥) → Known ds o r
 unfolding meaning_for
@@ -216,11 +192,11 @@ known {r = looked.Predefined k} f g = record { meaning = _; is = f.is; finds = r
 known {r = looked.Undefined} f g = absurd (g refl)
 
 -- one that no parenthesis follows
-unopened_found : {ds : List Definition} {m : Meaning} (r : Looked) → Finds ds (some m) r → unopened m ≡ cond (plain_unopened r) plain (bare m)
+unopened_found : {ds : List Definition} {m : Meaning} (r : Looked) → Finds ds (Some m) r → unopened m ≡ cond (plain_unopened r) plain (bare m)
 unfolding unopened meaning_for plain_unopened
-unopened_found {ds} {m} (looked.Text i) f = rw (Option·some-injective m _ f.is, unopened)
-unopened_found {ds} {m} (looked.Predefined k) f = rw (Option·some-injective m _ f.is, unopened)
-unopened_found looked.Undefined f = absurd (Option·none-ne-some _ (sym f.is))
+unopened_found {ds} {m} (looked.Text i) f = rw (same_Some m _ f.is, unopened)
+unopened_found {ds} {m} (looked.Predefined k) f = rw (same_Some m _ f.is, unopened)
+unopened_found looked.Undefined f = absurd (none-some _ (sym f.is))
 
 -- what a name does where it is read, by what looking it up answered
 module _ {ds : List Definition} {o : Option Meaning} {r : Looked} (f : Finds ds o r) (t : Bool) where
@@ -229,7 +205,7 @@ module _ {ds : List Definition} {o : Option Meaning} {r : Looked} (f : Finds ds 
   used_undefined e = rw (f.is, e, used_with)
 
   module _ (k : Known ds o r) where
-    used_known : used_with o t ≡ used_with (some k.meaning) t
+    used_known : used_with o t ≡ used_with (Some k.meaning) t
     used_known = ap (λ (m : Option Meaning). used_with m t) k.is
 
     pub used_opening : t ≡ true → used_with o t ≡ opening
@@ -336,16 +312,14 @@ pub quoted_order : (text pending : Bytes) (p : Position) {t : Token} {i j n : �
 unfolding TokenWithin
 quoted_order text pending p e w = (subst (TokenWithin text pending p) e w).0
 
-module _ {a : Setting} {b : Memory} {m : Machine} {s : State} (r : Represents a b m s) where
-  abbrev parts : Bytes
-  parts = take (length b.pending - m.source.from) (drop m.source.from b.pending) ++ take (length b.text - m.source.taken) (drop m.source.taken b.text)
-
-  module _ {g : Reading} (e : g ≡ read_token (mark_texts m.marks) parts) where
+-- the token that was read off the text as it was lent
+module _ {a : Setting} {b : Memory} {m : Machine} {s : State} (r : Represents a b m s) {lent : Bytes} (l : lent ≡ bytes_ahead b.text b.pending m.source) where
+  module _ {g : Reading} (e : g ≡ read_token (mark_texts m.marks) lent) where
     step_reads : step s ≡ reacted g s
     unfolding step
     step_reads =
         ap (λ (y : Reading). reacted y s)
-        (ap (λ (k : MarkTexts). read_token k (ahead s.source)) r.marks ∙ ap (read_token (mark_texts m.marks)) (sym (ahead_parts r.source)) ∙ sym e)
+        (ap (λ (k : MarkTexts). read_token k (ahead s.source)) r.marks ∙ ap (read_token (mark_texts m.marks)) (sym (lent_is r.source l)) ∙ sym e)
 
     pub step_token : {t : Token} → g ≡ Is t → step s ≡ act t s
     unfolding reacted
@@ -360,11 +334,11 @@ module _ {a : Setting} {b : Memory} {m : Machine} {s : State} (r : Represents a 
     step_comment q = step_reads ∙ ap (λ (y : Reading). reacted y s) q
 
   -- where its parts lie
-  pub token_lies : {g : Reading} → Within parts g → (t : Token) → g ≡ Is t → TokenWithin b.text b.pending m.source t
+  pub token_lies : {g : Reading} → Within lent g → (t : Token) → g ≡ Is t → TokenWithin b.text b.pending m.source t
   unfolding TokenWithin
-  token_lies {g} w t q = go t q (ap length (ahead_parts r.source) ∙ ahead_long r.source)
+  token_lies {g} w t q = go t q (ap length (lent_is r.source l) ∙ ahead_long r.source)
     where
-      go : (t : Token) → g ≡ Is t → length parts ≡ ahead_of b.text b.pending m.source → TokenWithin b.text b.pending m.source t
+      go : (t : Token) → g ≡ Is t → length lent ≡ ahead_of b.text b.pending m.source → TokenWithin b.text b.pending m.source t
       go token.End q l = sym l ∙ w.end q
       go (token.Comment n) q l = subst (λ (k : ℕ). n ≤ k) l (w.comment n q)
       go (token.Quoted i j n) q l = ((w.quoted i j n q).0, (w.quoted i j n q).1, subst (λ (k : ℕ). n ≤ k) l (w.quoted i j n q).2)
@@ -373,6 +347,6 @@ module _ {a : Setting} {b : Memory} {m : Machine} {s : State} (r : Represents a 
 
   -- and of a name the hash
   pub token_hashed :
-      {g : Reading} {hash : ℕ} → NameHashed parts g hash → {t : Token} → g ≡ Is t → NameHashed (bytes_ahead b.text b.pending m.source) (Is t) hash
+      {g : Reading} {hash : ℕ} → NameHashed lent g hash → {t : Token} → g ≡ Is t → NameHashed (bytes_ahead b.text b.pending m.source) (Is t) hash
   token_hashed h q =
-      record { name = λ n e. h.name n (q ∙ e) ∙ ap (λ (l : Bytes). hashed 0 (take n l)) (bytes_parts b.text b.pending m.source) }
+      record { name = λ n e. h.name n (q ∙ e) ∙ ap (λ (w : Bytes). hashed 0 (take n w)) l }

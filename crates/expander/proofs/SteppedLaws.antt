@@ -1,5 +1,5 @@
 -- What a step gives, as the code hands it back: the run goes on, or the step is refused.
-use Rattle.rules.proofs.Base.{◌+◌, ℕ, ◌≡◌, some, sym, subst}
+use Rattle.rules.proofs.Base.{◌+◌, ℕ, ◌≡◌, Some, sym, subst}
 use Rattle.rules.specs.declared.Answer.TheVariants as answer
 use Rattle.rules.specs.Answers.{Fault, fault_answer}
 use Rattle.rules.specs.State.{State, Outcome, next, refused}
@@ -27,5 +27,5 @@ module _ {a : Setting} {b : Memory} {m : Machine} {o : Outcome} {t : Stepped} wh
   pub stepped_refused : (f : Fault) → o ≡ refused f → t ≡ stepped (progress.Refused (fault_answer f)) m → Refines a b o b t
   stepped_refused f e g = rw (e, g) (refines_refused f)
 
-  pub stepped_full : (u : State) (k : ℕ) → overfull (held u) (lengths a) ≡ some k → o ≡ next u → t ≡ stepped (progress.Refused (answer.Room (k + 1))) m → Refines a b o b t
+  pub stepped_full : (u : State) (k : ℕ) → overfull (held u) (lengths a) ≡ Some k → o ≡ next u → t ≡ stepped (progress.Refused (answer.Room (k + 1))) m → Refines a b o b t
   stepped_full u k h e f = rw (e, f) (refines_room u k h)

@@ -1,27 +1,27 @@
 -- Laws of a defined text that arguments are put into, from a place of it on. Assumes nothing.
-use Rattle.rules.proofs.Base.{◌≤◌, ◌+◌, ℕ, ◌-◌, ◌<◌, suc, zero, ◌/◌, ◌%◌, ◌∙◌, refl, sym, ap, ◌≡◌, subst, true, Bool, false, some, none, Option, List, [], ◌++◌, ◌∷◌, append_assoc, append-nil, add-one, arith, ltb, pos, ℤ, length, drop, take, get_or, length-append, length-drop, set, drop_of_length-le, length-take, replicate, length-take-le, drop-cons, drop-drop, take_all, eq-eqb, ne_eqb}
-use borrow.Rule.Slice.PartMut.{put_mid}
+use Rattle.rules.proofs.Base.{◌≤◌, ◌+◌, ℕ, ◌-◌, ◌<◌, suc, zero, ◌/◌, ◌%◌, ◌∙◌, refl, sym, ap, ◌≡◌, subst, true, Bool, false, Some, None, Option, List, [], ◌++◌, ◌∷◌, append_assoc, append-nil, arith, ltb, pos, length, drop, take, get_or, length-append, length-drop, set, drop_of_length-le, replicate, length-take-le, drop-cons, drop-drop, take_all, eq-eqb, ne_eqb}
+use mir.Syntax.{w32}
+use mir.Val.{to_z}
+use Rattle.std.proofs.lemmas.Int.{to_z_pos}
+use Rattle.rules.specs.Words.{largest}
 use Rattle.rules.specs.Bytes.{Bytes, is_digit}
 use Rattle.rules.specs.Marks.{MarkTexts}
-use Rattle.rules.specs.Words.{signed_value}
 use Rattle.rules.specs.Numerals.{digits_by, digits_in, digit_byte, zero_filled, written_in, decimal}
 use Rattle.rules.specs.Arguments.{parameter, parameter_at, substituted}
 use Rattle.rules.proofs.Classes.{digit_bounds, a_digit, no_digit}
-use Rattle.numerals.specs.Answers.{Written}
 use Rattle.expander.specs.Substitution.{parameter_text, parameter_width, OneDigit, Leads, Lays}
 use Rattle.expander.specs.declared.substitution.Parameter.{Parameter}
 use Rattle.expander.specs.declared.substitution.Parameter.TheVariants as kind
-use Rattle.expander.proofs.FilledLaws.{filled_front, filled_long, part_fills, byte_fills}
-use Rattle.expander.proofs.ArgumentLaws.{bits_plain}
+use Rattle.expander.proofs.FilledLaws.{filled_front, filled_long, byte_fills}
 
 -- ---- a text of two bytes at least
 
 module _ (name : Bytes) (args : List Bytes) (m : MarkTexts) (x y : ℕ) (ys : Bytes) where
   either : (o : Option Bytes) → parameter_at name args m x y ≡ o
       → substituted name args m (x ∷ y ∷ ys)
-      ≡ elim o as (λ _. Bytes) [ some w ↦ w ++ substituted name args m ys | none ↦ x ∷ substituted name args m (y ∷ ys) ]
+      ≡ elim o as (λ _. Bytes) [ Some w ↦ w ++ substituted name args m ys | None ↦ x ∷ substituted name args m (y ∷ ys) ]
   unfolding substituted
-  either o e = ap (λ (z : Option Bytes). elim z as (λ _. Bytes) [ some w ↦ w ++ substituted name args m ys | none ↦ x ∷ substituted name args m (y ∷ ys) ]) e
+  either o e = ap (λ (z : Option Bytes). elim z as (λ _. Bytes) [ Some w ↦ w ++ substituted name args m ys | None ↦ x ∷ substituted name args m (y ∷ ys) ]) e
 
 -- ---- what leads a text
 
@@ -29,7 +29,7 @@ module _ (name : Bytes) (args : List Bytes) (m : MarkTexts) (x y : ℕ) (ys : By
 leads_plain : (x : ℕ) (xs : Bytes) → (x ≡ 36 → ⊥) → Leads (x ∷ xs) (kind.Literal x)
 unfolding parameter_text parameter_width OneDigit substituted parameter_at
 leads_plain x [] n = record { is = λ name args m. refl; within = omega arith; digit = tt }
-leads_plain x (y ∷ ys) n = record { is = λ name args m. either name args m x y ys none (rw (ne_eqb x 36 n, parameter_at)); within = omega arith; digit = tt }
+leads_plain x (y ∷ ys) n = record { is = λ name args m. either name args m x y ys None (rw (ne_eqb x 36 n, parameter_at)); within = omega arith; digit = tt }
 
 -- the last byte
 leads_last : (x : ℕ) → Leads (x ∷ []) (kind.Literal x)
@@ -38,11 +38,11 @@ leads_last x = record { is = λ name args m. refl; within = omega arith; digit =
 
 module _ (y : ℕ) (ys : Bytes) where
   -- `$` and a byte that has a meaning behind it
-  leads_named : (p : Parameter) → ((name : Bytes) (args : List Bytes) (m : MarkTexts) → parameter name args m y ≡ some (parameter_text name args m p))
+  leads_named : (p : Parameter) → ((name : Bytes) (args : List Bytes) (m : MarkTexts) → parameter name args m y ≡ Some (parameter_text name args m p))
       → parameter_width p ≡ 2 → OneDigit p → Leads (36 ∷ y ∷ ys) p
   unfolding parameter_at
   leads_named p e w d = record {
-    is = λ name args m. either name args m 36 y ys (some (parameter_text name args m p)) (e name args m) ∙ rw w;
+    is = λ name args m. either name args m 36 y ys (Some (parameter_text name args m p)) (e name args m) ∙ rw w;
     within = omega arith;
     digit = d;
   }
@@ -74,7 +74,7 @@ module _ (y : ℕ) (ys : Bytes) where
   pub leads_dollar : is_digit y ≡ false → (y ≡ 35 → ⊥) → (y ≡ 42 → ⊥) → (y ≡ 64 → ⊥) → Leads (36 ∷ y ∷ ys) (kind.Literal 36)
   unfolding parameter_at parameter parameter_text parameter_width OneDigit
   leads_dollar e a b d = record {
-    is = λ name args m. either name args m 36 y ys none (rw (e, ne_eqb y 35 a, ne_eqb y 42 b, ne_eqb y 64 d, parameter));
+    is = λ name args m. either name args m 36 y ys None (rw (e, ne_eqb y 35 a, ne_eqb y 42 b, ne_eqb y 64 d, parameter));
     within = omega arith;
     digit = tt;
   }
@@ -90,14 +90,7 @@ module _ (body : Bytes) (i : ℕ) (h : i < length body) where
       let e : length body ≤ suc i = omega arith in
       rw (drop-cons body i 0 h, drop_of_length-le body {i = suc i} e) (leads_last (get_or body i 0))
 
-  pub dollar_at : {p : Parameter} → get_or body i 0 ≡ 36 → i + 1 < length body → ((ys : Bytes) → Leads (36 ∷ get_or body (i + 1) 0 ∷ ys) p) → Leads (drop i body) p
-  dollar_at {p} e l f =
-      let g : drop i body ≡ 36 ∷ get_or body (i + 1) 0 ∷ drop (suc (i + 1)) body =
-      drop-cons body i 0 h ∙ ap (λ (z : Bytes). get_or body i 0 ∷ z) (ap (λ (k : ℕ). drop k body) (sym (add-one i)) ∙ drop-cons body (i + 1) 0 l)
-      ∙ ap (λ (z : ℕ). z ∷ get_or body (i + 1) 0 ∷ drop (suc (i + 1)) body) e in
-      subst (λ (s : Bytes). Leads s p) (sym g) (f (drop (suc (i + 1)) body))
-
-width_some : (p : Parameter) → 1 ≤ parameter_width p
+pub width_some : (p : Parameter) → 1 ≤ parameter_width p
 unfolding parameter_width
 width_some kind.Name = omega arith
 width_some (kind.Argument n) = omega arith
@@ -117,9 +110,6 @@ module _ {body : Bytes} {i : ℕ} {p : Parameter} {n : ℕ} (s : Stands body i p
   pub stands_within : i ≤ length body → i + n ≤ length body
   stands_within h = omega (arith, s.leads.within, s.wide, length-drop i body)
 
-  pub stands_some : 1 ≤ n
-  stands_some = omega (arith, s.wide, width_some p)
-
   module _ (name : Bytes) (args : List Bytes) (m : MarkTexts) where
     -- what comes out from i on
     stands_is : substituted name args m (drop i body) ≡ parameter_text name args m p ++ substituted name args m (drop (i + n) body)
@@ -129,10 +119,6 @@ module _ {body : Bytes} {i : ℕ} {p : Parameter} {n : ℕ} (s : Stands body i p
 
     stands_long : length (substituted name args m (drop i body)) ≡ length (parameter_text name args m p) + length (substituted name args m (drop (i + n) body))
     stands_long = ap length stands_is ∙ length-append (parameter_text name args m p) (substituted name args m (drop (i + n) body))
-
-    pub measured_on : (total : ℕ) {whole k : ℕ} → total + length (substituted name args m (drop i body)) ≡ whole → k ≡ length (parameter_text name args m p)
-        → total + k + length (substituted name args m (drop (i + n) body)) ≡ whole
-    measured_on total e f = omega (arith, stands_long)
 
 pub measured_all : (name : Bytes) (args : List Bytes) (m : MarkTexts) (body : Bytes) (i : ℕ) {total whole : ℕ} → length body ≤ i → total + length (substituted name args m (drop i body)) ≡ whole
     → total ≡ whole
@@ -145,9 +131,6 @@ pub record Filling (name : Bytes) (args : List Bytes) (m : MarkTexts) (body : By
   pub in_buffer : at ≤ length dst
   pub long : length dst ≡ length (substituted name args m body)
   pub so_far : take at dst ++ substituted name args m (drop i body) ≡ substituted name args m body
-
-pub filling_begins : (name : Bytes) (args : List Bytes) (m : MarkTexts) (body dst : Bytes) → length dst ≡ length (substituted name args m body) → Filling name args m body 0 dst 0
-filling_begins name args m body dst e = record { in_buffer = omega arith; long = e; so_far = refl }
 
 module _ {name : Bytes} {args : List Bytes} {m : MarkTexts} {body : Bytes} {i : ℕ} {dst : Bytes} {at : ℕ} (f : Filling name args m body i dst at) where
   left : at + length (substituted name args m (drop i body)) ≡ length dst
@@ -207,18 +190,9 @@ decimal_few n =
     let e : length (decimal (pos n)) ≡ length ds = ap (λ (k : ℕ). length (replicate k 48 ++ ds)) none in
     omega (arith, e, digits_few (suc n) 10 n)
 
--- the bits of a number that is not negative stand for it
-pub decimal_long : {k n : ℕ} → k ≤ 2147483647 → n ≡ length (decimal (signed_value k)) → n ≡ length (decimal (pos k))
-decimal_long {k} {n} h e = subst (λ (z : ℤ). n ≡ length (decimal z)) (bits_plain k h) e
-
--- as `write_decimal` leaves a part of a buffer
-pub decimal_fills : (d : Bytes) (a : ℕ) {k n : ℕ} {y : Bytes} {r : Bool} → k ≤ 2147483647 → n ≡ length (decimal (signed_value k)) → a + length (decimal (pos k)) ≤ length d
-    → Written true (decimal (signed_value k)) (take (a + n - a) (drop a d)) r y → Lays d a (decimal (pos k)) (put_mid a (a + n - a) d y) (a + n)
-decimal_fills d a {k} {n} {y} {r} h e fits w =
-    let l : n ≡ length (decimal (pos k)) = decimal_long h e in
-    let size : length (decimal (signed_value k)) ≡ length (take (a + n - a) (drop a d)) = omega (arith, e, length-take (a + n - a) (drop a d), length-drop a d) in
-    let whole : y ≡ decimal (pos k) = w.written ∙ rw (eq-eqb _ _ size) (ap decimal (bits_plain k h)) in
-    record { filled = rw whole (part_fills d (decimal (pos k)) a (a + n) (omega arith) (omega arith)); behind = ap (λ (z : ℕ). a + z) l }
+-- a count as the code casts it
+pub counted_plain : (n : ℕ) → n ≤ largest → to_z w32 n ≡ pos n
+counted_plain n h = to_z_pos w32 n (omega arith)
 
 -- ---- how long the text of a parameter is
 

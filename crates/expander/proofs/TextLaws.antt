@@ -1,8 +1,5 @@
 -- dnl and m4exit, and the macros that set text aside.
-use Rattle.rules.proofs.Base.{◌≤◌, ◌+◌, ℕ, ◌-◌, ◌<◌, ◌*◌, ◌∙◌, refl, sym, ap, ◌≡◌, subst, some, none, List, [], ◌++◌, arith, pos, length, length-append}
-use Rattle.numerals.specs.Answers.{natural_of}
-use Rattle.numerals.specs.declared.Natural.{Natural}
-use Rattle.numerals.specs.declared.Natural.TheVariants as natural
+use Rattle.rules.proofs.Base.{◌≤◌, ◌+◌, ℕ, ◌-◌, ◌<◌, ◌*◌, ◌∙◌, refl, sym, ap, ◌≡◌, subst, Some, None, Option, List, [], ◌++◌, arith, pos, length, length-append}
 use Rattle.rules.specs.declared.Answer.TheVariants as answer
 use Rattle.rules.specs.Answers.{exit, no_number, fault_answer, ending_answer}
 use Rattle.rules.specs.Arguments.{arg, bounded, number_or, separated}
@@ -22,20 +19,19 @@ use Rattle.expander.specs.Filled.{Filled}
 use Rattle.expander.specs.Front.{Front}
 use Rattle.expander.specs.Machine.{Memory, memory, Represents, Refines, source_set, sinks_set, wrap_set, errors_set, stepped}
 use Rattle.expander.specs.Sinks.{SinksIn}
-use Rattle.expander.specs.Source.{SourceIn}
+use Rattle.expander.specs.Source.{SourceIn, bytes_ahead}
 use Rattle.expander.proofs.FilledLaws.{filled_long, front_more}
 use Rattle.expander.proofs.MachineLaws.{front_long, pending_fits, calls_fit, table_fits, streams_fit, wrap_fits, over_wrap, over_errors, refines_stop}
 use Rattle.expander.proofs.Parted.{with_source_lem, with_sinks, with_wrap_lem, with_errors_lem}
-use Rattle.expander.proofs.SourceLaws.{ahead_long, lent_ahead, ahead_lent}
+use Rattle.expander.proofs.SourceLaws.{ahead_long, lent_is}
 use Rattle.expander.proofs.SteppedLaws.{stepped_on, stepped_refused, stepped_full}
 use Rattle.expander.proofs.Waiting.{none_held}
-use Rattle.expander.proofs.ArgumentLaws.{reads_none, reads_some}
 
 -- ---- dnl: the line ahead is taken
 
 module _ {text pending : Bytes} {p : Position} {x : Source} (h : SourceIn text pending p x) where
-  pub line_ahead : {n : ℕ} → LineEnd (lent_ahead text pending p) n → LineEnd (ahead x) n
-  line_ahead {n} l = subst (λ (w : Bytes). LineEnd w n) (ahead_lent h) l
+  pub line_ahead : {t : Bytes} {n : ℕ} → t ≡ bytes_ahead text pending p → LineEnd t n → LineEnd (ahead x) n
+  line_ahead {n = n} e l = subst (λ (w : Bytes). LineEnd w n) (lent_is h e) l
 
   pub line_most : {n : ℕ} → LineEnd (ahead x) n → length text ≤ most_lent → length pending ≤ most_lent → n ≤ 2 * most_lent
   line_most l s t = omega (arith, l.within, ahead_long h)
@@ -94,23 +90,23 @@ module _
           stepped_on (with_errors_lem r (front_more r.errors g) (filled_long g)) (rw e)
           (f ∙ ap (stepped progress.On) (k ∙ ap (λ (i : ℕ). errors_set (m.errors + i) m) l))
 
-    module _ {c : Natural} (e : c ≡ natural_of (bounded 0 255 (number_or (pos 0) 1 args))) where
+    module _ {c : Option ℕ} (e : c ≡ bounded 0 255 (number_or (pos 0) 1 args)) where
       pub exit_refused :
-          c ≡ natural.NoNumber → t ≡ stepped (progress.Refused answer.Number) m
+          c ≡ None → t ≡ stepped (progress.Refused answer.Number) m
           → Refines a (memory text set pending calls call_ends stack definitions table_ends streams owners wrap errors output) (call_m4exit args s)
           (memory text set pending calls call_ends stack definitions table_ends streams owners wrap errors output) t
       unfolding call_m4exit fault_answer
       exit_refused h f =
-          let q : bounded 0 255 (number_or (pos 0) 1 args) ≡ none = reads_none e h in
+          let q : bounded 0 255 (number_or (pos 0) 1 args) ≡ None = sym e ∙ h in
           stepped_refused {m = m} no_number (rw (q, call_m4exit)) f
 
       pub exited :
-          {before : Memory} {m' m'' : Machine} (code : ℕ) → c ≡ natural.Number code → m' ≡ sinks_set (record { current = m.sinks.current; waiting = 0; output = m.sinks.output }) m
+          {before : Memory} {m' m'' : Machine} (code : ℕ) → c ≡ Some code → m' ≡ sinks_set (record { current = m.sinks.current; waiting = 0; output = m.sinks.output }) m
           → m'' ≡ wrap_set 0 m' → t ≡ stepped (progress.Ended (answer.Exit code)) m''
           → Refines a before (call_m4exit args s) (memory text set pending calls call_ends stack definitions table_ends streams owners wrap errors output) t
       unfolding call_m4exit changing changed_in_turn changed ending_answer dropped_streams
       exited code h j k f =
-          let q : bounded 0 255 (number_or (pos 0) 1 args) ≡ some code = reads_some e code h in
+          let q : bounded 0 255 (number_or (pos 0) 1 args) ≡ Some code = sym e ∙ h in
           let z : SinksIn streams owners output (record { current = m.sinks.current; waiting = 0; output = m.sinks.output }) (dropped_streams s.streams) =
           record { waiting = none_held streams owners; written = r.sinks.written; current = r.sinks.current } in
           let w : Front wrap 0 [] = record { text_is = refl; inside = omega arith } in

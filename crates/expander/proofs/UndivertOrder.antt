@@ -1,60 +1,49 @@
 -- Laws of the streams that the arguments of undivert name, in turn. Assumes nothing.
-use Rattle.rules.proofs.Base.{◌≤◌, ◌+◌, ℕ, ◌<◌, suc, zero, ◌∙◌, refl, sym, ap, ◌≡◌, subst, true, Bool, false, some, none, Option, List, [], ◌∷◌, add-one, ℕ_discrete, arith, leb, pos, ℤ, negsuc, length, drop, get_or, drop_of_length-le, drop-cons, eq-eqb, ne_eqb, leb-true}
-use Rattle.numerals.specs.declared.Natural.TheVariants as natural
-use Rattle.numerals.specs.Answers.{natural_of}
+use Rattle.rules.proofs.Base.{◌≤◌, ◌+◌, ℕ, ◌<◌, suc, zero, ◌∙◌, refl, sym, ap, ◌≡◌, subst, true, Bool, false, Some, None, Option, List, [], ◌∷◌, add-one, ℕ_discrete, arith, leb, pos, ℤ, negsuc, length, drop, get_or, drop_of_length-le, drop-cons, eq-eqb, ne_eqb, leb-true}
+use Rattle.std.specs.Prelude.{unwrap_or}
 use Rattle.rules.specs.Bytes.{Bytes}
 use Rattle.rules.specs.Numerals.{number}
 use Rattle.rules.specs.Arguments.{arg, bounded}
 use Rattle.rules.specs.Macros.{also_stream, stream_numbers, undivert_numbers}
-use Rattle.expander.specs.declared.arguments.Arguments.{Arguments}
+use Rattle.expander.specs.declared.argument_strings.Arguments.{Arguments}
 use Rattle.expander.specs.Limits.{call_ends_length}
-use Rattle.expander.specs.Arguments.{ArgumentsIn}
 use Rattle.expander.specs.Streams.{IsStream}
-use Rattle.expander.specs.Diverting.{or_zero, stream_of, all_named, streams_of, turns}
-use Rattle.expander.proofs.ArgumentLaws.{arg_next}
-use Rattle.expander.proofs.ArgumentLaws.{few_arguments, reads_some, reads_none}
+use Rattle.expander.specs.Diverting.{stream_of, all_named, streams_of, turns}
+use Rattle.expander.proofs.ArgumentLaws.{ArgumentsIn, arg_next, few_arguments}
 
 -- ---- the streams that arguments name
 
-bounded_stream : (o : Option ℤ) (n : ℕ) → bounded 1 9 o ≡ some n → IsStream n
+bounded_stream : (o : Option ℤ) (n : ℕ) → bounded 1 9 o ≡ Some n → IsStream n
 unfolding bounded
-bounded_stream none n e = let z : ◌≡◌ {A = ℕ} 0 1 = cc in absurd (omega arith)
-bounded_stream (some (negsuc k)) n e = let z : ◌≡◌ {A = ℕ} 0 1 = cc in absurd (omega arith)
-bounded_stream (some (pos k)) n e = go (leb 1 k) refl (leb k 9) refl e
+bounded_stream None n e = let z : ◌≡◌ {A = ℕ} 0 1 = cc in absurd (omega arith)
+bounded_stream (Some (negsuc k)) n e = let z : ◌≡◌ {A = ℕ} 0 1 = cc in absurd (omega arith)
+bounded_stream (Some (pos k)) n e = go (leb 1 k) refl (leb k 9) refl e
   where
-    go : (t : Bool) → leb 1 k ≡ t → (u : Bool) → leb k 9 ≡ u → elim t [ true ↦ elim u [ true ↦ some k | false ↦ none ] | false ↦ none ] ≡ some n → IsStream n
+    go : (t : Bool) → leb 1 k ≡ t → (u : Bool) → leb k 9 ≡ u → elim t [ true ↦ elim u [ true ↦ Some k | false ↦ None ] | false ↦ None ] ≡ Some n → IsStream n
     go true p true q f = let d : k ≡ n = cc in subst IsStream d (record { low = leb-true 1 k p; high = leb-true k 9 q })
     go true p false q f = let z : ◌≡◌ {A = ℕ} 0 1 = cc in absurd (omega arith)
     go false p u q f = let z : ◌≡◌ {A = ℕ} 0 1 = cc in absurd (omega arith)
 
 module _ (a : Bytes) where
-  pub stream_named : {n : ℕ} → natural_of (bounded 1 9 (number a)) ≡ natural.Number n → n ≡ stream_of a
-  unfolding stream_of or_zero
-  stream_named {n} e = sym (ap or_zero (reads_some {o = bounded 1 9 (number a)} refl n e))
-
-  pub stream_unnamed : natural_of (bounded 1 9 (number a)) ≡ natural.NoNumber → 0 ≡ stream_of a
-  unfolding stream_of or_zero
-  stream_unnamed e = sym (ap or_zero (reads_none {o = bounded 1 9 (number a)} refl e))
-
   -- it is one of the nine
-  named-number : (stream_of a ≡ 0 → ⊥) → bounded 1 9 (number a) ≡ some (stream_of a)
-  unfolding stream_of or_zero
+  named-number : (stream_of a ≡ 0 → ⊥) → bounded 1 9 (number a) ≡ Some (stream_of a)
+  unfolding stream_of
   named-number f = go (bounded 1 9 (number a)) f
     where
-      go : (o : Option ℕ) → (or_zero o ≡ 0 → ⊥) → o ≡ some (or_zero o)
-      go none g = absurd (g refl)
-      go (some n) g = refl
+      go : (o : Option ℕ) → (unwrap_or o 0 ≡ 0 → ⊥) → o ≡ Some (unwrap_or o 0)
+      go None g = absurd (g refl)
+      go (Some n) g = refl
 
   named_stream : (stream_of a ≡ 0 → ⊥) → IsStream (stream_of a)
   named_stream f = bounded_stream (number a) (stream_of a) (named-number f)
 
-  unnamed_number : stream_of a ≡ 0 → bounded 1 9 (number a) ≡ none
-  unfolding stream_of or_zero
+  unnamed_number : stream_of a ≡ 0 → bounded 1 9 (number a) ≡ None
+  unfolding stream_of
   unnamed_number e = go (bounded 1 9 (number a)) refl e
     where
-      go : (o : Option ℕ) → bounded 1 9 (number a) ≡ o → or_zero o ≡ 0 → o ≡ none
-      go none p q = refl
-      go (some n) p q = absurd (omega (arith, (bounded_stream (number a) n p).low))
+      go : (o : Option ℕ) → bounded 1 9 (number a) ≡ o → unwrap_or o 0 ≡ 0 → o ≡ None
+      go None p q = refl
+      go (Some n) p q = absurd (omega (arith, (bounded_stream (number a) n p).low))
 
 -- the arguments one after the other
 rest_unnamed : (a : Bytes) (more : List Bytes) → stream_of a ≡ 0 → all_named (a ∷ more) ≡ false
@@ -87,26 +76,26 @@ module _ (args : List Bytes) (k : ℕ) (e : all_named (drop k args) ≡ all_name
   named_all h = sym (ap all_named (drop_of_length-le args h)) ∙ e
 
 -- what the book takes them for
-numbers-named : (args : List Bytes) → all_named args ≡ true → stream_numbers args ≡ some (streams_of args)
+numbers-named : (args : List Bytes) → all_named args ≡ true → stream_numbers args ≡ Some (streams_of args)
 unfolding stream_numbers also_stream streams_of all_named
 numbers-named [] e = refl
 numbers-named (a ∷ more) e = rw (named-number a (all_first a more e), numbers-named more (all_rest a more e))
 
-numbers_unnamed : (args : List Bytes) → all_named args ≡ false → stream_numbers args ≡ none
+numbers_unnamed : (args : List Bytes) → all_named args ≡ false → stream_numbers args ≡ None
 unfolding stream_numbers also_stream all_named
 numbers_unnamed [] e = let y : ◌≡◌ {A = ℕ} 0 1 = cc in absurd (omega arith)
 numbers_unnamed (a ∷ more) e = go (ℕ_discrete (stream_of a) 0) (numbers_unnamed more)
   where
-    go : Dec (stream_of a ≡ 0) → (all_named more ≡ false → stream_numbers more ≡ none) → also_stream (bounded 1 9 (number a)) (stream_numbers more) ≡ none
+    go : Dec (stream_of a ≡ 0) → (all_named more ≡ false → stream_numbers more ≡ None) → also_stream (bounded 1 9 (number a)) (stream_numbers more) ≡ None
     go (yes q) g = rw (unnamed_number a q)
     go (no f) g = rw (named-number a f, g (sym (rest_named a more f) ∙ e))
 
-pub undivert_named : (args : List Bytes) → all_named args ≡ true → undivert_numbers args ≡ some (turns args)
+pub undivert_named : (args : List Bytes) → all_named args ≡ true → undivert_numbers args ≡ Some (turns args)
 unfolding undivert_numbers turns
 undivert_named [] e = refl
 undivert_named (a ∷ more) e = numbers-named (a ∷ more) e
 
-pub undivert_unnamed : (args : List Bytes) → all_named args ≡ false → undivert_numbers args ≡ none
+pub undivert_unnamed : (args : List Bytes) → all_named args ≡ false → undivert_numbers args ≡ None
 unfolding undivert_numbers all_named
 undivert_unnamed [] e = let y : ◌≡◌ {A = ℕ} 0 1 = cc in absurd (omega arith)
 undivert_unnamed (a ∷ more) e = numbers_unnamed (a ∷ more) e
@@ -169,7 +158,7 @@ turn_each (a ∷ more) e k h =
     rw (streams_at (a ∷ more) k l) (streams_each (a ∷ more) e k l)
 
 -- there are few
-pub few_turns : {bytes : Bytes} {ends : List ℕ} {x : Arguments} {args : List Bytes} → ArgumentsIn bytes ends x args → length (turns args) ≤ call_ends_length
+pub few_turns : {x : Arguments} {args : List Bytes} → ArgumentsIn x args → length (turns args) ≤ call_ends_length
 few_turns {args = args} h = go (ℕ_discrete (length args) 0)
   where
     go : Dec (length args ≡ 0) → length (turns args) ≤ call_ends_length

@@ -1,18 +1,16 @@
 -- The places of a token lie in the text ahead. Assumes nothing.
-use Rattle.rules.proofs.Base.{◌≤◌, ◌+◌, ℕ, ◌-◌, suc, zero, refl, sym, ◌≡◌, subst, true, Bool, false, some, none, Option, [], ◌∷◌, arith, length, drop, get_or, length-drop}
+use Rattle.rules.proofs.Base.{◌≤◌, ◌+◌, ℕ, ◌-◌, suc, zero, refl, sym, ◌≡◌, subst, true, Bool, false, Some, None, Option, [], ◌∷◌, arith, length, drop, get_or, length-drop}
 use Rattle.rules.specs.declared.Token.{Token}
 use Rattle.rules.specs.declared.Token.TheVariants as token
 use Rattle.rules.specs.declared.Reading.{Reading}
 use Rattle.rules.specs.declared.Reading.TheVariants.{Is, OpenQuote, OpenComment}
 use Rattle.rules.specs.Bytes.{Bytes, same_bytes, begins_name, name_length}
 use Rattle.rules.specs.Marks.{MarkTexts, newline_mark}
-use Rattle.rules.specs.Tokens.{begins_with, first_place, QuoteEnd, closes_at, left_open, end_plus_one, quote_end, comment_to_end, comment_read, read_token}
+use Rattle.rules.specs.Tokens.{begins_with, at_mark, first_place, QuoteEnd, closes_at, left_open, end_plus_one, quote_end, comment_to_end, comment_read, read_token}
 use Rattle.rules.specs.Places.{plus_one}
-use Rattle.expander.specs.declared.tokens.Met.{Met}
-use Rattle.expander.specs.declared.tokens.Met.TheVariants.{First, Second, Neither}
-use Rattle.expander.specs.Tokens.{met_at, comment_from, closed_from, quoted_from, plain_read, Within}
+use Rattle.expander.specs.Tokens.{comment_from, closed_from, quoted_from, plain_read, Within}
 use Rattle.expander.proofs.Prefixes.{name_within, name_some}
-use Rattle.expander.proofs.MarkPlaces.{begins_long, at_long, met_tests}
+use Rattle.expander.proofs.MarkPlaces.{begins_long, at_long}
 use Rattle.expander.proofs.Comments.{first_here, first_later, first_none}
 use Rattle.expander.proofs.Quotes.{quote_closes, quote_less, quote_more, quote_same}
 use Rattle.expander.proofs.Reading.{token_end, token_comment, token_quoted, token_plain, plain_name, plain_byte}
@@ -42,13 +40,13 @@ by_cases text r h =
 
 -- n bytes that stand at a place fit into l
 abbrev PlaceIn : ℕ → ℕ → Option ℕ → Type 0
-PlaceIn n l none = Unit {0}
-PlaceIn n l (some k) = k + n ≤ l
+PlaceIn n l None = Unit {0}
+PlaceIn n l (Some k) = k + n ≤ l
 
 plus_one_in : (n l : ℕ) (o : Option ℕ) → PlaceIn n l o → PlaceIn n (suc l) (plus_one o)
 unfolding plus_one
-plus_one_in n l none h = tt
-plus_one_in n l (some k) h = omega arith
+plus_one_in n l None h = tt
+plus_one_in n l (Some k) h = omega arith
 
 first_in_lem : (m s : Bytes) → PlaceIn (length m) (length s) (first_place m s)
 first_in_lem m [] = go (begins_with m []) refl
@@ -62,7 +60,7 @@ first_in_lem m (x ∷ xs) = go (begins_with m (x ∷ xs)) refl (first_in_lem m x
     go true e h = rw (first_here m (x ∷ xs) e) (omega (arith, begins_long m (x ∷ xs) e))
     go false e h = rw (first_later m x xs e) (plus_one_in (length m) (length xs) (first_place m xs) h)
 
-pub first_within : (m s : Bytes) (n : ℕ) → first_place m s ≡ some n → n + length m ≤ length s
+pub first_within : (m s : Bytes) (n : ℕ) → first_place m s ≡ Some n → n + length m ≤ length s
 first_within m s n e = subst (PlaceIn (length m) (length s)) e (first_in_lem m s)
 
 abbrev EndIn : ℕ → ℕ → QuoteEnd → Type 0
@@ -104,8 +102,8 @@ comment_in end text b h =
     go (first_place end s) (subst (λ (l : ℕ). PlaceIn (length end) l (first_place end s)) (length-drop b text) (first_in_lem end s))
   where
     go : (o : Option ℕ) → PlaceIn (length end) (length text - b) o → ReadingIn text (comment_read end (length text) b o)
-    go none k = to_end_in end text
-    go (some i) k = omega arith
+    go None k = to_end_in end text
+    go (Some i) k = omega arith
 
 quoted_in : (begin end text : Bytes) → length begin ≤ length text → ReadingIn text (quoted_from begin end text 1 (length begin))
 unfolding quoted_from closed_from
@@ -126,16 +124,14 @@ plain_in text h = go (begins_name (get_or text 0 0)) refl
 
 token_in : (m : MarkTexts) (text : Bytes) → ReadingIn text (read_token m text)
 token_in m [] = subst (ReadingIn []) (token_end m [] refl) refl
-token_in m (x ∷ xs) = go (met_at m.begin_comment m.begin_quote (x ∷ xs)) refl (omega arith)
+token_in m (x ∷ xs) = go (at_mark m.begin_comment (x ∷ xs)) (at_mark m.begin_quote (x ∷ xs)) refl refl (omega arith)
   where
-    go : (k : Met) → met_at m.begin_comment m.begin_quote (x ∷ xs) ≡ k → 1 ≤ length (x ∷ xs) → ReadingIn (x ∷ xs) (read_token m (x ∷ xs))
-    go First e h =
-        subst (ReadingIn (x ∷ xs)) (token_comment m (x ∷ xs) h e)
-        (comment_in m.end_comment (x ∷ xs) (length m.begin_comment) (at_long m.begin_comment (x ∷ xs) (met_tests m.begin_comment m.begin_quote (x ∷ xs) First e)))
-    go Second e h =
-        subst (ReadingIn (x ∷ xs)) (token_quoted m (x ∷ xs) h e)
-        (quoted_in m.begin_quote m.end_quote (x ∷ xs) (at_long m.begin_quote (x ∷ xs) (met_tests m.begin_comment m.begin_quote (x ∷ xs) Second e).1))
-    go Neither e h = subst (ReadingIn (x ∷ xs)) (token_plain m (x ∷ xs) h e) (plain_in (x ∷ xs) h)
+    go : (t u : Bool) → at_mark m.begin_comment (x ∷ xs) ≡ t → at_mark m.begin_quote (x ∷ xs) ≡ u → 1 ≤ length (x ∷ xs) → ReadingIn (x ∷ xs) (read_token m (x ∷ xs))
+    go true u e f h =
+        subst (ReadingIn (x ∷ xs)) (token_comment m (x ∷ xs) h e) (comment_in m.end_comment (x ∷ xs) (length m.begin_comment) (at_long m.begin_comment (x ∷ xs) e))
+    go false true e f h =
+        subst (ReadingIn (x ∷ xs)) (token_quoted m (x ∷ xs) h e f) (quoted_in m.begin_quote m.end_quote (x ∷ xs) (at_long m.begin_quote (x ∷ xs) f))
+    go false false e f h = subst (ReadingIn (x ∷ xs)) (token_plain m (x ∷ xs) h e f) (plain_in (x ∷ xs) h)
 
 pub token_within : (m : MarkTexts) (text : Bytes) (r : Reading) → r ≡ read_token m text → (r ≡ read_token m text) × Within text r
 token_within m text r e = (e, by_cases text r (subst (ReadingIn text) (sym e) (token_in m text)))

@@ -1,6 +1,7 @@
 -- The definitions of each bucket as a chain, behind the bytes of the meanings: the links of two definitions in a word, the least first; then a word for
 -- each bucket, with the head of its chain and above it the number of the predefined name that has the bucket.
-use Rattle.std.specs.Prelude.{◌≡◌, ℕ, zero, suc, ◌+◌, ◌-◌, ◌*◌, ◌/◌, ◌%◌, ◌^◌, ◌<◌, ◌≤◌, true, false, List, [], length, take, drop, ◌==◌, ◌≢◌, slice_index, slice_index_or}
+use Rattle.std.specs.Prelude.{◌≡◌, ℕ, zero, suc, ◌+◌, ◌-◌, ◌/◌, ◌%◌, ◌<◌, ◌≤◌, true, false, List, [], length, take, drop, ◌==◌, ◌≢◌, slice_index, slice_index_or, unwrap_or}
+use Rattle.expander.specs.Fields.{field_at}
 use Rattle.rules.specs.Table.{text, Definition}
 use Rattle.hashing.specs.Hashing.{bucket_of}
 use Rattle.builtins.specs.Numbers.{candidate_in}
@@ -10,15 +11,11 @@ use Rattle.expander.specs.Limits.{bucket_count, links_start, heads_start}
 unfoldable pub blank : Definition
 blank = record { name = []; meaning = text [] }
 
--- half j of a word, the least first
-unfoldable pub half_of : ℕ → ℕ → ℕ
-half_of j word = word / 2 ^ (16 * j) % 65536
-
 -- the link of definition i
 unfoldable pub link_at : List ℕ → ℕ → ℕ
-link_at ends i = half_of (i % 2) (slice_index ends (links_start + i / 2))
+link_at = field_at 16 links_start
 
--- the head of a bucket's chain, and above it the number of the predefined name that has the bucket
+-- the head of a bucket's chain, and above it the number of the predefined name that has the bucket, 0 where none has it
 unfoldable pub head_at : List ℕ → ℕ → ℕ
 head_at ends b = slice_index ends (heads_start + b) % 131072
 
@@ -32,7 +29,7 @@ newest_in b ds (suc n) = elim (bucket_of (slice_index_or ds n blank).name == b) 
 
 -- the numbers of the predefined names stand with their buckets
 abbrev pub Candidates : List ℕ → Type 0
-Candidates ends = (b : ℕ) → b < bucket_count → candidate_at ends b ≡ candidate_in b
+Candidates ends = (b : ℕ) → b < bucket_count → candidate_at ends b ≡ unwrap_or (candidate_in b) 0
 
 -- 02, request 9 "199 buckets": the head of each bucket is its newest definition, and the link of each definition the next older one of its bucket
 pub record Chained (ends : List ℕ) (ds : List Definition) : Type 0 where

@@ -1,23 +1,16 @@
 -- The streams that undivert moves in turn, and what its functions ask of the buffers.
-use Rattle.std.specs.Prelude.{◌≡◌, ℕ, ◌-◌, ◌≤◌, Bool, true, false, ◌⊎◌, List, [], ◌∷◌, length, pos, ◌==◌, ◌≢◌, slice_index, slice_index_or}
-use Rattle.std.proofs.Math.Option.{Option, none, some}
+use Rattle.std.specs.Prelude.{◌≡◌, ℕ, ◌-◌, ◌≤◌, Bool, true, false, ◌⊎◌, List, [], ◌∷◌, length, pos, ◌==◌, ◌≢◌, slice_index, slice_index_or, unwrap_or}
 use Rattle.rules.specs.Bytes.{Bytes}
 use Rattle.rules.specs.Numerals.{number}
 use Rattle.rules.specs.Arguments.{bounded}
 use Rattle.rules.specs.Streams.{Streams}
-use Rattle.expander.specs.declared.arguments.Arguments.{Arguments}
 use Rattle.expander.specs.declared.sinks.Sinks.{Sinks}
-use Rattle.expander.specs.Arguments.{ArgumentsIn, SomeArguments}
 use Rattle.expander.specs.Streams.{IsStream}
 use Rattle.expander.specs.Sinks.{SinksIn}
 
-unfoldable pub or_zero : Option ℕ → ℕ
-or_zero none = 0
-or_zero (some n) = n
-
 -- the stream that an argument names; 0: none
 unfoldable pub stream_of : Bytes → ℕ
-stream_of a = or_zero (bounded 1 9 (number a))
+stream_of a = unwrap_or (bounded 1 9 (number a)) 0
 
 unfoldable pub all_named : List Bytes → Bool
 all_named [] = true
@@ -31,11 +24,6 @@ streams_of (a ∷ more) = stream_of a ∷ streams_of more
 unfoldable pub turns : List Bytes → List ℕ
 turns [] = 1 ∷ 2 ∷ 3 ∷ 4 ∷ 5 ∷ 6 ∷ 7 ∷ 8 ∷ 9 ∷ []
 turns (a ∷ more) = streams_of (a ∷ more)
-
--- arguments each of which names a stream
-pub record StreamArguments (bytes : Bytes) (ends : List ℕ) (x : Arguments) : Type 0 where
-  pub given : SomeArguments bytes ends x
-  pub named : (args : List Bytes) → ArgumentsIn bytes ends x args → all_named args ≡ true
 
 -- some texts stand in the buffers, and what `made` makes of them fits: what moves ask; `scratch` has room for any of them
 pub record SomeSinks (streams : Bytes) (owners : List ℕ) (output scratch : Bytes) (k : Sinks) (made : Streams → Streams) : Type 0 where

@@ -6,9 +6,11 @@ pub mod Calls
 pub mod Defn
 pub mod Diverting
 pub mod Events
+pub mod Fields
 pub mod Filled
 pub mod Front
 pub mod Giving
+pub mod Held
 pub mod Limits
 pub mod Machine
 pub mod Meanings

@@ -1,6 +1,5 @@
 -- Which state the buffers, the links and the by-value machine represent, and what a step has to give.
-use Rattle.std.specs.Prelude.{◌≡◌, ℕ, ◌+◌, ◌-◌, ◌≤◌, List, ◌++◌, length, drop}
-use Rattle.std.proofs.Math.Option.{some}
+use Rattle.std.specs.Prelude.{◌≡◌, ℕ, ◌+◌, ◌≤◌, List, length, Some}
 use Rattle.rules.specs.Bytes.{Bytes}
 use Rattle.rules.specs.Sets.{set_items}
 use Rattle.rules.specs.Marks.{mark_texts}
@@ -17,6 +16,7 @@ use Rattle.expander.specs.declared.machine.Progress.{Progress}
 use Rattle.expander.specs.declared.machine.Progress.TheVariants as progress
 use Rattle.expander.specs.Limits.{most_lent, call_ends_length, stack_length, table_ends_length}
 use Rattle.expander.specs.Source.{SourceIn}
+pub use Rattle.expander.specs.Source.{ahead_of, bytes_ahead}
 use Rattle.expander.specs.Calls.{CallsIn}
 use Rattle.expander.specs.Table.{TableIn}
 use Rattle.expander.specs.Tokens.{GoodMarks}
@@ -129,7 +129,7 @@ pub record Limits (a : Setting) (b : Memory) : Type 0 where
 
 -- with the lengths of the setting a lent, the memory b and the machine m represent the state s, part by part
 pub record Represents (a : Setting) (b : Memory) (m : Machine) (s : State) : Type 0 where
-  pub set : set_items b.set ≡ some s.set
+  pub set : set_items b.set ≡ Some s.set
   pub source : SourceIn b.text b.pending m.source s.source
   pub marks : s.marks ≡ mark_texts m.marks
   pub marks_good : GoodMarks m.marks
@@ -184,14 +184,6 @@ pub record Valid (lent : Memory → Memory) (m : Machine) : Type 0 where
 pub record ValidAt (lent : Memory → Memory) (made : Machine → Machine) : Type 0 where
   pub machine : Machine
   pub valid : Valid lent (made machine)
-
--- how many bytes are ahead of a position
-abbrev pub ahead_of : Bytes → Bytes → Position → ℕ
-ahead_of text pending p = (length pending - p.from) + (length text - p.taken)
-
--- and these bytes
-abbrev pub bytes_ahead : Bytes → Bytes → Position → Bytes
-bytes_ahead text pending p = drop p.from pending ++ drop p.taken text
 
 -- n bytes from `start` on, and `width` bytes, are ahead
 pub record Reach (text pending : Bytes) (p : Position) (start n width : ℕ) : Type 0 where

@@ -1,14 +1,11 @@
 -- The meaning of each definition as a byte: behind the ends of the table's strings, four in a word, the least first.
-use Rattle.std.specs.Prelude.{◌≡◌, ℕ, ◌+◌, ◌*◌, ◌/◌, ◌%◌, ◌^◌, ◌<◌, ◌≤◌, List, take, drop, ◌≢◌, slice_index}
+use Rattle.std.specs.Prelude.{◌≡◌, ℕ, ◌+◌, ◌<◌, ◌≤◌, List, take, drop, ◌≢◌}
+use Rattle.expander.specs.Fields.{field_at}
 use Rattle.expander.specs.Limits.{meanings_start, links_start}
-
--- byte j of a word, the least first
-unfoldable pub byte_of : ℕ → ℕ → ℕ
-byte_of j word = word / 2 ^ (8 * j) % 256
 
 -- the byte of definition i
 unfoldable pub number_at : List ℕ → ℕ → ℕ
-number_at ends i = byte_of (i % 4) (slice_index ends (meanings_start + i / 4))
+number_at = field_at 8 meanings_start
 
 -- the byte of definition i is another one; all others, the ends before them and the chains behind them are as they were
 pub record Put (before : List ℕ) (i number : ℕ) (after : List ℕ) : Type 0 where

@@ -15,6 +15,15 @@ pub record Packs (ends : List ℕ) (count : ℕ) (bytes : Bytes) (used : ℕ) (s
   pub count_in : count ≤ length ends
   pub used_in : used ≤ length bytes
 
+-- a list of bytes cut at ends, the first string starting at a place
+unfoldable pub cut : ℕ → List ℕ → Bytes → List Bytes
+cut from [] bytes = []
+cut from (e ∷ es) bytes = take (e - from) bytes ∷ cut e es (drop (e - from) bytes)
+
+-- the first `count` strings of a buffer, by their ends
+unfoldable pub strings_in : List ℕ → ℕ → Bytes → List Bytes
+strings_in ends count bytes = cut 0 (take count ends) bytes
+
 -- some strings are packed: what functions ask
 pub record Formed (ends : List ℕ) (count : ℕ) (bytes : Bytes) (used : ℕ) : Type 0 where
   pub strings : List Bytes

@@ -1,6 +1,5 @@
 -- What the run leaves, and what its functions ask.
-use Rattle.std.specs.Prelude.{◌≡◌, ℕ, ◌+◌, ◌-◌, ◌<◌, ◌≤◌, true, false, List, [], length, replicate}
-use Rattle.std.proofs.Math.Option.{some}
+use Rattle.std.specs.Prelude.{◌≡◌, ℕ, ◌+◌, ◌-◌, ◌<◌, ◌≤◌, true, false, List, [], length, replicate, Some}
 use Rattle.rules.specs.declared.Answer.{Answer}
 use Rattle.rules.specs.declared.Report.{Report}
 use Rattle.rules.specs.Bytes.{Bytes}
@@ -26,7 +25,7 @@ pub record Roomy (b : Memory) : Type 0 where
   pub setting : Setting
   pub limits : Limits setting b
   pub items : List Item
-  pub items_are : set_items b.set ≡ some items
+  pub items_are : set_items b.set ≡ Some items
   pub chained : Chained b.table_ends []
 
 -- what the loop has in hand after `count` steps, of which `left` more may follow: the whole run is the run from here

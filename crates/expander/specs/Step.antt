@@ -1,5 +1,5 @@
 -- What a byte does in a call, and where a token lies, as the code goes by.
-use Rattle.std.specs.Prelude.{◌≡◌, ℕ, ◌+◌, ◌≤◌, List, [], ◌∷◌}
+use Rattle.std.specs.Prelude.{◌≡◌, ℕ, ◌+◌, ◌≤◌, Bool, List, [], ◌∷◌}
 use Rattle.rules.specs.declared.Token.{Token}
 use Rattle.rules.specs.declared.Token.TheVariants as token
 use Rattle.rules.specs.Bytes.{Bytes}
@@ -8,7 +8,6 @@ use Rattle.rules.specs.Step.{collecting, closed, comma_met, in_call}
 use Rattle.expander.specs.declared.source.Position.{Position}
 use Rattle.expander.specs.declared.events.Role.{Role}
 use Rattle.expander.specs.declared.events.Role.TheVariants as role
-use Rattle.expander.specs.Calls.{bit}
 use Rattle.expander.specs.Machine.{ahead_of}
 
 -- what follows from the byte x of a role
@@ -26,8 +25,8 @@ deep_at role.Closes = 0
 deep_at role.Separates = 0
 
 -- r is the role of the byte x in a call with so many parentheses open in the argument, which collected a token or did not
-pub record HasRole (x depth collected : ℕ) (r : Role) : Type 0 where
-  pub is : (c : Call) (cs : List Call) (s : State) → c.depth ≡ depth → bit c.collected ≡ collected → in_call x c cs s ≡ by_role r x c cs s
+pub record HasRole (x depth : ℕ) (collected : Bool) (r : Role) : Type 0 where
+  pub is : (c : Call) (cs : List Call) (s : State) → c.depth ≡ depth → c.collected ≡ collected → in_call x c cs s ≡ by_role r x c cs s
   pub deep : deep_at r ≤ depth + 1
 
 -- the places of a token lie in the text ahead

@@ -1,6 +1,8 @@
 -- The definitions in force, as packed strings, and what looking one up answers.
-use Rattle.std.specs.Prelude.{◌≡◌, ℕ, ◌+◌, ◌-◌, ◌*◌, ◌^◌, ◌<◌, ◌≤◌, Bool, true, false, List, [], ◌∷◌, ◌++◌, length, drop, slice_index_or, slice_range}
-use Rattle.std.proofs.Math.Option.{Option, none, some}
+use Rattle.std.specs.Prelude.{◌≡◌, ℕ, ◌+◌, ◌-◌, ◌*◌, ◌^◌, ◌<◌, ◌≤◌, Bool, true, false, List, [], ◌∷◌, ◌++◌, length, drop, slice_index_or, slice_range, Option, None, Some}
+use Rattle.std.specs.declared.ops.ControlFlow.{ControlFlow}
+use Rattle.std.specs.declared.ops.ControlFlow.TheVariants.{Break, Continue}
+use Rattle.std.proofs.Common.{Bor, MutBor}
 use Rattle.rules.specs.Bytes.{Bytes, same_bytes}
 use Rattle.rules.specs.Table.{Meaning, text, predefined, needs_parenthesis, Definition, Table}
 use Rattle.expander.specs.Limits.{most_lent, macro_count, table_ends_length}
@@ -11,10 +13,9 @@ use Rattle.expander.specs.Buckets.{newest_in, Chained}
 unfoldable pub use Rattle.expander.specs.Buckets.{blank}
 use Rattle.expander.specs.Packed.{Packs}
 use Rattle.expander.specs.declared.packed.Packed.{Packed}
-use Rattle.expander.specs.declared.table.Found.{Found}
-use Rattle.expander.specs.declared.table.Found.TheVariants as found
-use Rattle.expander.specs.declared.table.Visited.{Visited}
-use Rattle.expander.specs.declared.table.Visited.TheVariants as visited
+use Rattle.expander.specs.declared.table.Definitions.{Definitions}
+use Rattle.expander.specs.declared.table.NewMeaning.{NewMeaning}
+use Rattle.expander.specs.declared.table.NewMeaning.TheVariants as new
 use Rattle.expander.specs.declared.table.Meaning.{Meaning as Looked}
 use Rattle.expander.specs.declared.table.Meaning.TheVariants as looked
 
@@ -43,6 +44,11 @@ pub record Means (m : Meaning) (x : Bytes) (k : ℕ) : Type 0 where
   pub text_is : meaning_text m ≡ x
   pub number_is : meaning_number m ≡ k
   pub numbered : Numbered m
+
+-- the meaning that a name gets
+unfoldable pub new_meaning : NewMeaning → Meaning
+new_meaning (new.Text s) = text s.now
+new_meaning (new.Predefined k) = predefined k
 
 -- every name has a byte at least, and every meaning is told by its byte
 unfoldable pub Sound : List Definition → Type 0
@@ -79,20 +85,21 @@ pub record TableIn (bytes : Bytes) (ends : List ℕ) (p : Packed) (own : ℕ) (t
   pub own_is : t.own ≡ own
   pub own_few : own < 2 ^ macro_count
 
--- the place that a search found
-unfoldable pub place_of : Found → Option ℕ
-place_of (found.At i) = some i
-place_of found.Nowhere = none
+-- what a step of a search for w comes to, which has come to the definition of place and one `left`: its place, or where to go on
+unfoldable pub visited_at : Bytes → List Definition → ℕ → ControlFlow ℕ ℕ
+visited_at w ds left = elim (same_bytes w (slice_index_or ds (left - 1) blank).name) [ true ↦ Break (left - 1) | false ↦ Continue (newest_in (bucket_of w) ds (left - 1)) ]
 
--- what a step of a search for w answers, which has come to the definition of place and one `left`
-unfoldable pub visited_at : Bytes → List Definition → ℕ → Visited
-visited_at w ds left = elim (same_bytes w (slice_index_or ds (left - 1) blank).name) [ true ↦ visited.Named | false ↦ visited.Older (newest_in (bucket_of w) ds (left - 1)) ]
+-- a step that changes the definitions, by what may come of a call of it, makes of each table what f makes of it
+abbrev pub Changes : (Definitions → MutBor Bytes → MutBor (List ℕ) → Bor Bytes → Definitions → MutBor Bytes → MutBor (List ℕ) → Type 0) → (Bytes → Table → Table) → Type 0
+Changes may f =
+    (d : Definitions) (p : MutBor Bytes) (e : MutBor (List ℕ)) (w : Bor Bytes) (r : Definitions) (p' : MutBor Bytes) (e' : MutBor (List ℕ)) → may d p e w r p' e'
+    → (t : Table) → TableIn p.now e.now d.packed d.own t → TableIn p'.now e'.now r.packed r.own (f w.now t)
 
 -- the meaning that looking a name up answers, over the strings of the definitions
 unfoldable pub meaning_for : List Bytes → Looked → Option Meaning
-meaning_for ss (looked.Text i) = some (text (slice_index_or ss (2 * i + 1) []))
-meaning_for ss (looked.Predefined k) = some (predefined k)
-meaning_for ss looked.Undefined = none
+meaning_for ss (looked.Text i) = Some (text (slice_index_or ss (2 * i + 1) []))
+meaning_for ss (looked.Predefined k) = Some (predefined k)
+meaning_for ss looked.Undefined = None
 
 -- how many strings there are up to the text that it answers
 unfoldable pub text_end : Looked → ℕ

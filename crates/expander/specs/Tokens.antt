@@ -1,5 +1,5 @@
 -- What reading a token asks of the marks, and what it gives.
-use Rattle.std.specs.Prelude.{◌≡◌, ℕ, zero, suc, ◌+◌, ◌-◌, ◌<◌, ◌≤◌, Bool, true, false, length, take, drop, nat_lt, slice_index}
+use Rattle.std.specs.Prelude.{◌≡◌, ℕ, zero, suc, ◌+◌, ◌-◌, ◌<◌, ◌≤◌, true, false, length, take, drop, nat_lt, slice_index}
 use Rattle.rules.specs.declared.Mark.{Mark}
 use Rattle.rules.specs.declared.Marks.{Marks}
 use Rattle.rules.specs.declared.Token.TheVariants as token
@@ -7,10 +7,8 @@ use Rattle.rules.specs.declared.Reading.{Reading}
 use Rattle.rules.specs.declared.Reading.TheVariants.{Is, OpenQuote, OpenComment}
 use Rattle.rules.specs.Bytes.{Bytes, begins_name, name_length}
 use Rattle.rules.specs.Marks.{mark_text}
-use Rattle.rules.specs.Tokens.{at_mark, first_place, QuoteEnd, closes_at, left_open, quote_end, comment_read}
+use Rattle.rules.specs.Tokens.{first_place, QuoteEnd, closes_at, left_open, quote_end, comment_read}
 use Rattle.hashing.specs.Hashing.{hashed}
-use Rattle.expander.specs.declared.tokens.Met.{Met}
-use Rattle.expander.specs.declared.tokens.Met.TheVariants.{First, Second, Neither}
 use Rattle.expander.specs.declared.tokens.Open.{Open}
 
 -- a mark of 1 to 5 bytes
@@ -34,15 +32,6 @@ pub record MarkLength (m : Mark) (r : ℕ) : Type 0 where
 pub record FirstByte (m : Mark) (r : ℕ) : Type 0 where
   pub byte : r ≡ slice_index (mark_text m) 0
   pub full : 1 ≤ length (mark_text m)
-
--- which of two marks stands at the front, by the tests of the two
-unfoldable pub met_by : Bool → Bool → Met
-met_by true second = First
-met_by false true = Second
-met_by false false = Neither
-
-unfoldable pub met_at : Bytes → Bytes → Bytes → Met
-met_at first second text = met_by (at_mark first text) (at_mark second text)
 
 -- a comment that ends at the place i, left open if that is beyond the n bytes ahead
 unfoldable pub comment_ending_at : ℕ → ℕ → Reading

@@ -1,6 +1,5 @@
 -- What a step comes to once room is judged.
-use Rattle.std.specs.Prelude.{ℕ, suc, List}
-use Rattle.std.proofs.Math.Option.{Option, none, some}
+use Rattle.std.specs.Prelude.{ℕ, suc, List, Option, None, Some}
 use Rattle.rules.specs.declared.Answer.{Answer}
 use Rattle.rules.specs.declared.Answer.TheVariants as answer
 use Rattle.rules.specs.Answers.{fault_answer, ending_answer}
@@ -15,8 +14,8 @@ pub data Verdict : Type 0 where
 
 -- a buffer would be overfull, or none
 unfoldable pub roomed : Option ℕ → Verdict → Verdict
-roomed none v = v
-roomed (some b) v = denied (answer.Room (suc b))
+roomed None v = v
+roomed (Some b) v = denied (answer.Room (suc b))
 
 unfoldable pub verdict : List ℕ → Outcome → Verdict
 verdict ls (next t) = roomed (overfull (held t) ls) (going t)

@@ -12,17 +12,15 @@ ghost use Rattle.expander.specs.Buckets.{link_at, head_at, Linked, Headed, Candi
 ghost use Rattle.expander.specs.Table.{rows, blank, RowsIn};
 
 use crate::limits::{BUCKETS, HEADS, LINKS};
-use crate::packed;
 use crate::packed::Packed;
+use crate::{fields, packed};
 
 // The link of definition i.
 pub(crate) fn link_at(ends: &[u32], i: usize) -> usize
     requires { (length ends.now ≡ table_ends_length) × (i < most_lent) }
     ensures { result ≡ link_at ends.now i }
 {
-    let word = ends[LINKS + i / 2];
-    let bits = 16 * (i % 2);
-    ((word >> bits) % 65536) as usize
+    fields::get::<16>(ends, LINKS, i) as usize
 }
 
 // The link of definition i becomes `link`.
@@ -30,15 +28,10 @@ fn put_link(ends: &mut [u32], i: usize, link: u32)
     requires { (length ends.old ≡ table_ends_length) × (i < most_lent) × (link < 65536) }
     ensures { Linked ends.old i link ends.new }
 {
-    let at = LINKS + i / 2;
-    let word = ends[at];
-    let bits = 16 * (i % 2);
-    let unit = 1u32 << bits;
-    let old = (word >> bits) % 65536;
-    ends[at] = word - old * unit + link * unit;
+    fields::put::<16>(ends, LINKS, i, link);
 }
 
-// The head of a bucket.
+// The head of a bucket. (Its 17 bits leave room for no second one, so these words are not packed as fields.)
 pub(crate) fn head_at(ends: &[u32], bucket: usize) -> usize
     requires { (length ends.now ≡ table_ends_length) × (bucket < bucket_count) }
     ensures { result ≡ head_at ends.now bucket }
@@ -47,11 +40,12 @@ pub(crate) fn head_at(ends: &[u32], bucket: usize) -> usize
 }
 
 // The number of the predefined name that has a bucket.
-pub(crate) fn candidate_at(ends: &[u32], bucket: usize) -> u8
+pub(crate) fn candidate_at(ends: &[u32], bucket: usize) -> Option<u8>
     requires { (length ends.now ≡ table_ends_length) × (bucket < bucket_count) × Candidates ends.now }
     ensures { result ≡ candidate_in bucket }
 {
-    (ends[HEADS + bucket] / 131072) as u8
+    let number = (ends[HEADS + bucket] / 131072) as u8;
+    (number != 0).then_some(number)
 }
 
 // The head of a bucket becomes `head`.
@@ -81,10 +75,8 @@ pub(crate) fn begin(ends: &mut [u32])
     requires { length ends.old ≡ table_ends_length }
     ensures { Chained ends.new [] }
 {
-    let mut b = 0;
-    while b < BUCKETS {
-        ends[HEADS + b] = builtins::candidate(b) as u32 * 131072;
-        b += 1;
+    for b in 0..BUCKETS {
+        ends[HEADS + b] = builtins::candidate(b).unwrap_or(0) as u32 * 131072;
     }
 }
 
@@ -93,10 +85,8 @@ fn clear_heads(ends: &mut [u32])
     requires { (length ends.old ≡ table_ends_length) × Candidates ends.old }
     ensures { Chained ends.new [] × (take links_start ends.new ≡ take links_start ends.old) }
 {
-    let mut b = 0;
-    while b < BUCKETS {
+    for b in 0..BUCKETS {
         put_head(ends, b, 0);
-        b += 1;
     }
 }
 
@@ -109,11 +99,9 @@ pub(crate) fn rebuild(bytes: &[u8], ends: &mut [u32], packed: Packed)
 {
     clear_heads(ends);
     let n = packed.count / 2;
-    let mut i = 0;
-    while i < n {
+    for i in 0..n {
         let bucket = hashing::bucket_of(packed::string(bytes, ends, packed, 2 * i));
         join(ends, bucket, i);
-        i += 1;
     }
 }
 

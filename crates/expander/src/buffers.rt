@@ -9,7 +9,7 @@ pub(crate) fn fill_slice(s: &[u8], buffer: &mut [u8], at: usize)
     ensures { Filled buffer.old at s.now buffer.new }
 {
     let end = at + s.len();
-    ascii::copy(s, &mut buffer[at..end]);
+    buffer[at..end].copy_from_slice(s);
 }
 
 // s in front of the text that stands from `from` on; returns where it begins.
@@ -26,11 +26,7 @@ pub(crate) fn push(buffer: &mut [u8], from: usize, s: &[u8]) -> usize
 pub(crate) fn clear(b: &mut [u8])
     ensures { b.new ≡ replicate (length b.old) 0 }
 {
-    let mut i = 0;
-    while i < b.len() {
-        b[i] = 0;
-        i += 1;
-    }
+    b.fill(0);
 }
 
 // src over the front of dst.

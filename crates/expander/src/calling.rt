@@ -1,8 +1,7 @@
 // Calls that are made: at once without arguments, or when they are closed.
 ghost use Rattle.expander.specs.Limits.{most_lent};
 ghost use Rattle.expander.specs.Table.{Finds};
-ghost use Rattle.std.specs.Prelude.{◌≡◌, ◌<◌, List, [], ◌∷◌, length, take};
-ghost use Rattle.std.proofs.Math.Option.{Option};
+ghost use Rattle.std.specs.Prelude.{◌≡◌, ◌<◌, List, [], ◌∷◌, length, take, Option};
 ghost use Rattle.rules.specs.State.{State, Call, taking};
 ghost use Rattle.rules.specs.Run.{Setting};
 ghost use Rattle.rules.specs.Source.{ahead};
@@ -12,7 +11,7 @@ ghost use Rattle.rules.specs.Macros.{called};
 ghost use Rattle.rules.specs.Table.{Meaning as TableMeaning};
 ghost use Rattle.expander.specs.Events.{ValidName};
 
-use crate::arguments::Arguments;
+use crate::argument_strings::Arguments;
 use crate::machine::{Machine, Stepped};
 use crate::table::Meaning;
 use crate::{calls, giving, macros, names, packed, table};
@@ -44,24 +43,23 @@ pub(crate) fn bare(
     ensures { (a : Setting) (s : State) (b : Memory) (w : Option TableMeaning) → Represents a (input_at text.now set.now (pending_at pending.old (strings_at calls.now ends.now (definitions_at definitions.old table_ends.old (sinks_at streams.old owners.old output.old (wrap_at wrap.old (errors_at errors.old b))))))) m s → Finds s.table.definitions w meaning → Refines a (input_at text.now set.now (pending_at pending.old (strings_at calls.now ends.now (definitions_at definitions.old table_ends.old (sinks_at streams.old owners.old output.old (wrap_at wrap.old (errors_at errors.old b))))))) (called w (take n (ahead s.source)) [] (taking n s)) (input_at text.now set.now (pending_at pending.new (strings_at calls.now ends.now (definitions_at definitions.new table_ends.new (sinks_at streams.new owners.new output.new (wrap_at wrap.new (errors_at errors.new b))))))) result }
 {
     let strings = m.calls.strings;
-    let base = strings.count;
-    let x = Arguments { strings, base };
-    let p = m.source;
-    let to = p.advanced(pending, n);
+    let x = Arguments {
+        bytes: calls,
+        ends,
+        strings,
+        base: strings.count,
+    };
+    let to = m.source.advanced(pending, n);
     match meaning {
         Meaning::Text(i) => {
-            names::copy_name(text, pending, p, n, scratch);
-            let marks = m.marks;
-            let table = m.table;
+            names::copy_name(text, pending, m.source, n, scratch);
             let g = giving::give_text(
                 pending,
-                calls,
-                ends,
                 definitions,
                 table_ends,
-                table,
+                m.table,
                 to,
-                marks,
+                m.marks,
                 &scratch[..n],
                 x,
                 i,
@@ -70,24 +68,11 @@ pub(crate) fn bare(
         }
         Meaning::Predefined(k) => match builtins::kind_of(k) {
             Kind::Result => {
-                let marks = m.marks;
-                let table = m.table;
-                let g = macros::give(
-                    pending,
-                    calls,
-                    ends,
-                    definitions,
-                    table_ends,
-                    table,
-                    to,
-                    marks,
-                    x,
-                    k,
-                );
+                let g = macros::give(pending, definitions, table_ends, m.table, to, m.marks, x, k);
                 macros::given(m.with_source(to), g)
             }
             Kind::Index => {
-                let g = macros::search(pending, calls, ends, to, x);
+                let g = macros::search(pending, to, x);
                 macros::given(m.with_source(to), g)
             }
             Kind::Change => {
@@ -96,8 +81,6 @@ pub(crate) fn bare(
                     text,
                     set,
                     pending,
-                    calls,
-                    ends,
                     definitions,
                     table_ends,
                     streams,
@@ -142,33 +125,29 @@ pub(crate) fn close(
     let strings = m.calls.strings;
     let first = calls::first_string(stack, m.calls);
     let x = Arguments {
+        bytes: calls,
+        ends,
         strings,
         base: first + 1,
     };
     let name = packed::string(calls, ends, strings, first);
     let left = m.calls.closed(ends, first);
-    let to = m.source;
-    let bucket = calls::bucket(stack, m.calls);
     match table::meaning_of(
         definitions,
         table_ends,
         m.table.packed,
         m.table.own,
         name,
-        bucket,
+        calls::bucket(stack, m.calls),
     ) {
         Meaning::Text(i) => {
-            let marks = m.marks;
-            let table = m.table;
             let g = giving::give_text(
                 pending,
-                calls,
-                ends,
                 definitions,
                 table_ends,
-                table,
-                to,
-                marks,
+                m.table,
+                m.source,
+                m.marks,
                 name,
                 x,
                 i,
@@ -177,24 +156,20 @@ pub(crate) fn close(
         }
         Meaning::Predefined(k) => match builtins::kind_of(k) {
             Kind::Result => {
-                let marks = m.marks;
-                let table = m.table;
                 let g = macros::give(
                     pending,
-                    calls,
-                    ends,
                     definitions,
                     table_ends,
-                    table,
-                    to,
-                    marks,
+                    m.table,
+                    m.source,
+                    m.marks,
                     x,
                     k,
                 );
                 macros::given(m.with_calls(left), g)
             }
             Kind::Index => {
-                let g = macros::search(pending, calls, ends, to, x);
+                let g = macros::search(pending, m.source, x);
                 macros::given(m.with_calls(left), g)
             }
             Kind::Change => {
@@ -203,8 +178,6 @@ pub(crate) fn close(
                     text,
                     set,
                     pending,
-                    calls,
-                    ends,
                     definitions,
                     table_ends,
                     streams,

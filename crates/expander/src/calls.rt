@@ -2,17 +2,19 @@
 // collected. `stack` has four words for each call: the number of its first string, its depth of parentheses, whether it collected, and the
 // bucket of its name.
 // What a call collects is written behind the strings, and then belongs to the innermost call.
-ghost use Rattle.std.specs.Prelude.{◌≡◌, ℕ, ◌+◌, ◌-◌, ◌<◌, ◌≤◌, List, [], ◌∷◌, ◌++◌, length, take, drop};
+ghost use Rattle.std.specs.Prelude.{◌≡◌, ℕ, ◌+◌, ◌-◌, ◌*◌, ◌<◌, ◌≤◌, List, [], ◌∷◌, ◌++◌, length, take, drop, slice_index};
 ghost use Rattle.rules.specs.Bytes.{Bytes};
 ghost use Rattle.rules.specs.State.{Call};
 ghost use Rattle.rules.specs.Step.{open_call, collecting, next_argument};
 ghost use Rattle.hashing.specs.Hashing.{bucket_count, bucket_of};
 ghost use Rattle.expander.specs.Calls.{CallsIn, SomeCalls, open_strings, bit, CallRoom};
 ghost use Rattle.expander.specs.Filled.{Filled};
+ghost use Rattle.expander.specs.Source.{bytes_of};
 ghost use Rattle.expander.specs.Limits.{most_lent, most_calls, most_arguments, stack_length};
 
+use crate::packed;
 use crate::packed::Packed;
-use crate::{packed, source};
+use crate::source::Ahead;
 
 #[derive(Clone, Copy)]
 pub(crate) struct Calls {
@@ -109,41 +111,39 @@ impl Calls {
     // A call is opened whose name is the first n bytes ahead, of this bucket.
     pub(crate) fn open_ahead(
         self,
-        front: &[u8],
-        rest: &[u8],
+        ahead: Ahead<'_>,
         n: usize,
         bytes: &mut [u8],
         ends: &mut [u32],
         stack: &mut [u32],
         bucket: usize,
     ) -> Calls
-        requires call_room { CallRoom bytes.old ends.old stack.old self n × (n ≤ length front.now + length rest.now) }
+        requires call_room { CallRoom bytes.old ends.old stack.old self n × (n ≤ length (bytes_of ahead)) }
         requires opens_lt_most_calls { (self.opens < most_calls) × (self.strings.count < self.opens + most_arguments) }
-        requires bucket_value { bucket ≡ bucket_of (take n (front.now ++ rest.now)) }
-        ensures { (cs : List Call) → CallsIn bytes.old ends.old stack.old self cs → CallsIn bytes.new ends.new stack.new result (open_call (take n (front.now ++ rest.now)) ∷ cs) }
+        requires bucket_value { bucket ≡ bucket_of (take n (bytes_of ahead)) }
+        ensures { (cs : List Call) → CallsIn bytes.old ends.old stack.old self cs → CallsIn bytes.new ends.new stack.new result (open_call (take n (bytes_of ahead.entry)) ∷ cs) }
     {
         let at = self.strings.used;
-        source::fill_ahead(front, rest, 0, n, bytes, at);
+        ahead.fill(0, n, bytes, at);
         self.opened(ends, stack, n, bucket)
     }
 
     // n bytes ahead, from `start` on, are collected.
     pub(crate) fn collect_ahead(
         self,
-        front: &[u8],
-        rest: &[u8],
+        ahead: Ahead<'_>,
         start: usize,
         n: usize,
         bytes: &mut [u8],
         ends: &mut [u32],
         stack: &mut [u32],
     ) -> Calls
-        requires { CallRoom bytes.old ends.old stack.old self n × (start + n ≤ length front.now + length rest.now) × (0 < self.opens) }
-        ensures { (c : Call) (cs : List Call) → CallsIn bytes.old ends.old stack.old self (c ∷ cs) → CallsIn bytes.new ends.new stack.new result (collecting (take n (drop start (front.now ++ rest.now))) c.depth c ∷ cs) }
+        requires { CallRoom bytes.old ends.old stack.old self n × (start + n ≤ length (bytes_of ahead)) × (0 < self.opens) }
+        ensures { (c : Call) (cs : List Call) → CallsIn bytes.old ends.old stack.old self (c ∷ cs) → CallsIn bytes.new ends.new stack.new result (collecting (take n (drop start (bytes_of ahead.entry))) c.depth c ∷ cs) }
     {
         let at = self.strings.used;
         let depth = depth(stack, self);
-        source::fill_ahead(front, rest, start, n, bytes, at);
+        ahead.fill(start, n, bytes, at);
         self.collected(ends, stack, n, depth)
     }
 
@@ -165,30 +165,36 @@ impl Calls {
     }
 }
 
+// Word k of the innermost call.
+fn word(stack: &[u32], x: Calls, k: usize) -> u32
+    requires { (0 < x.opens) × (x.opens ≤ most_calls) × (length stack.now ≡ stack_length) × (k < 4) }
+    ensures { result ≡ slice_index stack.now (4 * (x.opens - 1) + k) }
+{
+    stack[4 * (x.opens - 1) + k]
+}
+
 // The number of the innermost call's first string, its name.
 pub(crate) fn first_string(stack: &[u32], x: Calls) -> usize
     requires { (0 < x.opens) × (x.opens ≤ most_calls) × (length stack.now ≡ stack_length) }
     ensures { (bytes : Bytes) (ends : List ℕ) (c : Call) (cs : List Call) → CallsIn bytes ends stack.now x (c ∷ cs) → result ≡ length (open_strings cs) }
 {
-    let top = 4 * (x.opens - 1);
-    stack[top] as usize
+    word(stack, x, 0) as usize
 }
 
+// How many parentheses are open in the argument that is being collected.
 pub(crate) fn depth(stack: &[u32], x: Calls) -> u32
     requires { (0 < x.opens) × (x.opens ≤ most_calls) × (length stack.now ≡ stack_length) }
     ensures { (bytes : Bytes) (ends : List ℕ) (c : Call) (cs : List Call) → CallsIn bytes ends stack.now x (c ∷ cs) → result ≡ c.depth }
 {
-    let top = 4 * (x.opens - 1);
-    stack[top + 1]
+    word(stack, x, 1)
 }
 
-// 1 where the argument collected a token, else 0.
-pub(crate) fn has_collected(stack: &[u32], x: Calls) -> u32
+// Whether the argument collected a token.
+pub(crate) fn has_collected(stack: &[u32], x: Calls) -> bool
     requires { (0 < x.opens) × (x.opens ≤ most_calls) × (length stack.now ≡ stack_length) }
-    ensures { (bytes : Bytes) (ends : List ℕ) (c : Call) (cs : List Call) → CallsIn bytes ends stack.now x (c ∷ cs) → result ≡ bit c.collected }
+    ensures { (bytes : Bytes) (ends : List ℕ) (c : Call) (cs : List Call) → CallsIn bytes ends stack.now x (c ∷ cs) → result ≡ c.collected }
 {
-    let top = 4 * (x.opens - 1);
-    stack[top + 2]
+    word(stack, x, 2) != 0
 }
 
 // The bucket of the innermost call's name.
@@ -196,6 +202,5 @@ pub(crate) fn bucket(stack: &[u32], x: Calls) -> usize
     requires { (0 < x.opens) × (x.opens ≤ most_calls) × (length stack.now ≡ stack_length) }
     ensures { (bytes : Bytes) (ends : List ℕ) (c : Call) (cs : List Call) → CallsIn bytes ends stack.now x (c ∷ cs) → result ≡ bucket_of c.name }
 {
-    let top = 4 * (x.opens - 1);
-    stack[top + 3] as usize
+    word(stack, x, 3) as usize
 }

@@ -5,13 +5,13 @@ ghost use Rattle.expander.specs.Tokens.{GoodMarks};
 ghost use Rattle.rules.specs.Bytes.{Bytes};
 ghost use Rattle.rules.specs.State.{State};
 ghost use Rattle.rules.specs.Run.{Setting};
-ghost use Rattle.expander.specs.Arguments.{ArgumentsIn, SomeArguments, second_or};
+ghost use Rattle.expander.specs.Arguments.{args_of, second_or};
 ghost use Rattle.expander.specs.Machine.{Memory, Represents, Refines, Valid, strings_at};
 ghost use Rattle.rules.specs.Macros.{marking, call_changecom, call_changequote};
 
-use crate::arguments::Arguments;
+use crate::argument_strings::Arguments;
 use crate::machine::{Machine, Stepped};
-use crate::{arguments, marks};
+use crate::marks;
 use rules::Answer;
 
 // A good begin mark and a good end mark.
@@ -25,14 +25,13 @@ fn are_marks(begin: &[u8], end: &[u8]) -> bool
 }
 
 // The end mark of a call that gives a begin mark: the second argument, or a newline where there is one argument.
-fn end_mark<'a>(calls: &'a [u8], ends: &[u32], x: Arguments, newline: &'a [u8]) -> &'a [u8]
-    requires { SomeArguments calls.now ends.now x }
-    ensures { (args : List Bytes) → ArgumentsIn calls.now ends.now x args → result.now ≡ second_or newline.now args }
+fn end_mark<'a>(x: Arguments<'a>, newline: &'a [u8]) -> &'a [u8]
+    ensures { result.now ≡ second_or newline.now (args_of x.entry) }
 {
-    if arguments::count(x) == 1 {
+    if x.count() == 1 {
         return newline;
     }
-    arguments::argument(calls, ends, x, 2)
+    x.argument(2)
 }
 
 // New comment marks, if they are good.
@@ -60,29 +59,27 @@ fn change_quotes(m: Machine, begin: &[u8], end: &[u8]) -> Stepped
 }
 
 // changecom: without arguments comments are turned off; with one, a newline ends them.
-pub(crate) fn changecom(calls: &[u8], ends: &[u32], m: Machine, x: Arguments) -> Stepped
-    requires valid { Valid (λ b. strings_at calls.now ends.now b) m }
-    requires some_arguments { SomeArguments calls.now ends.now x }
-    ensures { (a : Setting) (s : State) (b : Memory) (args : List Bytes) → Represents a (strings_at calls.now ends.now b) m s → ArgumentsIn calls.now ends.now x args → Refines a (strings_at calls.now ends.now b) (call_changecom args s) (strings_at calls.now ends.now b) result }
+pub(crate) fn changecom(m: Machine, x: Arguments) -> Stepped
+    requires valid { Valid (λ b. b) m }
+    ensures { (a : Setting) (s : State) (b : Memory) → Represents a b m s → Refines a b (call_changecom (args_of x.entry) s) b result }
 {
-    if arguments::count(x) == 0 {
+    if x.count() == 0 {
         return m.without_comments().on();
     }
-    let begin = arguments::argument(calls, ends, x, 1);
-    let end = end_mark(calls, ends, x, b"\n");
+    let begin = x.argument(1);
+    let end = end_mark(x, b"\n");
     change_comments(m, begin, end)
 }
 
 // changequote: without arguments the marks are the default ones; with one, a newline ends a quote.
-pub(crate) fn changequote(calls: &[u8], ends: &[u32], m: Machine, x: Arguments) -> Stepped
-    requires valid { Valid (λ b. strings_at calls.now ends.now b) m }
-    requires some_arguments { SomeArguments calls.now ends.now x }
-    ensures { (a : Setting) (s : State) (b : Memory) (args : List Bytes) → Represents a (strings_at calls.now ends.now b) m s → ArgumentsIn calls.now ends.now x args → Refines a (strings_at calls.now ends.now b) (call_changequote args s) (strings_at calls.now ends.now b) result }
+pub(crate) fn changequote(m: Machine, x: Arguments) -> Stepped
+    requires valid { Valid (λ b. b) m }
+    ensures { (a : Setting) (s : State) (b : Memory) → Represents a b m s → Refines a b (call_changequote (args_of x.entry) s) b result }
 {
-    if arguments::count(x) == 0 {
+    if x.count() == 0 {
         return m.with_default_quotes().on();
     }
-    let begin = arguments::argument(calls, ends, x, 1);
-    let end = end_mark(calls, ends, x, b"\n");
+    let begin = x.argument(1);
+    let end = end_mark(x, b"\n");
     change_quotes(m, begin, end)
 }

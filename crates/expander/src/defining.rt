@@ -2,46 +2,44 @@
 ghost use Rattle.std.specs.Prelude.{◌+◌, ◌*◌, ◌^◌, ◌<◌, ◌≤◌, List, [], length, slice_index_or};
 ghost use Rattle.rules.specs.Bytes.{Bytes};
 ghost use Rattle.rules.specs.State.{State, next, with_table};
-ghost use Rattle.rules.specs.Table.{Meaning as Defined, text, defined};
+ghost use Rattle.rules.specs.Table.{Table, text, defined, in_turn};
 ghost use Rattle.rules.specs.Run.{Setting};
-ghost use Rattle.expander.specs.Arguments.{ArgumentsIn, SomeArguments};
-ghost use Rattle.expander.specs.Machine.{Memory, Represents, Refines, Valid, strings_at, definitions_at};
-ghost use Rattle.expander.specs.Table.{rows, Means};
+ghost use Rattle.expander.specs.Arguments.{args_of};
+ghost use Rattle.expander.specs.Machine.{Memory, Represents, Refines, Valid, definitions_at};
+ghost use Rattle.expander.specs.Table.{rows, meaning_text, Numbered, new_meaning, ValidDefinitions, Changes};
 ghost use Rattle.expander.specs.Limits.{most_lent};
+ghost use Rattle.expander.specs.declared.table.Definitions.{Definitions};
 ghost use Rattle.rules.specs.Macros.{call_define, call_popdef, call_pushdef, call_undefine, call_copydef};
 
-use crate::arguments::Arguments;
+use crate::argument_strings::Arguments;
 use crate::machine::{Machine, Stepped};
-use crate::table::Meaning;
-use crate::{arguments, packed, table};
+use crate::table::{Definitions, Meaning, NewMeaning};
+use crate::{packed, table};
 use rules::Answer;
 
-// A name gets a text, with the number 0, or a predefined meaning, without a text, as define sets it.
+// A name gets a meaning, as define sets it.
 fn set_meaning(
     definitions: &mut [u8],
     table_ends: &mut [u32],
     m: Machine,
     name: &[u8],
-    body: &[u8],
-    number: u8,
+    new: NewMeaning,
 ) -> Stepped
     requires valid { Valid (λ b. definitions_at definitions.old table_ends.old b) m }
-    requires name_nonzero { (0 < length name.now) × (length name.now + length body.now < 2 ^ 32) }
-    ensures { (a : Setting) (s : State) (b : Memory) (d : Defined) → Means d body.now number → Represents a (definitions_at definitions.old table_ends.old b) m s → Refines a (definitions_at definitions.old table_ends.old b) (next (with_table (defined name.now d s.table) s)) (definitions_at definitions.new table_ends.new b) result }
+    requires name_nonzero { (0 < length name.now) × (length name.now + length (meaning_text (new_meaning new)) < 2 ^ 32) }
+    ensures { (a : Setting) (s : State) (b : Memory) → Numbered (new_meaning new.entry) → Represents a (definitions_at definitions.old table_ends.old b) m s → Refines a (definitions_at definitions.old table_ends.old b) (next (with_table (defined name.now (new_meaning new.entry) s.table) s)) (definitions_at definitions.new table_ends.new b) result }
 {
     let p = m.table.packed;
     let place = table::newest(definitions, table_ends, p, name);
-    let size = table::size_defined(definitions, table_ends, p, place, name, body.len());
+    let size = table::size_defined(definitions, table_ends, p, place, name, new.text().len());
     if definitions.len() < size {
         return m.refused(Answer::Room(3));
     }
-    let t = m
-        .table
-        .define_at(definitions, table_ends, place, name, body, number);
+    let t = m.table.define_at(definitions, table_ends, place, name, new);
     m.with_table(t).on()
 }
 
-// A name gets the text of definition i, as define sets it.
+// A name gets the text of definition i, as define sets it. (The text stands in the buffer that is written, so `set_meaning` can't be lent it.)
 fn copy_text(
     definitions: &mut [u8],
     table_ends: &mut [u32],
@@ -67,40 +65,34 @@ fn copy_text(
 
 // define: the newest definition of the name is replaced.
 pub(crate) fn define(
-    calls: &[u8],
-    ends: &[u32],
     definitions: &mut [u8],
     table_ends: &mut [u32],
     m: Machine,
     x: Arguments,
 ) -> Stepped
-    requires valid { Valid (λ b. strings_at calls.now ends.now (definitions_at definitions.old table_ends.old b)) m }
-    requires some_arguments { SomeArguments calls.now ends.now x }
-    ensures { (a : Setting) (s : State) (b : Memory) (args : List Bytes) → Represents a (strings_at calls.now ends.now (definitions_at definitions.old table_ends.old b)) m s → ArgumentsIn calls.now ends.now x args → Refines a (strings_at calls.now ends.now (definitions_at definitions.old table_ends.old b)) (call_define args s) (strings_at calls.now ends.now (definitions_at definitions.new table_ends.new b)) result }
+    requires valid { Valid (λ b. definitions_at definitions.old table_ends.old b) m }
+    ensures { (a : Setting) (s : State) (b : Memory) → Represents a (definitions_at definitions.old table_ends.old b) m s → Refines a (definitions_at definitions.old table_ends.old b) (call_define (args_of x.entry) s) (definitions_at definitions.new table_ends.new b) result }
 {
-    let name = arguments::argument(calls, ends, x, 1);
-    let body = arguments::argument(calls, ends, x, 2);
+    let name = x.argument(1);
+    let body = x.argument(2);
     if !ascii::is_name(name) {
         return m.refused(Answer::Name);
     }
-    set_meaning(definitions, table_ends, m, name, body, 0)
+    set_meaning(definitions, table_ends, m, name, NewMeaning::Text(body))
 }
 
 // copydef: the second argument gets the meaning of the first.
 pub(crate) fn copydef(
-    calls: &[u8],
-    ends: &[u32],
     definitions: &mut [u8],
     table_ends: &mut [u32],
     m: Machine,
     x: Arguments,
 ) -> Stepped
-    requires valid { Valid (λ b. strings_at calls.now ends.now (definitions_at definitions.old table_ends.old b)) m }
-    requires some_arguments { SomeArguments calls.now ends.now x }
-    ensures { (a : Setting) (s : State) (b : Memory) (args : List Bytes) → Represents a (strings_at calls.now ends.now (definitions_at definitions.old table_ends.old b)) m s → ArgumentsIn calls.now ends.now x args → Refines a (strings_at calls.now ends.now (definitions_at definitions.old table_ends.old b)) (call_copydef args s) (strings_at calls.now ends.now (definitions_at definitions.new table_ends.new b)) result }
+    requires valid { Valid (λ b. definitions_at definitions.old table_ends.old b) m }
+    ensures { (a : Setting) (s : State) (b : Memory) → Represents a (definitions_at definitions.old table_ends.old b) m s → Refines a (definitions_at definitions.old table_ends.old b) (call_copydef (args_of x.entry) s) (definitions_at definitions.new table_ends.new b) result }
 {
-    let source = arguments::argument(calls, ends, x, 1);
-    let name = arguments::argument(calls, ends, x, 2);
+    let source = x.argument(1);
+    let name = x.argument(2);
     if !ascii::is_name(name) {
         return m.refused(Answer::Name);
     }
@@ -109,26 +101,26 @@ pub(crate) fn copydef(
     let meaning = table::look_up(definitions, table_ends, p, own, source);
     match meaning {
         Meaning::Text(i) => copy_text(definitions, table_ends, m, name, i),
-        Meaning::Predefined(k) => set_meaning(definitions, table_ends, m, name, &name[..0], k),
+        Meaning::Predefined(k) => {
+            set_meaning(definitions, table_ends, m, name, NewMeaning::Predefined(k))
+        }
         Meaning::Undefined => m.refused(Answer::NoDefinition),
     }
 }
 
-// pushdef: the new definition arrives last.
+// pushdef: the new definition arrives last. (Only the test of the name is as in define; a function of both would be longer than what it saves, by its
+// clause for the step that follows.)
 pub(crate) fn pushdef(
-    calls: &[u8],
-    ends: &[u32],
     definitions: &mut [u8],
     table_ends: &mut [u32],
     m: Machine,
     x: Arguments,
 ) -> Stepped
-    requires valid { Valid (λ b. strings_at calls.now ends.now (definitions_at definitions.old table_ends.old b)) m }
-    requires some_arguments { SomeArguments calls.now ends.now x }
-    ensures { (a : Setting) (s : State) (b : Memory) (args : List Bytes) → Represents a (strings_at calls.now ends.now (definitions_at definitions.old table_ends.old b)) m s → ArgumentsIn calls.now ends.now x args → Refines a (strings_at calls.now ends.now (definitions_at definitions.old table_ends.old b)) (call_pushdef args s) (strings_at calls.now ends.now (definitions_at definitions.new table_ends.new b)) result }
+    requires valid { Valid (λ b. definitions_at definitions.old table_ends.old b) m }
+    ensures { (a : Setting) (s : State) (b : Memory) → Represents a (definitions_at definitions.old table_ends.old b) m s → Refines a (definitions_at definitions.old table_ends.old b) (call_pushdef (args_of x.entry) s) (definitions_at definitions.new table_ends.new b) result }
 {
-    let name = arguments::argument(calls, ends, x, 1);
-    let body = arguments::argument(calls, ends, x, 2);
+    let name = x.argument(1);
+    let body = x.argument(2);
     if !ascii::is_name(name) {
         return m.refused(Answer::Name);
     }
@@ -137,54 +129,57 @@ pub(crate) fn pushdef(
     if definitions.len() - p.used < size {
         return m.refused(Answer::Room(3));
     }
-    let t = m.table.push(definitions, table_ends, name, body, 0);
+    let t = m
+        .table
+        .push(definitions, table_ends, name, NewMeaning::Text(body));
+    m.with_table(t).on()
+}
+
+// Each argument changes the definitions in turn.
+fn in_turn<F>(
+    definitions: &mut [u8],
+    table_ends: &mut [u32],
+    m: Machine,
+    x: Arguments,
+    change: F,
+) -> Stepped
+where
+    F: Fn(Definitions, &mut [u8], &mut [u32], &[u8]) -> Definitions,
+    requires valid { Valid (λ b. definitions_at definitions.old table_ends.old b) m }
+    requires may_change { (d : Definitions) (p : _) (e : _) (w : _) → ValidDefinitions p.now e.now d.packed → F.pre change d p e w }
+    requires changes { (f : Bytes → Table → Table) × Changes (F.post change) f }
+    ensures { (f : Bytes → Table → Table) → Changes (F.post change) f → (a : Setting) (s : State) (b : Memory) → Represents a (definitions_at definitions.old table_ends.old b) m s → Refines a (definitions_at definitions.old table_ends.old b) (next (with_table (in_turn f (args_of x.entry) s.table) s)) (definitions_at definitions.new table_ends.new b) result }
+{
+    let mut t = m.table;
+    for k in 0..x.count() {
+        let name = x.argument(k + 1);
+        t = change(t, definitions, table_ends, name);
+    }
     m.with_table(t).on()
 }
 
 // popdef: each argument's newest definition goes, or else its own meaning.
 pub(crate) fn popdef(
-    calls: &[u8],
-    ends: &[u32],
     definitions: &mut [u8],
     table_ends: &mut [u32],
     m: Machine,
     x: Arguments,
 ) -> Stepped
-    requires valid { Valid (λ b. strings_at calls.now ends.now (definitions_at definitions.old table_ends.old b)) m }
-    requires some_arguments { SomeArguments calls.now ends.now x }
-    ensures { (a : Setting) (s : State) (b : Memory) (args : List Bytes) → Represents a (strings_at calls.now ends.now (definitions_at definitions.old table_ends.old b)) m s → ArgumentsIn calls.now ends.now x args → Refines a (strings_at calls.now ends.now (definitions_at definitions.old table_ends.old b)) (call_popdef args s) (strings_at calls.now ends.now (definitions_at definitions.new table_ends.new b)) result }
+    requires valid { Valid (λ b. definitions_at definitions.old table_ends.old b) m }
+    ensures { (a : Setting) (s : State) (b : Memory) → Represents a (definitions_at definitions.old table_ends.old b) m s → Refines a (definitions_at definitions.old table_ends.old b) (call_popdef (args_of x.entry) s) (definitions_at definitions.new table_ends.new b) result }
 {
-    let have = arguments::count(x);
-    let mut t = m.table;
-    let mut k = 0;
-    while k < have {
-        k += 1;
-        let name = arguments::argument(calls, ends, x, k);
-        t = t.pop(definitions, table_ends, name);
-    }
-    m.with_table(t).on()
+    in_turn(definitions, table_ends, m, x, Definitions::pop)
 }
 
 // undefine: all definitions of each argument go, and its own meaning.
 pub(crate) fn undefine(
-    calls: &[u8],
-    ends: &[u32],
     definitions: &mut [u8],
     table_ends: &mut [u32],
     m: Machine,
     x: Arguments,
 ) -> Stepped
-    requires valid { Valid (λ b. strings_at calls.now ends.now (definitions_at definitions.old table_ends.old b)) m }
-    requires some_arguments { SomeArguments calls.now ends.now x }
-    ensures { (a : Setting) (s : State) (b : Memory) (args : List Bytes) → Represents a (strings_at calls.now ends.now (definitions_at definitions.old table_ends.old b)) m s → ArgumentsIn calls.now ends.now x args → Refines a (strings_at calls.now ends.now (definitions_at definitions.old table_ends.old b)) (call_undefine args s) (strings_at calls.now ends.now (definitions_at definitions.new table_ends.new b)) result }
+    requires valid { Valid (λ b. definitions_at definitions.old table_ends.old b) m }
+    ensures { (a : Setting) (s : State) (b : Memory) → Represents a (definitions_at definitions.old table_ends.old b) m s → Refines a (definitions_at definitions.old table_ends.old b) (call_undefine (args_of x.entry) s) (definitions_at definitions.new table_ends.new b) result }
 {
-    let have = arguments::count(x);
-    let mut t = m.table;
-    let mut k = 0;
-    while k < have {
-        k += 1;
-        let name = arguments::argument(calls, ends, x, k);
-        t = t.undefine(definitions, table_ends, name);
-    }
-    m.with_table(t).on()
+    in_turn(definitions, table_ends, m, x, Definitions::undefine)
 }

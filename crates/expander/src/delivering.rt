@@ -29,21 +29,12 @@ fn emit_token(
     ensures { (a : Setting) (s : State) (b : Memory) → Represents a (text_at text.now (pending_at pending.now (sinks_at streams.old owners.old output.old b))) m s → Refines a (text_at text.now (pending_at pending.now (sinks_at streams.old owners.old output.old b))) (next (emitting (take n (drop start (ahead s.source))) (taking width s))) (text_at text.now (pending_at pending.now (sinks_at streams.new owners.new output.new b))) result }
 {
     let p = m.source;
-    let from = p.from;
-    let taken = p.taken;
-    let full = sinks::full(m.sinks, n, streams.len(), output.len());
-    if full != 0 {
-        return m.refused(Answer::Room(full));
+    if let Some(buffer) = sinks::full(m.sinks, n, streams.len(), output.len()) {
+        return m.refused(Answer::Room(buffer));
     }
-    let k = m.sinks.emit_ahead(
-        &pending[from..],
-        &text[taken..],
-        start,
-        n,
-        streams,
-        owners,
-        output,
-    );
+    let k = m
+        .sinks
+        .emit_ahead(p.ahead(text, pending), start, n, streams, owners, output);
     let to = p.advanced(pending, width);
     m.with_source(to).with_sinks(k).on()
 }
@@ -65,20 +56,12 @@ fn collect_token(
     ensures { (a : Setting) (s : State) (b : Memory) (c : Call) (cs : List Call) → Represents a (text_at text.now (pending_at pending.now (calls_at calls.old ends.old stack.old b))) m s → s.calls ≡ c ∷ cs → Refines a (text_at text.now (pending_at pending.now (calls_at calls.old ends.old stack.old b))) (next (with_calls (collecting (take n (drop start (ahead s.source))) c.depth c ∷ cs) (taking width s))) (text_at text.now (pending_at pending.now (calls_at calls.new ends.new stack.new b))) result }
 {
     let p = m.source;
-    let from = p.from;
-    let taken = p.taken;
     if calls.len() - m.calls.strings.used < n {
         return m.refused(Answer::Room(2));
     }
-    let k = m.calls.collect_ahead(
-        &pending[from..],
-        &text[taken..],
-        start,
-        n,
-        calls,
-        ends,
-        stack,
-    );
+    let k = m
+        .calls
+        .collect_ahead(p.ahead(text, pending), start, n, calls, ends, stack);
     let to = p.advanced(pending, width);
     m.with_source(to).with_calls(k).on()
 }
@@ -119,9 +102,8 @@ pub(crate) fn emit_byte(
     requires { Valid (λ b. sinks_at streams.old owners.old output.old b) m }
     ensures { (a : Setting) (s : State) (b : Memory) → Represents a (sinks_at streams.old owners.old output.old b) m s → Refines a (sinks_at streams.old owners.old output.old b) (next (emitting (x ∷ []) s)) (sinks_at streams.new owners.new output.new b) result }
 {
-    let full = sinks::full(m.sinks, 1, streams.len(), output.len());
-    if full != 0 {
-        return m.refused(Answer::Room(full));
+    if let Some(buffer) = sinks::full(m.sinks, 1, streams.len(), output.len()) {
+        return m.refused(Answer::Room(buffer));
     }
     let k = m.sinks.emit_byte(streams, owners, output, x);
     m.with_sinks(k).on()
@@ -164,8 +146,6 @@ pub(crate) fn open_call(
     ensures { (a : Setting) (s : State) (b : Memory) → Represents a (text_at text.now (pending_at pending.now (calls_at calls.old ends.old stack.old b))) m s → Refines a (text_at text.now (pending_at pending.now (calls_at calls.old ends.old stack.old b))) (opened (take n (ahead s.source)) (taking (suc n) s)) (text_at text.now (pending_at pending.now (calls_at calls.new ends.new stack.new b))) result }
 {
     let p = m.source;
-    let from = p.from;
-    let taken = p.taken;
     let opens = m.calls.opens;
     if MOST_CALLS <= opens {
         return m.refused(Answer::Deep);
@@ -176,15 +156,9 @@ pub(crate) fn open_call(
     if calls.len() - m.calls.strings.used < n {
         return m.refused(Answer::Room(2));
     }
-    let k = m.calls.open_ahead(
-        &pending[from..],
-        &text[taken..],
-        n,
-        calls,
-        ends,
-        stack,
-        bucket,
-    );
+    let k = m
+        .calls
+        .open_ahead(p.ahead(text, pending), n, calls, ends, stack, bucket);
     let to = p.advanced(pending, n + 1);
     m.with_source(to).with_calls(k).on()
 }

@@ -7,7 +7,6 @@ ghost use Rattle.expander.specs.Machine.{Memory, Represents, Refines, Valid, tex
 ghost use Rattle.rules.specs.Macros.{call_dnl};
 
 use crate::machine::{Machine, Stepped};
-use crate::source;
 
 // dnl: the text ahead through the next newline is dropped.
 pub(crate) fn dnl(text: &[u8], pending: &[u8], m: Machine) -> Stepped
@@ -15,9 +14,7 @@ pub(crate) fn dnl(text: &[u8], pending: &[u8], m: Machine) -> Stepped
     ensures { (a : Setting) (s : State) (b : Memory) (args : List Bytes) → Represents a (text_at text.now (pending_at pending.now b)) m s → Refines a (text_at text.now (pending_at pending.now b)) (call_dnl args s) (text_at text.now (pending_at pending.now b)) result }
 {
     let p = m.source;
-    let from = p.from;
-    let taken = p.taken;
-    let n = source::line_length(&pending[from..], &text[taken..]);
+    let n = p.ahead(text, pending).line_length();
     let to = p.advanced(pending, n);
     m.with_source(to).on()
 }

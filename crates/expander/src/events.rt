@@ -21,7 +21,7 @@ ghost use Rattle.expander.specs.declared.events.Plain.TheVariants as plain;
 use crate::machine::Machine;
 use crate::source::Position;
 use crate::table::Meaning;
-use crate::{calls, names, source, tokens};
+use crate::{calls, names, tokens};
 use rules::{Reading, Token};
 
 // n bytes ahead from `start` on go where text goes, and `width` bytes are taken; a byte goes to the current stream; the innermost call
@@ -79,9 +79,7 @@ fn opens(text: &[u8], pending: &[u8], p: Position, n: usize) -> bool
     requires { (p.from ≤ length pending.now) × (p.taken ≤ length text.now) }
     ensures { (x : Source) → SourceIn text.now pending.now p x → result ≡ (slice_index (ahead x) n == 40) }
 {
-    let from = p.from;
-    let taken = p.taken;
-    source::byte_ahead(&pending[from..], &text[taken..], n) == b'('
+    p.ahead(text, pending).byte(n) == b'('
 }
 
 // What a byte does in a call: nothing, it is collected at a depth of parentheses, it closes the call, or it ends the argument.
@@ -94,7 +92,7 @@ enum Role {
 }
 
 // What the byte x does in a call with so many parentheses open in the argument, which collected a token or did not.
-fn role_of(x: u8, depth: u32, collected: u32) -> Role
+fn role_of(x: u8, depth: u32, collected: bool) -> Role
     requires { depth < 4294967295 }
     ensures { HasRole x depth collected result }
 {
@@ -114,7 +112,7 @@ fn role_of(x: u8, depth: u32, collected: u32) -> Role
         }
         _ => {
             if ascii::is_blank(x) {
-                if collected == 0 {
+                if !collected {
                     return Role::Dropped;
                 }
                 return Role::Collected(depth);
@@ -156,9 +154,9 @@ fn plain_unopened(meaning: Meaning) -> bool
 }
 
 // What the name of n bytes ahead, of this hash, calls for.
-fn name_event<'a>(
-    text: &'a [u8],
-    pending: &'a [u8],
+fn name_event(
+    text: &[u8],
+    pending: &[u8],
     definitions: &[u8],
     table_ends: &[u32],
     scratch: &mut [u8],
@@ -197,9 +195,9 @@ fn name_event<'a>(
 }
 
 // What a token calls for; a name has this hash.
-fn token_event<'a>(
-    text: &'a [u8],
-    pending: &'a [u8],
+fn token_event(
+    text: &[u8],
+    pending: &[u8],
     stack: &[u32],
     definitions: &[u8],
     table_ends: &[u32],
@@ -244,9 +242,9 @@ fn token_event<'a>(
 }
 
 // What the token ahead calls for.
-pub(crate) fn event_ahead<'a>(
-    text: &'a [u8],
-    pending: &'a [u8],
+pub(crate) fn event_ahead(
+    text: &[u8],
+    pending: &[u8],
     stack: &[u32],
     definitions: &[u8],
     table_ends: &[u32],
@@ -259,10 +257,8 @@ pub(crate) fn event_ahead<'a>(
     ensures is { (a : Setting) (s : State) (b : Memory) → Represents a (text_at text.now (pending_at pending.now (stack_at stack.now (definitions_at definitions.now table_ends.now b)))) m s → EventIs s result }
 {
     let p = m.source;
-    let from = p.from;
-    let taken = p.taken;
     let marks = m.marks;
-    let read = tokens::read_token(marks, &pending[from..], &text[taken..]);
+    let read = tokens::read_token(marks, p.ahead(text, pending));
     let hash = read.hash;
     let reading = read.reading;
     match reading {

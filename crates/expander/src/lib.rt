@@ -3,6 +3,7 @@
 #![tactic(auto)]
 
 mod appending;
+mod argument_strings;
 mod arguments;
 mod buckets;
 mod buffers;
@@ -15,6 +16,7 @@ mod delivering;
 mod diverting;
 mod dnl;
 mod events;
+mod fields;
 mod giving;
 mod including;
 mod limits;
@@ -25,6 +27,7 @@ mod marks;
 mod meanings;
 mod names;
 mod number_results;
+mod numeral;
 mod packed;
 mod part_results;
 mod plain_steps;

@@ -4,12 +4,12 @@ ghost use Rattle.std.specs.Prelude.{◌≡◌, ℕ, ◌+◌, ◌*◌, ◌≤◌,
 ghost use Rattle.rules.specs.Bytes.{Bytes};
 ghost use Rattle.rules.specs.Marks.{mark_text, mark_texts, quoted};
 ghost use Rattle.rules.specs.Arguments.{arg, separated, quoted_each};
-ghost use Rattle.expander.specs.Arguments.{ArgumentsIn, SomeArguments, ArgumentLinks, ShortQuotes};
+ghost use Rattle.expander.specs.Arguments.{args_of, ShortQuotes};
 ghost use Rattle.expander.specs.Filled.{Filled};
 ghost use Rattle.expander.specs.Limits.{most_lent};
 
-use crate::arguments::Arguments;
-use crate::{arguments, buffers, packed};
+use crate::argument_strings::Arguments;
+use crate::{buffers, packed};
 use rules::{Mark, Marks};
 
 // Marks of no bytes.
@@ -29,17 +29,17 @@ pub(crate) fn bare_marks() -> Marks
 }
 
 // How long the arguments behind the first `skip` are, joined.
-pub(crate) fn list_length(ends: &[u32], x: Arguments, skip: usize, marks: Marks) -> usize
-    requires { ArgumentLinks ends.now x × ShortQuotes marks × (skip ≤ most_lent) }
-    ensures { ((bytes : Bytes) (args : List Bytes) (gap : ℕ) → ArgumentsIn bytes ends.now x args → result ≡ length (separated gap (quoted_each (mark_texts marks) (drop skip args)))) × (result ≤ 2 * most_lent) }
+pub(crate) fn list_length(x: Arguments, skip: usize, marks: Marks) -> usize
+    requires { ShortQuotes marks × (skip ≤ most_lent) }
+    ensures { ((gap : ℕ) → result ≡ length (separated gap (quoted_each (mark_texts marks) (drop skip (args_of x.entry))))) × (result ≤ 2 * most_lent) }
 {
-    let have = arguments::count(x);
+    let have = x.count();
     if have <= skip {
         return 0;
     }
     let n = have - skip;
     let k = x.base + skip;
-    let start = packed::start(ends, k);
+    let start = packed::start(x.ends, k);
     let begin = marks.begin_quote.len as usize;
     let end = marks.end_quote.len as usize;
     let quotes = begin + end;
@@ -55,11 +55,7 @@ fn fill_mark(m: Mark, dst: &mut [u8], at: usize) -> usize
     ensures { Filled dst.old at (mark_text m) dst.new × (result ≡ at + m.len) }
 {
     let n = m.len as usize;
-    let mut k = 0;
-    while k < n {
-        dst[at + k] = m.bytes[k];
-        k += 1;
-    }
+    buffers::fill_slice(&m.bytes[..n], dst, at);
     at + n
 }
 
@@ -75,48 +71,28 @@ pub(crate) fn fill_quoted(s: &[u8], marks: Marks, dst: &mut [u8], at: usize) -> 
 }
 
 // The n-th argument between quote marks behind the byte `gap`, into a buffer at a place; returns the place behind it.
-fn fill_next(
-    bytes: &[u8],
-    ends: &[u32],
-    x: Arguments,
-    n: usize,
-    marks: Marks,
-    gap: u8,
-    dst: &mut [u8],
-    at: usize,
-) -> usize
-    requires some_arguments { SomeArguments bytes.now ends.now x × ShortQuotes marks × (1 ≤ n) × (n ≤ most_lent) }
-    requires args_in_bounds { (args : List Bytes) → ArgumentsIn bytes.now ends.now x args → at + length (gap ∷ quoted (mark_texts marks) (arg n args)) ≤ length dst.old }
-    ensures { (args : List Bytes) → ArgumentsIn bytes.now ends.now x args → Filled dst.old at (gap ∷ quoted (mark_texts marks) (arg n args)) dst.new × (result ≡ at + length (gap ∷ quoted (mark_texts marks) (arg n args))) }
+fn fill_next(x: Arguments, n: usize, marks: Marks, gap: u8, dst: &mut [u8], at: usize) -> usize
+    requires short_quotes { ShortQuotes marks × (1 ≤ n) × (n ≤ most_lent) }
+    requires args_in_bounds { at + length (gap ∷ quoted (mark_texts marks) (arg n (args_of x))) ≤ length dst.old }
+    ensures { Filled dst.old at (gap ∷ quoted (mark_texts marks) (arg n (args_of x.entry))) dst.new × (result ≡ at + length (gap ∷ quoted (mark_texts marks) (arg n (args_of x.entry)))) }
 {
     let text = at + 1;
     dst[at] = gap;
-    fill_quoted(arguments::argument(bytes, ends, x, n), marks, dst, text)
+    fill_quoted(x.argument(n), marks, dst, text)
 }
 
 // The arguments behind the first `skip`, joined, into a buffer at a place.
-pub(crate) fn fill_list(
-    bytes: &[u8],
-    ends: &[u32],
-    x: Arguments,
-    skip: usize,
-    marks: Marks,
-    gap: u8,
-    dst: &mut [u8],
-    at: usize,
-)
-    requires some_arguments { SomeArguments bytes.now ends.now x × ShortQuotes marks × (skip ≤ most_lent) }
-    requires args_in_bounds { (args : List Bytes) → ArgumentsIn bytes.now ends.now x args → at + length (separated gap (quoted_each (mark_texts marks) (drop skip args))) ≤ length dst.old }
-    ensures { (args : List Bytes) → ArgumentsIn bytes.now ends.now x args → Filled dst.old at (separated gap (quoted_each (mark_texts marks) (drop skip args))) dst.new }
+pub(crate) fn fill_list(x: Arguments, skip: usize, marks: Marks, gap: u8, dst: &mut [u8], at: usize)
+    requires short_quotes { ShortQuotes marks × (skip ≤ most_lent) }
+    requires args_in_bounds { at + length (separated gap (quoted_each (mark_texts marks) (drop skip (args_of x)))) ≤ length dst.old }
+    ensures { Filled dst.old at (separated gap (quoted_each (mark_texts marks) (drop skip (args_of x.entry)))) dst.new }
 {
-    let have = arguments::count(x);
+    let have = x.count();
     if have <= skip {
         return;
     }
-    let mut k = skip + 1;
-    let mut to = fill_quoted(arguments::argument(bytes, ends, x, k), marks, dst, at);
-    while k < have {
-        k += 1;
-        to = fill_next(bytes, ends, x, k, marks, gap, dst, to);
+    let mut to = fill_quoted(x.argument(skip + 1), marks, dst, at);
+    for k in skip + 1..have {
+        to = fill_next(x, k + 1, marks, gap, dst, to);
     }
 }

@@ -1,5 +1,5 @@
 // The quote and comment marks: which are good, and the four in force.
-ghost use Rattle.std.specs.Prelude.{◌≡◌, ◌≤◌, length};
+ghost use Rattle.std.specs.Prelude.{◌≡◌, ◌≤◌, [], ◌∷◌, length};
 ghost use Rattle.rules.specs.Marks.{is_barred, none_barred, is_mark, is_end_mark, default_marks, mark_text, mark_texts};
 ghost use Rattle.expander.specs.Tokens.{GoodMarks};
 
@@ -12,49 +12,28 @@ fn is_barred(x: u8) -> bool
     if ascii::continues_name(x) {
         return true;
     }
-    if ascii::is_blank(x) {
-        return true;
-    }
-    match x {
-        b'(' => true,
-        b')' => true,
-        b',' => true,
-        _ => false,
-    }
+    ascii::is_blank(x) || matches!(x, b'(' | b')' | b',')
 }
 
 fn none_barred(w: &[u8]) -> bool
     ensures { result ≡ none_barred w.now }
 {
-    let mut i = 0;
-    while i < w.len() {
-        if is_barred(w[i]) {
-            return false;
-        }
-        i += 1;
-    }
-    true
+    w.iter().all(|x| !is_barred(*x))
 }
 
 pub(crate) fn is_mark(w: &[u8]) -> bool
     ensures { result ≡ is_mark w.now }
 {
-    if w.len() == 0 {
+    if w.is_empty() {
         return false;
     }
-    if 5 < w.len() {
-        return false;
-    }
-    none_barred(w)
+    w.len() <= 5 && none_barred(w)
 }
 
 pub(crate) fn is_end_mark(w: &[u8]) -> bool
     ensures { result ≡ is_end_mark w.now }
 {
-    if is_mark(w) {
-        return true;
-    }
-    ascii::same(w, b"\n")
+    is_mark(w) || ascii::same(w, b"\n")
 }
 
 // A text of at most five bytes as a mark.
@@ -62,15 +41,21 @@ pub(crate) fn mark_of(w: &[u8]) -> Mark
     requires { length w.now ≤ 5 }
     ensures { (mark_text result ≡ w.now) × (result.len ≡ length w.now) }
 {
-    let mut bytes = [0u8; 5];
-    let mut i = 0;
-    while i < w.len() {
-        bytes[i] = w[i];
-        i += 1;
-    }
+    let mut bytes = [0; 5];
+    bytes[..w.len()].copy_from_slice(w);
     Mark {
         bytes,
         len: w.len() as u8,
+    }
+}
+
+// A mark of one byte.
+fn single(byte: u8) -> Mark
+    ensures { (mark_text result ≡ byte ∷ []) × (result.len ≡ 1) }
+{
+    Mark {
+        bytes: [byte, 0, 0, 0, 0],
+        len: 1,
     }
 }
 
@@ -78,26 +63,10 @@ pub(crate) fn mark_of(w: &[u8]) -> Mark
 pub(crate) fn default_marks() -> Marks
     ensures { (mark_texts result ≡ default_marks) × GoodMarks result }
 {
-    let begin_quote = Mark {
-        bytes: [96, 0, 0, 0, 0],
-        len: 1,
-    };
-    let end_quote = Mark {
-        bytes: [39, 0, 0, 0, 0],
-        len: 1,
-    };
-    let begin_comment = Mark {
-        bytes: [35, 0, 0, 0, 0],
-        len: 1,
-    };
-    let end_comment = Mark {
-        bytes: [10, 0, 0, 0, 0],
-        len: 1,
-    };
     Marks {
-        begin_quote,
-        end_quote,
-        begin_comment,
-        end_comment,
+        begin_quote: single(b'`'),
+        end_quote: single(b'\''),
+        begin_comment: single(b'#'),
+        end_comment: single(b'\n'),
     }
 }

@@ -11,17 +11,15 @@ ghost use Rattle.hashing.specs.Hashing.{bucket_of};
 
 use crate::machine::Machine;
 use crate::source::Position;
+use crate::table;
 use crate::table::Meaning;
-use crate::{source, table};
 
 // The first n bytes ahead are copied to the front of `scratch`.
 pub(crate) fn copy_name(text: &[u8], pending: &[u8], p: Position, n: usize, scratch: &mut [u8])
     requires { (p.from ≤ length pending.now) × (p.taken ≤ length text.now) × (n ≤ ahead_of text.now pending.now p) × (n ≤ length scratch.old) }
     ensures { take n scratch.new ≡ take n (drop p.from pending.now ++ drop p.taken text.now) }
 {
-    let from = p.from;
-    let taken = p.taken;
-    source::copy_ahead(&pending[from..], &text[taken..], 0, &mut scratch[..n]);
+    p.ahead(text, pending).copy_to(0, &mut scratch[..n]);
 }
 
 // The first n bytes ahead as one slice, so that they are looked up at one place: where they lie, or a copy in `scratch` if they cross from pending text into

@@ -1,135 +1,106 @@
-// The macros whose result is a number: the number, to be written later, or why there is none.
-ghost use Rattle.std.specs.Prelude.{◌≡◌, true, List};
-ghost use Rattle.rules.specs.Bytes.{Bytes};
-ghost use Rattle.rules.specs.Words.{signed_value};
-ghost use Rattle.rules.specs.Results.{decr_result, incr_result, divnum_result, eval_result, index_result, len_result, shown_result};
+// The macros whose result is a number: the number, to be written later, or the answer of the refusal.
+ghost use Rattle.std.specs.Prelude.{◌≡◌, true, pos, ◌+ℤ◌, Ok};
+ghost use Rattle.rules.specs.Numerals.{decimal};
+ghost use Rattle.rules.specs.Results.{changed_number, decr_result, incr_result, divnum_result, eval_result, index_result, len_result, is_unreadable, shown_result};
 ghost use Rattle.numerals.specs.Answers.{is_radix};
-ghost use Rattle.expander.specs.Arguments.{ArgumentsIn, SomeArguments};
-ghost use Rattle.expander.specs.Results.{Shows, read_result};
+ghost use Rattle.expander.specs.Arguments.{args_of};
+ghost use Rattle.expander.specs.Results.{answered, number_text, read_result};
 
-use crate::arguments;
-use crate::arguments::Arguments;
-use crate::limits::{LARGEST, LOWEST, MINUS_ONE};
-use matching::Place;
-use numerals::{Decimal, Natural};
-use rules::Evaluated;
-
-// A number by its bits, with the radix and the least count of digits that it is written with.
-#[derive(Clone, Copy)]
-pub(crate) enum NumberResult {
-    Number { bits: u32, radix: u32, least: u32 },
-    NoNumber,
-    NoExpression,
-    Divisor,
-}
+use crate::argument_strings::Arguments;
+use crate::limits::LARGEST;
+use crate::numeral::Numeral;
+use rules::{Answer, EvalError};
 
 // A number in decimal.
-fn plain(bits: u32) -> NumberResult
-    ensures { Shows (divnum_result (signed_value bits)) result }
+fn decimal(value: i32) -> Numeral
+    ensures { number_text (Ok result) ≡ Ok (decimal value) }
 {
-    NumberResult::Number {
-        bits,
+    Numeral {
+        value,
         radix: 10,
         least: 0,
     }
 }
 
-pub(crate) fn decr(bytes: &[u8], ends: &[u32], x: Arguments) -> NumberResult
-    requires { SomeArguments bytes.now ends.now x }
-    ensures { (args : List Bytes) → ArgumentsIn bytes.now ends.now x args → Shows (decr_result args) result }
+// A number with `by` added to it.
+fn added(number: Option<i32>, by: i32) -> Result<Numeral, Answer>
+    ensures { number_text result ≡ answered (changed_number (λ z. z +ℤ by) number) }
 {
-    let Decimal::Number(bits) = arguments::decimal_argument(bytes, ends, x, 1) else {
-        return NumberResult::NoNumber;
-    };
-    if bits == LOWEST {
-        return NumberResult::NoNumber;
-    }
-    let less = std::num::wrapping_sub_u32(bits, 1);
-    plain(less)
+    let n = number.ok_or(Answer::Number)?;
+    let sum = n.checked_add(by).ok_or(Answer::Number)?;
+    Ok(decimal(sum))
 }
 
-pub(crate) fn incr(bytes: &[u8], ends: &[u32], x: Arguments) -> NumberResult
-    requires { SomeArguments bytes.now ends.now x }
-    ensures { (args : List Bytes) → ArgumentsIn bytes.now ends.now x args → Shows (incr_result args) result }
+pub(crate) fn decr(x: Arguments) -> Result<Numeral, Answer>
+    ensures { number_text result ≡ answered (decr_result (args_of x.entry)) }
 {
-    let Decimal::Number(bits) = arguments::decimal_argument(bytes, ends, x, 1) else {
-        return NumberResult::NoNumber;
-    };
-    if bits == LARGEST {
-        return NumberResult::NoNumber;
-    }
-    let more = std::num::wrapping_add_u32(bits, 1);
-    plain(more)
+    added(x.number(1), -1)
+}
+
+pub(crate) fn incr(x: Arguments) -> Result<Numeral, Answer>
+    ensures { number_text result ≡ answered (incr_result (args_of x.entry)) }
+{
+    added(x.number(1), 1)
 }
 
 // The number of the current stream.
-pub(crate) fn divnum(current: u32) -> NumberResult
-    ensures { Shows (divnum_result (signed_value current)) result }
+pub(crate) fn divnum(current: i32) -> Numeral
+    ensures { number_text (Ok result) ≡ answered (divnum_result current) }
 {
-    plain(current)
+    decimal(current)
 }
 
-pub(crate) fn len(bytes: &[u8], ends: &[u32], x: Arguments) -> NumberResult
-    requires { SomeArguments bytes.now ends.now x }
-    ensures { (args : List Bytes) → ArgumentsIn bytes.now ends.now x args → Shows (len_result args) result }
+pub(crate) fn len(x: Arguments) -> Numeral
+    ensures { number_text (Ok result) ≡ answered (len_result (args_of x.entry)) }
 {
-    let n = arguments::argument(bytes, ends, x, 1).len();
-    let bits = n as u32;
-    plain(bits)
+    decimal(x.argument(1).len() as i32)
 }
 
-// Where the second argument first stands in the first, or -1. The two have at most 65,536 bytes together, so neither is too long.
-pub(crate) fn index(bytes: &[u8], ends: &[u32], x: Arguments) -> NumberResult
-    requires { SomeArguments bytes.now ends.now x }
-    ensures { (args : List Bytes) → ArgumentsIn bytes.now ends.now x args → Shows (index_result args) result }
+// Where the second argument first stands in the first, or -1. The two have at most 65,536 bytes together, so the search is never too long.
+pub(crate) fn index(x: Arguments) -> Numeral
+    ensures { number_text (Ok result) ≡ answered (index_result (args_of x.entry)) }
 {
-    let text = arguments::argument(bytes, ends, x, 1);
-    let needle = arguments::argument(bytes, ends, x, 2);
-    let place = matching::first_place(needle, text);
-    match place {
-        Place::At(n) => {
-            let bits = n as u32;
-            plain(bits)
-        }
-        Place::Nowhere => plain(MINUS_ONE),
-        Place::TooLong => plain(MINUS_ONE),
+    let text = x.argument(1);
+    let needle = x.argument(2);
+    match matching::first_place(needle, text) {
+        Ok(Some(n)) => decimal(n as i32),
+        Ok(None) => decimal(-1),
+        Err(_) => decimal(-1),
     }
 }
 
 // A value in a radix with a least count of digits.
-fn valued(value: Evaluated, radix: u32, least: u32) -> NumberResult
+fn shown(value: Result<i32, EvalError>, radix: u32, least: u32) -> Result<Numeral, Answer>
     requires { is_radix radix ≡ true }
-    ensures { Shows (shown_result value radix least) result }
+    ensures { number_text result ≡ answered (shown_result value radix least) }
 {
     match value {
-        Evaluated::Unreadable => NumberResult::NoExpression,
-        Evaluated::Divisor => NumberResult::Divisor,
-        Evaluated::Number(bits) => NumberResult::Number { bits, radix, least },
+        Ok(value) => Ok(Numeral {
+            value,
+            radix,
+            least,
+        }),
+        Err(EvalError::Unreadable) => Err(Answer::Expression),
+        Err(EvalError::Divisor) => Err(Answer::Divisor),
     }
 }
 
-// A value in the radix of the second argument, with the third as the least count of digits.
-fn shown(bytes: &[u8], ends: &[u32], x: Arguments, value: Evaluated) -> NumberResult
-    requires { SomeArguments bytes.now ends.now x }
-    ensures { (args : List Bytes) → ArgumentsIn bytes.now ends.now x args → Shows (read_result value args) result }
+// Whether an expression can't be read.
+fn is_unreadable(value: Result<i32, EvalError>) -> bool
+    ensures { result ≡ is_unreadable value }
 {
-    let Natural::Number(radix) = arguments::natural_or(bytes, ends, x, 2, 10, 2, 36) else {
-        return NumberResult::NoNumber;
-    };
-    let Natural::Number(least) = arguments::natural_or(bytes, ends, x, 3, 0, 0, LARGEST) else {
-        return NumberResult::NoNumber;
-    };
-    valued(value, radix, least)
+    matches!(value, Err(EvalError::Unreadable))
 }
 
-// The value of the first argument, an expression.
-pub(crate) fn eval(bytes: &[u8], ends: &[u32], x: Arguments) -> NumberResult
-    requires { SomeArguments bytes.now ends.now x }
-    ensures { (args : List Bytes) → ArgumentsIn bytes.now ends.now x args → Shows (eval_result args) result }
+// The value of the first argument, an expression, in the radix of the second, with the third as the least count of digits.
+pub(crate) fn eval(x: Arguments) -> Result<Numeral, Answer>
+    ensures { number_text result ≡ answered (eval_result (args_of x.entry)) }
 {
-    let value = expression::evaluate(arguments::argument(bytes, ends, x, 1));
-    match value {
-        Evaluated::Unreadable => NumberResult::NoExpression,
-        _ => shown(bytes, ends, x, value),
+    let value = expression::evaluate(x.argument(1));
+    if is_unreadable(value) {
+        return Err(Answer::Expression);
     }
+    let radix = x.natural_or(2, 10, 2, 36).ok_or(Answer::Number)?;
+    let least = x.natural_or(3, 0, 0, LARGEST).ok_or(Answer::Number)?;
+    shown(value, radix, least)
 }

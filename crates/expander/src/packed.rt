@@ -50,43 +50,13 @@ pub(crate) fn is_string(bytes: &[u8], ends: &[u32], k: usize, s: &[u8]) -> bool
     ascii::same(s, part(bytes, ends, k))
 }
 
-// Moves the bytes from `from` up to `end` down to the place `to`.
-fn move_down(bytes: &mut [u8], to: usize, from: usize, end: usize)
-    requires { (to ≤ from) × (from ≤ end) × (end ≤ length bytes.old) }
-    ensures { bytes.new ≡ overlaid to (drop from (take end bytes.old)) bytes.old }
-{
-    let n = end - from;
-    let mut j = 0;
-    while j < n {
-        bytes[to + j] = bytes[from + j];
-        j += 1;
-    }
-}
-
-// Moves the bytes from `from` up to `end` up to the place `to`, the last one first.
-fn move_up(bytes: &mut [u8], to: usize, from: usize, end: usize)
-    requires { (from ≤ to) × (from ≤ end) × (to + (end - from) ≤ length bytes.old) }
-    ensures { bytes.new ≡ overlaid to (drop from (take end bytes.old)) bytes.old }
-{
-    let mut j = end - from;
-    while 0 < j {
-        let i = j - 1;
-        bytes[to + i] = bytes[from + i];
-        j = i;
-    }
-}
-
-// Moves the bytes from `from` up to `end` to the place `to`.
+// Moves the bytes from `from` up to `end` to the place `to`, and none where they stand there.
 pub(crate) fn move_bytes(bytes: &mut [u8], to: usize, from: usize, end: usize)
     requires { (from ≤ end) × (end ≤ length bytes.old) × (to + (end - from) ≤ length bytes.old) }
     ensures { bytes.new ≡ overlaid to (drop from (take end bytes.old)) bytes.old }
 {
-    if to < from {
-        move_down(bytes, to, from, end);
-        return;
-    }
-    if from < to {
-        move_up(bytes, to, from, end);
+    if to != from {
+        bytes.copy_within(from..end, to);
     }
 }
 
@@ -97,12 +67,10 @@ fn rebase(ends: &mut [u32], to: usize, from: usize, count: usize, less: usize, m
     ensures { ends.new ≡ overlaid to (map (rebased less more) (drop from (take count ends.old))) ends.old }
 {
     let n = count - from;
-    let mut j = 0;
-    while j < n {
+    for j in 0..n {
         let e = ends[from + j] as usize;
         let moved = e - less + more;
         ends[to + j] = moved as u32;
-        j += 1;
     }
 }
 
@@ -213,7 +181,7 @@ impl Packed {
         sized
     }
 
-    // String k becomes what string `from` is, in its place.
+    // String k becomes what string `from` is, in its place. (It stands in the buffer that is written, so it is told by its number and not lent to `replace`.)
     pub(crate) fn copy_over(
         self,
         bytes: &mut [u8],
@@ -240,7 +208,7 @@ impl Packed {
         sized
     }
 
-    // A new string, what string k is.
+    // A new string, what string k is. (As in `copy_over`, it can't be lent to `push_string`.)
     pub(crate) fn push_copy(self, bytes: &mut [u8], ends: &mut [u32], k: usize) -> Packed
         requires formed { Formed ends.old self.count bytes.old self.used }
         requires k_lt_count { (k < self.count) × (self.count < length ends.old) × (length bytes.old < 2 ^ 32) }

@@ -1,113 +1,72 @@
-// The macros whose result is a part of an argument: where it stands in buffer 2.
-ghost use Rattle.std.specs.Prelude.{◌≡◌, ◌+◌, ◌<◌, ◌≤◌, min, List, take, drop};
-ghost use Rattle.rules.specs.Bytes.{Bytes, same_bytes};
+// The macros whose result is a part of an argument.
+ghost use Rattle.std.specs.Prelude.{◌≡◌, ◌+◌, ◌<◌, ◌≤◌, Ok};
+ghost use Rattle.rules.specs.Bytes.{same_bytes};
 ghost use Rattle.rules.specs.Arguments.{arg};
 ghost use Rattle.rules.specs.Table.{Table};
-ghost use Rattle.rules.specs.Results.{ifdef_result, ifelse_result, substr_result, yields};
-ghost use Rattle.expander.specs.Arguments.{ArgumentsIn, SomeArguments, ArgumentLinks, SpanIs};
+ghost use Rattle.rules.specs.Results.{ifdef_result, ifelse_result, substr_result};
+ghost use Rattle.expander.specs.Arguments.{args_of};
 ghost use Rattle.expander.specs.Table.{TableIn, ValidDefinitions};
-ghost use Rattle.expander.specs.Results.{ShowsPart};
+ghost use Rattle.expander.specs.Results.{answered, part_text};
 ghost use Rattle.expander.specs.Limits.{most_lent};
 
-use crate::arguments::{Arguments, Span};
+use crate::argument_strings::Arguments;
 use crate::limits::LARGEST;
+use crate::table;
 use crate::table::{Definitions, Meaning};
-use crate::{arguments, table};
-use numerals::Natural;
+use rules::Answer;
 
-// From `start` up to `end`.
-#[derive(Clone, Copy)]
-pub(crate) enum PartResult {
-    Part { start: usize, end: usize },
-    NoNumber,
-}
-
-// The whole n-th argument.
-fn whole(ends: &[u32], x: Arguments, n: usize) -> PartResult
-    requires { ArgumentLinks ends.now x × (1 ≤ n) × (n ≤ most_lent) }
-    ensures { (bytes : Bytes) (args : List Bytes) → ArgumentsIn bytes ends.now x args → ShowsPart bytes (yields (arg n args)) result }
-{
-    let p = arguments::place_of(ends, x, n);
-    PartResult::Part {
-        start: p.start,
-        end: p.end,
-    }
-}
-
-pub(crate) fn ifdef(
-    bytes: &[u8],
-    ends: &[u32],
-    x: Arguments,
+pub(crate) fn ifdef<'a>(
+    x: Arguments<'a>,
     definitions: &[u8],
     table_ends: &[u32],
     t: Definitions,
-) -> PartResult
-    requires { SomeArguments bytes.now ends.now x × ValidDefinitions definitions.now table_ends.now t.packed }
-    ensures { (args : List Bytes) (u : Table) → ArgumentsIn bytes.now ends.now x args → TableIn definitions.now table_ends.now t.packed t.own u → ShowsPart bytes.now (ifdef_result u args) result }
+) -> &'a [u8]
+    requires { ValidDefinitions definitions.now table_ends.now t.packed }
+    ensures { (u : Table) → TableIn definitions.now table_ends.now t.packed t.own u → part_text (Ok result) ≡ answered (ifdef_result u (args_of x.entry)) }
 {
-    let name = arguments::argument(bytes, ends, x, 1);
+    let name = x.argument(1);
     match table::look_up(definitions, table_ends, t.packed, t.own, name) {
-        Meaning::Undefined => whole(ends, x, 3),
-        _ => whole(ends, x, 2),
+        Meaning::Undefined => x.argument(3),
+        _ => x.argument(2),
     }
 }
 
 // Whether the k-th argument and the next are the same.
-fn alike(bytes: &[u8], ends: &[u32], x: Arguments, k: usize) -> bool
-    requires { SomeArguments bytes.now ends.now x × (1 ≤ k) × (k < most_lent) }
-    ensures { (args : List Bytes) → ArgumentsIn bytes.now ends.now x args → result ≡ same_bytes (arg k args) (arg (k + 1) args) }
+fn alike(x: Arguments, k: usize) -> bool
+    requires { (1 ≤ k) × (k < most_lent) }
+    ensures { result ≡ same_bytes (arg k (args_of x.entry)) (arg (k + 1) (args_of x.entry)) }
 {
-    let left = arguments::argument(bytes, ends, x, k);
-    let right = arguments::argument(bytes, ends, x, k + 1);
+    let left = x.argument(k);
+    let right = x.argument(k + 1);
     ascii::same(left, right)
 }
 
 // Three arguments are passed at a time, as long as the first two of those left differ and more than five are left.
-pub(crate) fn ifelse(bytes: &[u8], ends: &[u32], x: Arguments) -> PartResult
-    requires { SomeArguments bytes.now ends.now x }
-    ensures { (args : List Bytes) → ArgumentsIn bytes.now ends.now x args → ShowsPart bytes.now (ifelse_result args) result }
+pub(crate) fn ifelse<'a>(x: Arguments<'a>) -> &'a [u8]
+    ensures { part_text (Ok result) ≡ answered (ifelse_result (args_of x.entry)) }
 {
-    let have = arguments::count(x);
+    let have = x.count();
     let mut k = 1;
+    // The step depends on how many arguments are left, so no iterator over them fits.
     while k + 2 <= have {
-        if alike(bytes, ends, x, k) {
-            return whole(ends, x, k + 2);
+        if alike(x, k) {
+            return x.argument(k + 2);
         }
         if have <= k + 4 {
-            return whole(ends, x, k + 3);
+            return x.argument(k + 3);
         }
         k += 3;
     }
-    PartResult::Part { start: 0, end: 0 }
+    &x.bytes[..0]
 }
 
-fn least(a: usize, b: usize) -> usize
-    ensures { result ≡ min a b }
+pub(crate) fn substr<'a>(x: Arguments<'a>) -> Result<&'a [u8], Answer>
+    ensures { part_text result ≡ answered (substr_result (args_of x.entry)) }
 {
-    if a < b { a } else { b }
-}
-
-// Of a part, `count` bytes from `from` on, or what there is of them.
-fn part_of(span: Span, from: usize, count: usize) -> PartResult
-    requires { span.start ≤ span.end }
-    ensures { (bytes w : Bytes) → SpanIs bytes span w → ShowsPart bytes (yields (take count (drop from w))) result }
-{
-    let start = span.start + least(from, span.end - span.start);
-    let end = start + least(count, span.end - start);
-    PartResult::Part { start, end }
-}
-
-pub(crate) fn substr(bytes: &[u8], ends: &[u32], x: Arguments) -> PartResult
-    requires { SomeArguments bytes.now ends.now x }
-    ensures { (args : List Bytes) → ArgumentsIn bytes.now ends.now x args → ShowsPart bytes.now (substr_result args) result }
-{
-    let text = arguments::place_of(ends, x, 1);
-    let size = (text.end - text.start) as u32;
-    let Natural::Number(from) = arguments::natural_argument(bytes, ends, x, 2, 0, LARGEST) else {
-        return PartResult::NoNumber;
-    };
-    let Natural::Number(count) = arguments::natural_or(bytes, ends, x, 3, size, 0, LARGEST) else {
-        return PartResult::NoNumber;
-    };
-    part_of(text, from as usize, count as usize)
+    let text = x.argument(1);
+    let from = x.natural(2, 0, LARGEST).ok_or(Answer::Number)? as usize;
+    let behind = &text[from.min(text.len())..];
+    let size = behind.len() as u32;
+    let count = x.natural_or(3, size, 0, LARGEST).ok_or(Answer::Number)? as usize;
+    Ok(&behind[..count.min(behind.len())])
 }

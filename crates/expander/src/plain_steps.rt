@@ -14,6 +14,7 @@ use crate::{delivering, events};
 use rules::Answer;
 
 // Why plain steps that follow one another end: the run stops here, its budget spent or a step refused; or the next step is special.
+// A run may stop because it is done, too, so this is no Result.
 #[derive(Clone, Copy)]
 pub(crate) enum Stop {
     Stopped(Answer),
@@ -72,9 +73,9 @@ fn plain_step(
 }
 
 // As many plain steps as the budget allows, up to one that is refused or special.
-pub(crate) fn run_plain<'a>(
-    text: &'a [u8],
-    pending: &'a [u8],
+pub(crate) fn run_plain(
+    text: &[u8],
+    pending: &[u8],
     calls: &mut [u8],
     ends: &mut [u32],
     stack: &mut [u32],
@@ -93,6 +94,7 @@ pub(crate) fn run_plain<'a>(
 {
     let mut m = first;
     let mut left = budget;
+    // The steps that are left are handed back at each end, so they are counted down here.
     while 0 < left {
         match events::event_ahead(text, pending, stack, definitions, table_ends, scratch, m) {
             Event::Special(e) => {

@@ -1,51 +1,31 @@
 // The report of a run, from how it ended.
 ghost use Rattle.std.specs.Prelude.{◌≡◌, ◌≤◌};
 ghost use Rattle.expander.specs.Limits.{most_lent};
-ghost use Rattle.expander.specs.Run.{finished_report, stopped_report, halted_report};
+ghost use Rattle.expander.specs.Run.{halted_report};
 
-use crate::machine::Machine;
 use crate::run::Halted;
-use rules::{Answer, Report};
+use rules::Report;
 
-// That of a run that ended by itself, from its last machine.
-fn finished(answer: Answer, steps: u32, m: Machine) -> Report
-    requires { (m.source.taken ≤ most_lent) × (m.sinks.output ≤ most_lent) × (m.errors ≤ most_lent) }
-    ensures { result ≡ finished_report answer steps m }
-{
-    let place = m.source.taken as u32;
-    let output = m.sinks.output as u32;
-    let errors = m.errors as u32;
-    Report {
-        answer,
-        steps,
-        place,
-        output,
-        errors,
-    }
-}
-
-// That of a run that was refused or whose budget is spent, from the machine before the refused step.
-fn stopped(answer: Answer, steps: u32, m: Machine) -> Report
-    requires { m.source.taken ≤ most_lent }
-    ensures { result ≡ stopped_report answer steps m }
-{
-    let place = m.source.taken as u32;
-    Report {
-        answer,
-        steps,
-        place,
-        output: 0,
-        errors: 0,
-    }
-}
-
+// That of a run that ended by itself is from its last machine. Of one that was refused or whose budget is spent, the machine is that before the refused step, and
+// what it wrote counts for nothing.
 pub(crate) fn report_of(h: Halted) -> Report
     requires { (h.machine.source.taken ≤ most_lent) × (h.machine.sinks.output ≤ most_lent) × (h.machine.errors ≤ most_lent) }
     ensures { result ≡ halted_report h }
 {
-    let answer = h.answer;
-    if answers::number_of(answer) <= 1 {
-        return finished(answer, h.steps, h.machine);
+    let m = h.machine;
+    let stopped = Report {
+        answer: h.answer,
+        steps: h.steps,
+        place: m.source.taken as u32,
+        output: 0,
+        errors: 0,
+    };
+    if 1 < answers::number_of(h.answer) {
+        return stopped;
     }
-    stopped(answer, h.steps, h.machine)
+    Report {
+        output: m.sinks.output as u32,
+        errors: m.errors as u32,
+        ..stopped
+    }
 }

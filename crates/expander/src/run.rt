@@ -1,6 +1,5 @@
 // A run: steps until one ends the run or is refused, or the budget is spent.
-ghost use Rattle.std.specs.Prelude.{◌≡◌, List, [], length};
-ghost use Rattle.std.proofs.Math.Option.{some};
+ghost use Rattle.std.specs.Prelude.{◌≡◌, List, [], length, Some};
 ghost use Rattle.rules.specs.Sets.{Item, set_items};
 ghost use Rattle.rules.specs.State.{fresh_start, start_state};
 ghost use Rattle.rules.specs.Run.{Setting, lengths, run_from};
@@ -30,7 +29,7 @@ pub(crate) struct Halted {
 
 // The machine at the start of a run, over a buffer for pending text of `from` bytes and chains without a definition.
 fn start(from: usize) -> Machine
-    ensures { (a : Setting) (b : Memory) (is : List Item) → Limits a b → Chained b.table_ends [] → set_items b.set ≡ some is → length b.pending ≡ from → Represents a b result (start_state is (fresh_start b.text b.set)) }
+    ensures { (a : Setting) (b : Memory) (is : List Item) → Limits a b → Chained b.table_ends [] → set_items b.set ≡ Some is → length b.pending ≡ from → Represents a b result (start_state is (fresh_start b.text b.set)) }
 {
     let none = Packed { count: 0, used: 0 };
     Machine {
@@ -73,7 +72,7 @@ pub(crate) fn run(
     budget: u32,
 ) -> Halted
     requires { Roomy (memory text.now set.now pending.old calls.old ends.old stack.old definitions.old table_ends.old streams.old owners.old wrap.old errors.old output.old) × (length scratch.old ≡ most_lent) }
-    ensures { (a : Setting) (is : List Item) → set_items set.now ≡ some is → Limits a (memory text.now set.now pending.old calls.old ends.old stack.old definitions.old table_ends.old streams.old owners.old wrap.old errors.old output.old) → Leaves a (run_from (lengths a) budget 0 (start_state is (fresh_start text.now set.now))) (memory text.now set.now pending.new calls.new ends.new stack.new definitions.new table_ends.new streams.new owners.new wrap.new errors.new output.new) result }
+    ensures { (a : Setting) (is : List Item) → set_items set.now ≡ Some is → Limits a (memory text.now set.now pending.old calls.old ends.old stack.old definitions.old table_ends.old streams.old owners.old wrap.old errors.old output.old) → Leaves a (run_from (lengths a) budget 0 (start_state is (fresh_start text.now set.now))) (memory text.now set.now pending.new calls.new ends.new stack.new definitions.new table_ends.new streams.new owners.new wrap.new errors.new output.new) result }
 {
     let from = pending.len();
     let mut m = start(from);

@@ -1,48 +1,38 @@
 // Where text goes outside of calls: the output, or one of streams 1 to 9, or nowhere.
 ghost use Rattle.std.specs.Prelude.{◌≡◌, ◌+◌, ◌-◌, ◌≤◌, [], ◌∷◌, ◌++◌, length, take, drop};
 ghost use Rattle.rules.specs.Streams.{Streams, placed};
+ghost use Rattle.expander.specs.Source.{bytes_of};
 ghost use Rattle.expander.specs.Sinks.{SinksIn, Fits, full_buffer};
 
-use crate::{source, streams};
+use crate::source::Ahead;
+use crate::streams;
 
-// The bits of the current stream's number, how many bytes wait in streams 1 to 9, and how many are written.
+// The current stream's number, how many bytes wait in streams 1 to 9, and how many are written.
 #[derive(Clone, Copy)]
 pub(crate) struct Sinks {
-    pub(crate) current: u32,
+    pub(crate) current: i32,
     pub(crate) waiting: usize,
     pub(crate) output: usize,
 }
 
-// The number of the buffer that n bytes more to the current stream would overfill, of the lengths of the buffers 4 and 7; 0: they fit.
-pub(crate) fn full(sinks: Sinks, n: usize, streams: usize, output: usize) -> u32
+// The number of the buffer that n bytes more to the current stream would overfill, of the lengths of the buffers 4 and 7; none if they fit.
+pub(crate) fn full(sinks: Sinks, n: usize, streams: usize, output: usize) -> Option<u32>
     requires { (sinks.waiting ≤ streams) × (sinks.output ≤ output) }
     ensures { result ≡ full_buffer sinks.current n (streams - sinks.waiting) (output - sinks.output) }
 {
-    if sinks.current == 0 {
-        if output - sinks.output < n {
-            return 7;
-        }
-        return 0;
+    match sinks.current {
+        0 => (output - sinks.output < n).then_some(7),
+        1..=9 => (streams - sinks.waiting < n).then_some(4),
+        _ => None,
     }
-    if 9 < sinks.current {
-        return 0;
-    }
-    if streams - sinks.waiting < n {
-        return 4;
-    }
-    0
 }
 
 impl Sinks {
     // Another current stream.
-    pub(crate) fn diverted(self, current: u32) -> Sinks
+    pub(crate) fn diverted(self, current: i32) -> Sinks
         ensures { result ≡ record { current = current; waiting = self.waiting; output = self.output } }
     {
-        Sinks {
-            current,
-            waiting: self.waiting,
-            output: self.output,
-        }
+        Sinks { current, ..self }
     }
 
     // No byte waits in streams 1 to 9, and `output` bytes are written.
@@ -50,15 +40,15 @@ impl Sinks {
         ensures { result ≡ record { current = self.current; waiting = 0; output = output } }
     {
         Sinks {
-            current: self.current,
             waiting: 0,
             output,
+            ..self
         }
     }
 
     // One byte to the current stream.
     pub(crate) fn emit_byte(
-        self,
+        mut self,
         streams: &mut [u8],
         owners: &mut [u8],
         output: &mut [u8],
@@ -67,34 +57,25 @@ impl Sinks {
         requires { Fits streams.old owners.old output.old self 1 }
         ensures { (x : Streams) → SinksIn streams.old owners.old output.old self x → SinksIn streams.new owners.new output.new result (placed x.current (b ∷ []) x) }
     {
-        let current = self.current;
-        let waiting = self.waiting;
-        let at = self.output;
-        if current == 0 {
-            output[at] = b;
-            return Sinks {
-                current,
-                waiting,
-                output: at + 1,
-            };
+        match self.current {
+            0 => {
+                output[self.output] = b;
+                self.output += 1;
+            }
+            1..=9 => {
+                streams[self.waiting] = b;
+                owners[self.waiting] = self.current as u8;
+                self.waiting += 1;
+            }
+            _ => {}
         }
-        if 9 < current {
-            return self;
-        }
-        streams[waiting] = b;
-        owners[waiting] = current as u8;
-        Sinks {
-            current,
-            waiting: waiting + 1,
-            output: at,
-        }
+        self
     }
 
     // n bytes ahead, from `start` on, to the current stream.
     pub(crate) fn emit_ahead(
-        self,
-        front: &[u8],
-        rest: &[u8],
+        mut self,
+        ahead: Ahead<'_>,
         start: usize,
         n: usize,
         streams: &mut [u8],
@@ -102,29 +83,21 @@ impl Sinks {
         output: &mut [u8],
     ) -> Sinks
         requires fits { Fits streams.old owners.old output.old self n }
-        requires n_in_bounds { start + n ≤ length front.now + length rest.now }
-        ensures { (x : Streams) → SinksIn streams.old owners.old output.old self x → SinksIn streams.new owners.new output.new result (placed x.current (take n (drop start (front.now ++ rest.now))) x) }
+        requires n_in_bounds { start + n ≤ length (bytes_of ahead) }
+        ensures { (x : Streams) → SinksIn streams.old owners.old output.old self x → SinksIn streams.new owners.new output.new result (placed x.current (take n (drop start (bytes_of ahead.entry))) x) }
     {
-        let current = self.current;
-        let waiting = self.waiting;
-        let at = self.output;
-        if current == 0 {
-            source::fill_ahead(front, rest, start, n, output, at);
-            return Sinks {
-                current,
-                waiting,
-                output: at + n,
-            };
+        match self.current {
+            0 => {
+                ahead.fill(start, n, output, self.output);
+                self.output += n;
+            }
+            1..=9 => {
+                ahead.fill(start, n, streams, self.waiting);
+                streams::own(owners, self.waiting, n, self.current as u8);
+                self.waiting += n;
+            }
+            _ => {}
         }
-        if 9 < current {
-            return self;
-        }
-        source::fill_ahead(front, rest, start, n, streams, waiting);
-        streams::own(owners, waiting, n, current as u8);
-        Sinks {
-            current,
-            waiting: waiting + n,
-            output: at,
-        }
+        self
     }
 }

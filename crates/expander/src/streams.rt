@@ -19,11 +19,8 @@ pub(crate) fn own(owners: &mut [u8], from: usize, n: usize, i: u8)
     requires { from + n ≤ length owners.old }
     ensures { owners.new ≡ take from owners.old ++ (replicate n i ++ drop (from + n) owners.old) }
 {
-    let mut k = 0;
-    while k < n {
-        owners[from + k] = i;
-        k += 1;
-    }
+    let end = from + n;
+    owners[from..end].fill(i);
 }
 
 // s behind stream i; returns how much is in use then.
@@ -42,13 +39,7 @@ pub(crate) fn count(owners: &[u8], used: usize, i: u8) -> usize
     requires { used ≤ length owners.now }
     ensures { result ≡ owned_count i (take used owners.now) }
 {
-    let mut n = 0;
-    let mut k = 0;
-    while k < used {
-        n += of_stream(owners[k], i);
-        k += 1;
-    }
-    n
+    owners[..used].iter().filter(|o| **o == i).count()
 }
 
 // The text of stream i, into a slice of its length: once that is full, the pass ends.
@@ -59,6 +50,7 @@ pub(crate) fn extract(bytes: &[u8], owners: &[u8], used: usize, i: u8, dst: &mut
 {
     let mut n = 0;
     let mut k = 0;
+    // Two places move, and the one in `dst` ends the pass, so no range fits.
     while n < dst.len() {
         dst[n] = bytes[k];
         n += of_stream(owners[k], i);
@@ -72,13 +64,11 @@ pub(crate) fn compact(bytes: &mut [u8], owners: &mut [u8], used: usize, i: u8) -
     ensures { (result + owned_count i (take used owners.old) ≡ used) × ((ws : List Bytes) → IsStream i → StreamsIn bytes.old owners.old used ws → StreamsIn bytes.new owners.new result (slice_set ws (i - 1) [])) }
 {
     let mut n = 0;
-    let mut k = 0;
-    while k < used {
+    for k in 0..used {
         let o = owners[k];
         bytes[n] = bytes[k];
         owners[n] = o;
         n += 1 - of_stream(o, i);
-        k += 1;
     }
     n
 }
@@ -119,11 +109,8 @@ pub(crate) fn tally(owners: &[u8], used: usize, counts: &mut [usize; 10])
     requires counts_value { counts.old ≡ replicate 10 0 }
     ensures { Ten (λ i. owned_count i (take used owners.now)) counts.new }
 {
-    let mut k = 0;
-    while k < used {
-        let o = owners[k] as usize;
-        counts[o] += 1;
-        k += 1;
+    for o in &owners[..used] {
+        counts[*o as usize] += 1;
     }
 }
 
@@ -133,12 +120,10 @@ fn sum_before(numbers: &mut [usize; 10])
     ensures { Ten (λ i. sum_below i numbers.old) numbers.new }
 {
     let mut sum = 0;
-    let mut i = 0;
-    while i < 10 {
-        let n = numbers[i];
-        numbers[i] = sum;
-        sum += n;
-        i += 1;
+    for n in numbers {
+        let before = sum;
+        sum += *n;
+        *n = before;
     }
 }
 
@@ -149,13 +134,11 @@ fn place(bytes: &[u8], owners: &[u8], used: usize, next: &mut [usize; 10], dst: 
     requires ten { Ten (λ i. owned_below i (take used owners.now)) next.old }
     ensures { (ws : List Bytes) → StreamsIn bytes.now owners.now used ws → dst.new ≡ joined ws }
 {
-    let mut k = 0;
-    while k < used {
+    for k in 0..used {
         let o = owners[k] as usize;
         let at = next[o];
         dst[at] = bytes[k];
         next[o] = at + 1;
-        k += 1;
     }
 }
 

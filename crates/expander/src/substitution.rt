@@ -5,12 +5,12 @@ ghost use Rattle.rules.specs.Marks.{mark_texts};
 ghost use Rattle.rules.specs.Numerals.{decimal};
 ghost use Rattle.rules.specs.Arguments.{substituted, commas, quoted_each};
 ghost use Rattle.rules.specs.Words.{largest};
-ghost use Rattle.expander.specs.Arguments.{ArgumentsIn, SomeArguments, ArgumentLinks, ShortQuotes};
+ghost use Rattle.expander.specs.Arguments.{args_of, ShortQuotes};
 ghost use Rattle.expander.specs.Substitution.{parameter_text, parameter_width, OneDigit, Leads, Lays};
 ghost use Rattle.expander.specs.Limits.{most_lent};
 
-use crate::arguments::Arguments;
-use crate::{arguments, buffers, lists};
+use crate::argument_strings::Arguments;
+use crate::{buffers, lists};
 use rules::Marks;
 
 // What the bytes at a place of a defined text stand for: `$` and the byte behind it for the name, an argument by its number, how many
@@ -71,25 +71,16 @@ fn parameter_width(parameter: Parameter) -> usize
 }
 
 // How long the text of a parameter is.
-fn parameter_length(
-    name: &[u8],
-    ends: &[u32],
-    x: Arguments,
-    marks: Marks,
-    parameter: Parameter,
-) -> usize
-    requires { ArgumentLinks ends.now x × ShortQuotes marks × OneDigit parameter × (length name.now ≤ most_lent) }
-    ensures { ((bytes : Bytes) (args : List Bytes) → ArgumentsIn bytes ends.now x args → result ≡ length (parameter_text name.now args (mark_texts marks) parameter)) × (result ≤ 2 * most_lent) }
+fn parameter_length(name: &[u8], x: Arguments, marks: Marks, parameter: Parameter) -> usize
+    requires { ShortQuotes marks × OneDigit parameter × (length name.now ≤ most_lent) }
+    ensures { (result ≡ length (parameter_text name.now (args_of x.entry) (mark_texts marks) parameter)) × (result ≤ 2 * most_lent) }
 {
     match parameter {
         Parameter::Name => name.len(),
-        Parameter::Argument(n) => {
-            let at = arguments::place_of(ends, x, n);
-            at.end - at.start
-        }
-        Parameter::Count => numerals::decimal_length(arguments::count(x) as u32),
-        Parameter::All => lists::list_length(ends, x, 0, lists::bare_marks()),
-        Parameter::Quoted => lists::list_length(ends, x, 0, marks),
+        Parameter::Argument(n) => x.argument(n).len(),
+        Parameter::Count => numerals::decimal_length(x.count() as i32),
+        Parameter::All => lists::list_length(x, 0, lists::bare_marks()),
+        Parameter::Quoted => lists::list_length(x, 0, marks),
         Parameter::Literal(_) => 1,
     }
 }
@@ -99,27 +90,20 @@ fn fill_decimal(n: usize, dst: &mut [u8], at: usize) -> usize
     requires { (n ≤ largest) × (at + length (decimal (pos n)) ≤ length dst.old) }
     ensures { Lays dst.old at (decimal (pos n)) dst.new result }
 {
-    let bits = n as u32;
-    let end = at + numerals::decimal_length(bits);
-    numerals::write_decimal(&mut dst[at..end], bits);
+    let n = n as i32;
+    let end = at + numerals::decimal_length(n);
+    numerals::write_decimal(&mut dst[at..end], n);
     end
 }
 
 // All arguments with commas between them, into a buffer at a place; returns the place behind them.
-fn fill_all(
-    bytes: &[u8],
-    ends: &[u32],
-    x: Arguments,
-    marks: Marks,
-    dst: &mut [u8],
-    at: usize,
-) -> usize
-    requires some_arguments { SomeArguments bytes.now ends.now x × ShortQuotes marks }
-    requires args_in_bounds { (args : List Bytes) → ArgumentsIn bytes.now ends.now x args → at + length (commas (quoted_each (mark_texts marks) args)) ≤ length dst.old }
-    ensures { (args : List Bytes) → ArgumentsIn bytes.now ends.now x args → Lays dst.old at (commas (quoted_each (mark_texts marks) args)) dst.new result }
+fn fill_all(x: Arguments, marks: Marks, dst: &mut [u8], at: usize) -> usize
+    requires short_quotes { ShortQuotes marks }
+    requires args_in_bounds { at + length (commas (quoted_each (mark_texts marks) (args_of x))) ≤ length dst.old }
+    ensures { Lays dst.old at (commas (quoted_each (mark_texts marks) (args_of x.entry))) dst.new result }
 {
-    let end = at + lists::list_length(ends, x, 0, marks);
-    lists::fill_list(bytes, ends, x, 0, marks, b',', dst, at);
+    let end = at + lists::list_length(x, 0, marks);
+    lists::fill_list(x, 0, marks, b',', dst, at);
     end
 }
 
@@ -136,24 +120,22 @@ fn fill_text(s: &[u8], dst: &mut [u8], at: usize) -> usize
 // The text of a parameter, into a buffer at a place; returns the place behind it.
 fn fill_parameter(
     name: &[u8],
-    bytes: &[u8],
-    ends: &[u32],
     x: Arguments,
     marks: Marks,
     parameter: Parameter,
     dst: &mut [u8],
     at: usize,
 ) -> usize
-    requires some_arguments { SomeArguments bytes.now ends.now x × ShortQuotes marks × OneDigit parameter }
-    requires parameter_in_bounds { (args : List Bytes) → ArgumentsIn bytes.now ends.now x args → at + length (parameter_text name.now args (mark_texts marks) parameter) ≤ length dst.old }
-    ensures { (args : List Bytes) → ArgumentsIn bytes.now ends.now x args → Lays dst.old at (parameter_text name.now args (mark_texts marks) parameter) dst.new result }
+    requires short_quotes { ShortQuotes marks × OneDigit parameter }
+    requires parameter_in_bounds { at + length (parameter_text name.now (args_of x) (mark_texts marks) parameter) ≤ length dst.old }
+    ensures { Lays dst.old at (parameter_text name.now (args_of x.entry) (mark_texts marks) parameter) dst.new result }
 {
     match parameter {
         Parameter::Name => fill_text(name, dst, at),
-        Parameter::Argument(n) => fill_text(arguments::argument(bytes, ends, x, n), dst, at),
-        Parameter::Count => fill_decimal(arguments::count(x), dst, at),
-        Parameter::All => fill_all(bytes, ends, x, lists::bare_marks(), dst, at),
-        Parameter::Quoted => fill_all(bytes, ends, x, marks, dst, at),
+        Parameter::Argument(n) => fill_text(x.argument(n), dst, at),
+        Parameter::Count => fill_decimal(x.count(), dst, at),
+        Parameter::All => fill_all(x, lists::bare_marks(), dst, at),
+        Parameter::Quoted => fill_all(x, marks, dst, at),
         Parameter::Literal(b) => {
             dst[at] = b;
             at + 1
@@ -162,45 +144,33 @@ fn fill_parameter(
 }
 
 // How long the text is.
-pub(crate) fn substituted_length(
-    name: &[u8],
-    ends: &[u32],
-    x: Arguments,
-    marks: Marks,
-    body: &[u8],
-) -> usize
-    requires { ArgumentLinks ends.now x × ShortQuotes marks × (length name.now ≤ most_lent) × (length body.now ≤ most_lent) }
-    ensures { (bytes : Bytes) (args : List Bytes) → ArgumentsIn bytes ends.now x args → result ≡ length (substituted name.now args (mark_texts marks) body.now) }
+pub(crate) fn substituted_length(name: &[u8], x: Arguments, marks: Marks, body: &[u8]) -> usize
+    requires { ShortQuotes marks × (length name.now ≤ most_lent) × (length body.now ≤ most_lent) }
+    ensures { result ≡ length (substituted name.now (args_of x.entry) (mark_texts marks) body.now) }
 {
     let mut total = 0;
     let mut i = 0;
+    // A step is as wide as what was read there, so no `for` or iterator fits.
     while i < body.len() {
         let p = parameter_at(body, i);
-        total += parameter_length(name, ends, x, marks, p);
+        total += parameter_length(name, x, marks, p);
         i += parameter_width(p);
     }
     total
 }
 
 // The text, into a slice of its length.
-pub(crate) fn fill_substituted(
-    name: &[u8],
-    bytes: &[u8],
-    ends: &[u32],
-    x: Arguments,
-    marks: Marks,
-    body: &[u8],
-    dst: &mut [u8],
-)
-    requires some_arguments { SomeArguments bytes.now ends.now x × ShortQuotes marks × (length name.now ≤ most_lent) × (length body.now ≤ most_lent) }
-    requires dst_len { (args : List Bytes) → ArgumentsIn bytes.now ends.now x args → length dst.old ≡ length (substituted name.now args (mark_texts marks) body.now) }
-    ensures { (args : List Bytes) → ArgumentsIn bytes.now ends.now x args → dst.new ≡ substituted name.now args (mark_texts marks) body.now }
+pub(crate) fn fill_substituted(name: &[u8], x: Arguments, marks: Marks, body: &[u8], dst: &mut [u8])
+    requires short_quotes { ShortQuotes marks × (length name.now ≤ most_lent) × (length body.now ≤ most_lent) }
+    requires dst_len { length dst.old ≡ length (substituted name.now (args_of x) (mark_texts marks) body.now) }
+    ensures { dst.new ≡ substituted name.now (args_of x.entry) (mark_texts marks) body.now }
 {
     let mut at = 0;
     let mut i = 0;
+    // A step is as wide as what was read there, so no `for` or iterator fits.
     while i < body.len() {
         let p = parameter_at(body, i);
-        at = fill_parameter(name, bytes, ends, x, marks, p, dst, at);
+        at = fill_parameter(name, x, marks, p, dst, at);
         i += parameter_width(p);
     }
 }

@@ -1,41 +1,56 @@
 // The definitions in force: name and text by turns as packed strings of buffer 3, in order of arrival, with a byte for each that says whether it is a
 // text or a predefined meaning, those of each bucket in a chain, and a mask with a bit for each predefined name that keeps its own meaning.
-ghost use Rattle.std.specs.Prelude.{◌≡◌, ℕ, ◌+◌, ◌*◌, ◌^◌, ◌<◌, ◌≤◌, true, List, [], length, slice_index_or};
-ghost use Rattle.std.proofs.Math.Option.{none};
+ghost use Rattle.std.specs.Prelude.{◌≡◌, ℕ, ◌+◌, ◌*◌, ◌^◌, ◌<◌, ◌≤◌, true, List, [], length, slice_index_or, None};
 ghost use Rattle.rules.specs.Bytes.{Bytes};
-ghost use Rattle.rules.specs.Table.{Meaning as Defined, Definition, Table, keeps_own, own_meaning, own_lost, newest_place, meaning_of, text, pushed, defined, popped, without, undefined, table_cost};
+ghost use Rattle.rules.specs.Table.{Definition, Table, keeps_own, own_meaning, own_lost, newest_place, meaning_of, text, pushed, defined, popped, without, undefined, table_cost};
 ghost use Rattle.hashing.specs.Hashing.{bucket_of};
 ghost use Rattle.builtins.specs.Numbers.{candidate_in};
 ghost use Rattle.expander.specs.Buckets.{InBucket};
-ghost use Rattle.expander.specs.Table.{rows, Means, DefinitionsIn, ValidDefinitions, SomeDefinitions, TableIn, place_of, visited_at, Finds, Sifted};
+ghost use Rattle.expander.specs.Table.{rows, meaning_text, meaning_number, Numbered, new_meaning, DefinitionsIn, ValidDefinitions, SomeDefinitions, TableIn, visited_at, Finds, Sifted};
 ghost use Rattle.expander.specs.Limits.{bucket_count, table_ends_length};
 ghost use Rattle.expander.specs.declared.packed.Packed.{Packed as Strings};
 
 use crate::limits::HEADS;
 use crate::packed::Packed;
 use crate::{buckets, meanings, packed};
-
-// The place of a definition, in order of arrival.
-#[derive(Clone, Copy)]
-pub(crate) enum Found {
-    At(usize),
-    Nowhere,
-}
-
-// What a step of a search through a bucket comes to: the definition is of the name, or the next older one of the bucket is next, told as its place and one;
-// 0 where there is none.
-#[derive(Clone, Copy)]
-pub(crate) enum Visited {
-    Named,
-    Older(usize),
-}
+use std::ops::ControlFlow;
 
 // What a name means: the predefined macro of a number, nothing, or the text of the definition at a place. (In this order the run's loop came out cheapest.)
+// No Option of the first and the last, since each of the three is met by an arm of its own.
 #[derive(Clone, Copy)]
 pub(crate) enum Meaning {
     Predefined(u8),
     Undefined,
     Text(usize),
+}
+
+// The meaning that a name gets: a text, or that of the predefined macro of a number.
+#[derive(Clone, Copy)]
+pub(crate) enum NewMeaning<'a> {
+    Text(&'a [u8]),
+    Predefined(u8),
+}
+
+impl<'a> NewMeaning<'a> {
+    // Its text; a predefined meaning has none.
+    pub(crate) fn text(self) -> &'a [u8]
+        ensures { result.now ≡ meaning_text (new_meaning self.entry) }
+    {
+        match self {
+            NewMeaning::Text(s) => s,
+            NewMeaning::Predefined(_) => &[],
+        }
+    }
+
+    // Its byte beside the definition.
+    fn number(self) -> u8
+        ensures { result ≡ meaning_number (new_meaning self.entry) }
+    {
+        match self {
+            NewMeaning::Text(_) => 0,
+            NewMeaning::Predefined(k) => k,
+        }
+    }
 }
 
 // A table: its packed strings and its mask.
@@ -45,7 +60,7 @@ pub(crate) struct Definitions {
     pub(crate) own: u32,
 }
 
-// The k-th predefined name keeps its own meaning.
+// The k-th predefined name keeps its own meaning: its bit, by a shift and a remainder, as the book has it.
 fn keeps_own(own: u32, number: u8) -> bool
     requires { (0 < number) × (number ≤ 32) }
     ensures { result ≡ keeps_own number own }
@@ -58,89 +73,77 @@ fn keeps_own(own: u32, number: u8) -> bool
 fn own_lost(own: u32, name: &[u8]) -> u32
     ensures { result ≡ own_lost name.now own }
 {
-    let k = builtins::number_of(name);
-    if k == 0 {
-        return own;
+    match builtins::number_of(name) {
+        Some(k) if keeps_own(own, k) => own - (1 << (k - 1)),
+        _ => own,
     }
-    if keeps_own(own, k) {
-        let bit = k - 1;
-        return own - (1 << bit);
-    }
-    own
 }
 
 // The name's own meaning; the predefined name that has its bucket has the number `candidate`.
-fn own_meaning(own: u32, name: &[u8], candidate: u8) -> Meaning
+fn own_meaning(own: u32, name: &[u8], candidate: Option<u8>) -> Meaning
     requires { candidate ≡ candidate_in (bucket_of name.now) }
     ensures { (ds : List Definition) → Finds ds (own_meaning name.now own) result }
 {
-    let k = builtins::confirmed(name, candidate);
-    if k == 0 {
-        return Meaning::Undefined;
-    }
-    if keeps_own(own, k) {
-        Meaning::Predefined(k)
-    } else {
-        Meaning::Undefined
+    match builtins::confirmed(name, candidate) {
+        Some(k) if keeps_own(own, k) => Meaning::Predefined(k),
+        _ => Meaning::Undefined,
     }
 }
 
 // The place of the newest definition of a name, by the plain search through all definitions.
-pub(crate) fn newest_plain(bytes: &[u8], ends: &[u32], packed: Packed, name: &[u8]) -> Found
+pub(crate) fn newest_plain(bytes: &[u8], ends: &[u32], packed: Packed, name: &[u8]) -> Option<usize>
     requires { ValidDefinitions bytes.now ends.now packed }
-    ensures { (ds : List Definition) → DefinitionsIn bytes.now ends.now packed ds → newest_place name.now ds ≡ place_of result }
+    ensures { (ds : List Definition) → DefinitionsIn bytes.now ends.now packed ds → result ≡ newest_place name.now ds }
 {
     let n = packed.count / 2;
-    let mut left = n;
-    while 0 < left {
-        let at = left - 1;
+    for at in (0..n).rev() {
         let k = 2 * at;
         if packed::is_string(bytes, ends, k, name) {
-            return Found::At(at);
+            return Some(at);
         }
-        left -= 1;
     }
-    Found::Nowhere
+    None
 }
 
-// One step of a search through the bucket of a name, which has come to a definition of this bucket, at the place below `left`: it is of the name, or
-// else the next older one of the bucket is next.
-fn visit(bytes: &[u8], ends: &[u32], name: &[u8], left: usize) -> Visited
+// One step of a search through the bucket of a name, which has come to a definition of this bucket, at the place below `left`: it is of the name, and its
+// place ends the search, or else this goes on at the next older one of the bucket, told as its place and one; 0 where there is none.
+fn visit(bytes: &[u8], ends: &[u32], name: &[u8], left: usize) -> ControlFlow<usize, usize>
     requires some_definitions { SomeDefinitions bytes.now ends.now }
     requires in_bucket { (p : Strings) (ds : List Definition) → DefinitionsIn bytes.now ends.now p ds → InBucket (bucket_of name.now) ds left }
     ensures { (p : Strings) (ds : List Definition) → DefinitionsIn bytes.now ends.now p ds → result ≡ visited_at name.now ds left }
 {
     let at = left - 1;
     if packed::is_string(bytes, ends, 2 * at, name) {
-        return Visited::Named;
+        return ControlFlow::Break(at);
     }
-    Visited::Older(buckets::link_at(ends, at))
+    ControlFlow::Continue(buckets::link_at(ends, at))
 }
 
 // The place of the newest definition of a name of a bucket: of all definitions only those of the bucket are looked at, the newest first.
-fn newest_in(bytes: &[u8], ends: &[u32], name: &[u8], bucket: usize) -> Found
+fn newest_in(bytes: &[u8], ends: &[u32], name: &[u8], bucket: usize) -> Option<usize>
     requires some_definitions { SomeDefinitions bytes.now ends.now }
     requires bucket_value { bucket ≡ bucket_of name.now }
-    ensures { (p : Strings) (ds : List Definition) → DefinitionsIn bytes.now ends.now p ds → newest_place name.now ds ≡ place_of result }
+    ensures { (p : Strings) (ds : List Definition) → DefinitionsIn bytes.now ends.now p ds → result ≡ newest_place name.now ds }
 {
     let mut left = buckets::head_at(ends, bucket);
+    // The links tell the places one by one, so no iterator goes over them.
     while 0 < left {
         match visit(bytes, ends, name, left) {
-            Visited::Named => {
-                return Found::At(left - 1);
+            ControlFlow::Break(at) => {
+                return Some(at);
             }
-            Visited::Older(next) => {
+            ControlFlow::Continue(next) => {
                 left = next;
             }
         }
     }
-    Found::Nowhere
+    None
 }
 
 // The place of the newest definition of a name.
-pub(crate) fn newest(bytes: &[u8], ends: &[u32], packed: Packed, name: &[u8]) -> Found
+pub(crate) fn newest(bytes: &[u8], ends: &[u32], packed: Packed, name: &[u8]) -> Option<usize>
     requires { ValidDefinitions bytes.now ends.now packed }
-    ensures { (ds : List Definition) → DefinitionsIn bytes.now ends.now packed ds → newest_place name.now ds ≡ place_of result }
+    ensures { (ds : List Definition) → DefinitionsIn bytes.now ends.now packed ds → result ≡ newest_place name.now ds }
 {
     newest_in(bytes, ends, name, hashing::bucket_of(name))
 }
@@ -153,14 +156,14 @@ fn look_up_in(bytes: &[u8], ends: &[u32], own: u32, name: &[u8], bucket: usize) 
 {
     let place = newest_in(bytes, ends, name, bucket);
     match place {
-        Found::At(i) => {
+        Some(i) => {
             let number = meanings::number_at(ends, i);
             if number == 0 {
                 return Meaning::Text(i);
             }
             Meaning::Predefined(number)
         }
-        Found::Nowhere => own_meaning(own, name, buckets::candidate_at(ends, bucket)),
+        None => own_meaning(own, name, buckets::candidate_at(ends, bucket)),
     }
 }
 
@@ -175,7 +178,7 @@ pub(crate) fn look_up(bytes: &[u8], ends: &[u32], packed: Packed, own: u32, name
 // No definition is in a bucket. (That there is none at all is asked first, or the compiler would keep the count in memory for the whole run.)
 fn none_in(ends: &[u32], packed: Packed, bucket: usize) -> bool
     requires { (length ends.now ≡ table_ends_length) × (bucket < bucket_count) }
-    ensures { result ≡ true → (bytes : Bytes) (ds : List Definition) (w : Bytes) → DefinitionsIn bytes ends.now packed ds → bucket_of w ≡ bucket → newest_place w ds ≡ none }
+    ensures { result ≡ true → (bytes : Bytes) (ds : List Definition) (w : Bytes) → DefinitionsIn bytes ends.now packed ds → bucket_of w ≡ bucket → newest_place w ds ≡ None }
 {
     if packed.count == 0 {
         return true;
@@ -186,7 +189,7 @@ fn none_in(ends: &[u32], packed: Packed, bucket: usize) -> bool
 // No name of a bucket means anything.
 pub(crate) fn nothing_in(ends: &[u32], bucket: usize) -> bool
     requires { (length ends.now ≡ table_ends_length) × (bucket < bucket_count) }
-    ensures { result ≡ true → (bytes : Bytes) (p : Strings) (own : ℕ) (t : Table) (w : Bytes) → TableIn bytes ends.now p own t → bucket_of w ≡ bucket → meaning_of w t ≡ none }
+    ensures { result ≡ true → (bytes : Bytes) (p : Strings) (own : ℕ) (t : Table) (w : Bytes) → TableIn bytes ends.now p own t → bucket_of w ≡ bucket → meaning_of w t ≡ None }
 {
     ends[HEADS + bucket] == 0
 }
@@ -215,23 +218,23 @@ pub(crate) fn size_defined(
     bytes: &[u8],
     ends: &[u32],
     packed: Packed,
-    place: Found,
+    place: Option<usize>,
     name: &[u8],
     n: usize,
 ) -> usize
     requires valid_definitions { ValidDefinitions bytes.now ends.now packed }
-    requires ds_value { (ds : List Definition) → DefinitionsIn bytes.now ends.now packed ds → newest_place name.now ds ≡ place_of place }
+    requires ds_value { (ds : List Definition) → DefinitionsIn bytes.now ends.now packed ds → place ≡ newest_place name.now ds }
     requires n_len_bound { length name.now + n < 2 ^ 32 }
     ensures { (t : Table) (x : Bytes) → DefinitionsIn bytes.now ends.now packed t.definitions → length x ≡ n → result ≡ table_cost (defined name.now (text x) t).definitions }
 {
     let used = packed.used;
     match place {
-        Found::At(i) => {
+        Some(i) => {
             let k = 2 * i + 1;
             let old = packed::string(bytes, ends, packed, k);
             used - old.len() + n
         }
-        Found::Nowhere => used + (name.len() + n),
+        None => used + (name.len() + n),
     }
 }
 
@@ -276,16 +279,14 @@ impl Packed {
     {
         let count = self.count;
         let mut kept = Packed { count: 0, used: 0 };
-        let mut k = 0;
         let mut from = 0;
-        while k < count {
-            let number = meanings::number_at(ends, k / 2);
+        for i in 0..count / 2 {
+            let number = meanings::number_at(ends, i);
             meanings::put(ends, kept.count / 2, number);
-            let next = k + 1;
+            let k = 2 * i;
             let middle = ends[k] as usize;
-            let end = ends[next] as usize;
+            let end = ends[k + 1] as usize;
             kept = kept.sift(bytes, ends, from, middle, end, name);
-            k += 2;
             from = end;
         }
         buckets::rebuild(bytes, ends, kept);
@@ -294,74 +295,73 @@ impl Packed {
 }
 
 impl Definitions {
-    // A new definition, which arrives last: a text, with the number 0, or a predefined meaning, without a text.
+    // A new definition, which arrives last.
     pub(crate) fn push(
         self,
         bytes: &mut [u8],
         ends: &mut [u32],
         name: &[u8],
-        body: &[u8],
-        number: u8,
+        new: NewMeaning,
     ) -> Definitions
         requires valid_definitions { ValidDefinitions bytes.old ends.old self.packed }
         requires name_nonzero { 0 < length name.now }
-        requires body_in_bounds { self.packed.used + (length name.now + length body.now) ≤ length bytes.old }
-        ensures { (t : Table) (m : Defined) → Means m body.now number → TableIn bytes.old ends.old self.packed self.own t → TableIn bytes.new ends.new result.packed result.own (pushed name.now m t) }
+        requires new_in_bounds { self.packed.used + (length name.now + length (meaning_text (new_meaning new))) ≤ length bytes.old }
+        ensures { (t : Table) → Numbered (new_meaning new.entry) → TableIn bytes.old ends.old self.packed self.own t → TableIn bytes.new ends.new result.packed result.own (pushed name.now (new_meaning new.entry) t) }
     {
         let own = self.own;
         let place = self.packed.count / 2;
+        let number = new.number();
         let named = self.packed.push_string(bytes, ends, name);
-        let packed = named.push_string(bytes, ends, body);
+        let packed = named.push_string(bytes, ends, new.text());
         meanings::put(ends, place, number);
         buckets::join(ends, hashing::bucket_of(name), place);
         Definitions { packed, own }
     }
 
-    // A name gets a text, with the number 0, or a predefined meaning, without a text: its newest definition, at `place`, is replaced in its place, else a
-    // new one arrives last.
+    // A name gets a meaning: its newest definition, at `place`, is replaced in its place, else a new one arrives last.
     pub(crate) fn define_at(
         self,
         bytes: &mut [u8],
         ends: &mut [u32],
-        place: Found,
+        place: Option<usize>,
         name: &[u8],
-        body: &[u8],
-        number: u8,
+        new: NewMeaning,
     ) -> Definitions
         requires valid_definitions { ValidDefinitions bytes.old ends.old self.packed }
-        requires ds_value { (ds : List Definition) → DefinitionsIn bytes.old ends.old self.packed ds → newest_place name.now ds ≡ place_of place }
+        requires ds_value { (ds : List Definition) → DefinitionsIn bytes.old ends.old self.packed ds → place ≡ newest_place name.now ds }
         requires name_nonzero { 0 < length name.now }
-        requires t_in_bounds { (t : Table) → DefinitionsIn bytes.old ends.old self.packed t.definitions → table_cost (defined name.now (text body.now) t).definitions ≤ length bytes.old }
-        ensures { (t : Table) (m : Defined) → Means m body.now number → TableIn bytes.old ends.old self.packed self.own t → TableIn bytes.new ends.new result.packed result.own (defined name.now m t) }
+        requires t_in_bounds { (t : Table) → DefinitionsIn bytes.old ends.old self.packed t.definitions → table_cost (defined name.now (text (meaning_text (new_meaning new))) t).definitions ≤ length bytes.old }
+        ensures { (t : Table) → Numbered (new_meaning new.entry) → TableIn bytes.old ends.old self.packed self.own t → TableIn bytes.new ends.new result.packed result.own (defined name.now (new_meaning new.entry) t) }
     {
         let own = self.own;
         match place {
-            Found::At(i) => {
+            Some(i) => {
                 let k = 2 * i + 1;
-                let packed = self.packed.replace(bytes, ends, k, body);
+                let number = new.number();
+                let packed = self.packed.replace(bytes, ends, k, new.text());
                 meanings::put(ends, i, number);
                 Definitions { packed, own }
             }
-            Found::Nowhere => {
+            None => {
                 let packed = self.packed;
                 let lost = own_lost(own, name);
                 let less = Definitions { packed, own: lost };
-                less.push(bytes, ends, name, body, number)
+                less.push(bytes, ends, name, new)
             }
         }
     }
 
-    // A name gets the text of definition `from`, in the same way.
+    // A name gets the text of definition `from`, in the same way. (The text stands in the buffer that is written, so it is told by its place and not lent.)
     pub(crate) fn copy_at(
         self,
         bytes: &mut [u8],
         ends: &mut [u32],
-        place: Found,
+        place: Option<usize>,
         name: &[u8],
         from: usize,
     ) -> Definitions
         requires valid_definitions { ValidDefinitions bytes.old ends.old self.packed }
-        requires ds_value { (ds : List Definition) → DefinitionsIn bytes.old ends.old self.packed ds → newest_place name.now ds ≡ place_of place }
+        requires ds_value { (ds : List Definition) → DefinitionsIn bytes.old ends.old self.packed ds → place ≡ newest_place name.now ds }
         requires name_nonzero { (0 < length name.now) × (2 * from + 1 < self.packed.count) }
         requires t_in_bounds { (t : Table) → DefinitionsIn bytes.old ends.old self.packed t.definitions → table_cost (defined name.now (text (slice_index_or (rows t.definitions) (2 * from + 1) [])) t).definitions ≤ length bytes.old }
         ensures { (t : Table) → TableIn bytes.old ends.old self.packed self.own t → TableIn bytes.new ends.new result.packed result.own (defined name.now (text (slice_index_or (rows t.definitions) (2 * from + 1) [])) t) }
@@ -369,13 +369,13 @@ impl Definitions {
         let own = self.own;
         let source = 2 * from + 1;
         match place {
-            Found::At(i) => {
+            Some(i) => {
                 let k = 2 * i + 1;
                 let packed = self.packed.copy_over(bytes, ends, k, source);
                 meanings::put(ends, i, 0);
                 Definitions { packed, own }
             }
-            Found::Nowhere => {
+            None => {
                 let lost = own_lost(own, name);
                 let last = self.packed.count / 2;
                 let named = self.packed.push_string(bytes, ends, name);
@@ -396,7 +396,7 @@ impl Definitions {
         let bucket = hashing::bucket_of(name);
         let place = newest_in(bytes, ends, name, bucket);
         match place {
-            Found::At(i) => {
+            Some(i) => {
                 let k = 2 * i;
                 let n = self.packed.count / 2;
                 let packed = self.packed.remove_two(bytes, ends, k);
@@ -404,7 +404,7 @@ impl Definitions {
                 buckets::leave(bytes, ends, packed, bucket, i);
                 Definitions { packed, own }
             }
-            Found::Nowhere => {
+            None => {
                 let packed = self.packed;
                 let lost = own_lost(own, name);
                 Definitions { packed, own: lost }

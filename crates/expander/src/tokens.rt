@@ -1,22 +1,15 @@
-// Reading a token off the text ahead, which is two slices (module `source`).
+// Reading a token off the text ahead.
 ghost use Rattle.std.specs.Prelude.{◌≡◌, ◌+◌, ◌^◌, ◌<◌, ◌≤◌, true, ◌++◌, length, drop, slice_index};
 ghost use Rattle.rules.specs.Bytes.{same_bytes, begins_name};
 ghost use Rattle.rules.specs.Marks.{mark_text, mark_texts, newline_mark};
 ghost use Rattle.rules.specs.Tokens.{begins_with, at_mark, comment_to_end, read_token};
 ghost use Rattle.hashing.specs.Hashing.{ScannedFrom};
-ghost use Rattle.expander.specs.Tokens.{FullMark, GoodMarks, MarkLength, FirstByte, met_at, comment_ending_at, comment_from, quoted_from, Inside, Passed, plain_read, Within, NameHashed};
+ghost use Rattle.expander.specs.Source.{bytes_of};
+ghost use Rattle.expander.specs.Tokens.{FullMark, GoodMarks, MarkLength, FirstByte, comment_ending_at, comment_from, quoted_from, Inside, Passed, plain_read, Within, NameHashed};
 
-use crate::source::{ahead_length, byte_ahead, next_either};
+use crate::source::Ahead;
 use hashing::Scanned;
 use rules::{Mark, Marks, Reading, Token};
-
-// The first of two marks stands at a place, or else the second, or neither.
-#[derive(Clone, Copy)]
-enum Met {
-    First,
-    Second,
-    Neither,
-}
 
 // So many quotes are open at a place.
 #[derive(Clone, Copy)]
@@ -58,30 +51,27 @@ fn is_newline(m: Mark) -> bool
 }
 
 // The mark stands at the place i.
-fn mark_at(m: Mark, front: &[u8], rest: &[u8], i: usize) -> bool
-    requires { (m.len ≤ 5) × (i ≤ length (front.now ++ rest.now)) }
-    ensures { result ≡ begins_with (mark_text m) (drop i (front.now ++ rest.now)) }
+fn mark_at(m: Mark, ahead: Ahead<'_>, i: usize) -> bool
+    requires { (m.len ≤ 5) × (i ≤ length (bytes_of ahead)) }
+    ensures { result ≡ begins_with (mark_text m) (drop i (bytes_of ahead.entry)) }
 {
     let len = mark_length(m);
-    if ahead_length(front, rest) - i < len {
+    if ahead.len() - i < len {
         return false;
     }
-    let mut k = 0;
-    while k < len {
-        let at = i + k;
-        let x = byte_ahead(front, rest, at);
+    for k in 0..len {
+        let x = ahead.byte(i + k);
         if m.bytes[k] != x {
             return false;
         }
-        k += 1;
     }
     true
 }
 
 // The mark is not empty and stands at the place i. The byte there is x, which settles most cases.
-fn stands(m: Mark, x: u8, front: &[u8], rest: &[u8], i: usize) -> bool
-    requires { (m.len ≤ 5) × (i ≤ length (front.now ++ rest.now)) × (x ≡ slice_index (front.now ++ rest.now) i) }
-    ensures { result ≡ at_mark (mark_text m) (drop i (front.now ++ rest.now)) }
+fn stands(m: Mark, x: u8, ahead: Ahead<'_>, i: usize) -> bool
+    requires { (m.len ≤ 5) × (i ≤ length (bytes_of ahead)) × (x ≡ slice_index (bytes_of ahead) i) }
+    ensures { result ≡ at_mark (mark_text m) (drop i (bytes_of ahead.entry)) }
 {
     if m.len == 0 {
         return false;
@@ -90,64 +80,52 @@ fn stands(m: Mark, x: u8, front: &[u8], rest: &[u8], i: usize) -> bool
         return false;
     }
     if m.len == 1 {
-        return i < ahead_length(front, rest);
+        return i < ahead.len();
     }
-    mark_at(m, front, rest, i)
-}
-
-// Which of two marks stands at the place i, where the byte is x.
-fn which(first: Mark, second: Mark, x: u8, front: &[u8], rest: &[u8], i: usize) -> Met
-    requires { (first.len ≤ 5) × (second.len ≤ 5) × (i ≤ length (front.now ++ rest.now)) × (x ≡ slice_index (front.now ++ rest.now) i) }
-    ensures { result ≡ met_at (mark_text first) (mark_text second) (drop i (front.now ++ rest.now)) }
-{
-    if stands(first, x, front, rest, i) {
-        return Met::First;
-    }
-    if stands(second, x, front, rest, i) {
-        return Met::Second;
-    }
-    Met::Neither
+    mark_at(m, ahead, i)
 }
 
 // What is open behind the mark or the byte at i. The end mark is tried first, then the begin mark, which nests.
-fn passed(begin: Mark, end: Mark, front: &[u8], rest: &[u8], i: usize, depth: usize) -> Open
-    requires { Inside begin end (front.now ++ rest.now) i depth }
-    ensures { Passed (mark_text begin) (mark_text end) (front.now ++ rest.now) i depth result }
+fn passed(begin: Mark, end: Mark, ahead: Ahead<'_>, i: usize, depth: usize) -> Open
+    requires { Inside begin end (bytes_of ahead) i depth }
+    ensures { Passed (mark_text begin) (mark_text end) (bytes_of ahead.entry) i depth result }
 {
-    let x = byte_ahead(front, rest, i);
-    let met = which(end, begin, x, front, rest, i);
-    match met {
-        Met::First => {
-            let less = depth - 1;
-            let place = i + mark_length(end);
-            Open { depth: less, place }
-        }
-        Met::Second => {
-            let more = depth + 1;
-            let place = i + mark_length(begin);
-            Open { depth: more, place }
-        }
-        Met::Neither => {
-            let place = i + 1;
-            Open { depth, place }
-        }
+    let x = ahead.byte(i);
+    if stands(end, x, ahead, i) {
+        let place = i + mark_length(end);
+        return Open {
+            depth: depth - 1,
+            place,
+        };
+    }
+    if stands(begin, x, ahead, i) {
+        let place = i + mark_length(begin);
+        return Open {
+            depth: depth + 1,
+            place,
+        };
+    }
+    Open {
+        depth,
+        place: i + 1,
     }
 }
 
 // A quoted text, whose begin mark stands ahead.
-fn read_quoted(begin: Mark, end: Mark, front: &[u8], rest: &[u8]) -> Reading
+fn read_quoted(begin: Mark, end: Mark, ahead: Ahead<'_>) -> Reading
     requires { FullMark begin × FullMark end }
-    ensures { result ≡ quoted_from (mark_text begin) (mark_text end) (front.now ++ rest.now) 1 (length (mark_text begin)) }
+    ensures { result ≡ quoted_from (mark_text begin) (mark_text end) (bytes_of ahead.entry) 1 (length (mark_text begin)) }
 {
-    let n = ahead_length(front, rest);
+    let n = ahead.len();
     let a = first_byte(begin);
     let b = first_byte(end);
     let text = mark_length(begin);
     let mut depth: usize = 1;
     let mut i = text;
+    // The place moves on by whole marks, so no range fits.
     while i < n {
-        let at = next_either(front, rest, i, a, b);
-        let open = passed(begin, end, front, rest, at, depth);
+        let at = ahead.next_either(i, a, b);
+        let open = passed(begin, end, ahead, at, depth);
         depth = open.depth;
         i = open.place;
         if depth == 0 {
@@ -175,16 +153,18 @@ fn end_without_mark(end: Mark, ahead: usize) -> usize
 }
 
 // Where a comment ends, whose end mark is sought from a place inside it on; beyond the text ahead if it does not end there.
-fn comment_end(end: Mark, front: &[u8], rest: &[u8], from: usize) -> usize
+// An Option takes one to two of a hundred instructions more where calls are read.
+fn comment_end(end: Mark, ahead: Ahead<'_>, from: usize) -> usize
     requires { FullMark end }
-    ensures { comment_ending_at (length (front.now ++ rest.now)) result ≡ comment_from (mark_text end) (front.now ++ rest.now) from }
+    ensures { comment_ending_at (length (bytes_of ahead.entry)) result ≡ comment_from (mark_text end) (bytes_of ahead.entry) from }
 {
-    let n = ahead_length(front, rest);
+    let n = ahead.len();
     let a = first_byte(end);
     let mut i = from;
+    // The place moves on to where the end mark may stand, so no range fits.
     while i < n {
-        let at = next_either(front, rest, i, a, a);
-        if mark_at(end, front, rest, at) {
+        let at = ahead.next_either(i, a, a);
+        if mark_at(end, ahead, at) {
             return at + mark_length(end);
         }
         i = at + 1;
@@ -193,23 +173,25 @@ fn comment_end(end: Mark, front: &[u8], rest: &[u8], from: usize) -> usize
 }
 
 // A comment, whose begin mark stands ahead.
-fn read_comment(begin: Mark, end: Mark, front: &[u8], rest: &[u8]) -> Reading
+fn read_comment(begin: Mark, end: Mark, ahead: Ahead<'_>) -> Reading
     requires { (begin.len ≤ 5) × FullMark end }
-    ensures { result ≡ comment_from (mark_text end) (front.now ++ rest.now) (length (mark_text begin)) }
+    ensures { result ≡ comment_from (mark_text end) (bytes_of ahead.entry) (length (mark_text begin)) }
 {
-    let behind = comment_end(end, front, rest, mark_length(begin));
-    if ahead_length(front, rest) < behind {
+    let behind = comment_end(end, ahead, mark_length(begin));
+    if ahead.len() < behind {
         return Reading::OpenComment;
     }
     Reading::Is(Token::Comment { end: behind })
 }
 
 // The name ahead, which its first byte x begins: where it ends, and its hash. The slice in which it begins is scanned from its second byte on, and only a name that
-// reaches the end of `front` goes on in `rest`. (The two have one lifetime, so that either can be chosen.)
-fn scan_name<'a>(x: u8, front: &'a [u8], rest: &'a [u8]) -> Scanned
-    requires { (x ≡ slice_index (front.now ++ rest.now) 0) × (begins_name x ≡ true) }
-    ensures { ScannedFrom (front.now ++ rest.now) 0 0 result }
+// reaches the end of `front` goes on in `rest`.
+fn scan_name(x: u8, ahead: Ahead<'_>) -> Scanned
+    requires { (x ≡ slice_index (bytes_of ahead) 0) × (begins_name x ≡ true) }
+    ensures { ScannedFrom (bytes_of ahead.entry) 0 0 result }
 {
+    let front = ahead.front;
+    let rest = ahead.rest;
     let s = if front.len() == 0 { rest } else { front };
     let n = hashing::scan_name(s, 1, hashing::hash_on(0, x));
     if n.end < s.len() {
@@ -226,13 +208,13 @@ fn scan_name<'a>(x: u8, front: &'a [u8], rest: &'a [u8]) -> Scanned
 }
 
 // A name or a single byte; the first byte ahead is x.
-fn read_plain<'a>(x: u8, front: &'a [u8], rest: &'a [u8]) -> Read
-    requires { x ≡ slice_index (front.now ++ rest.now) 0 }
-    ensures read { result.reading ≡ plain_read (front.now ++ rest.now) }
-    ensures hashed { NameHashed (front.now ++ rest.now) result.reading result.hash }
+fn read_plain(x: u8, ahead: Ahead<'_>) -> Read
+    requires { x ≡ slice_index (bytes_of ahead) 0 }
+    ensures read { result.reading ≡ plain_read (bytes_of ahead.entry) }
+    ensures hashed { NameHashed (bytes_of ahead.entry) result.reading result.hash }
 {
     if ascii::begins_name(x) {
-        let n = scan_name(x, front, rest);
+        let n = scan_name(x, ahead);
         return Read {
             reading: Reading::Is(Token::Name { end: n.end }),
             hash: n.hash,
@@ -245,33 +227,32 @@ fn read_plain<'a>(x: u8, front: &'a [u8], rest: &'a [u8]) -> Read
 }
 
 // The token ahead: the end, a comment, a quoted text, a name or a single byte, tried in this order.
-pub(crate) fn read_token<'a>(marks: Marks, front: &'a [u8], rest: &'a [u8]) -> Read
+pub(crate) fn read_token(marks: Marks, ahead: Ahead<'_>) -> Read
     requires { GoodMarks marks }
-    ensures read { result.reading ≡ read_token (mark_texts marks) (front.now ++ rest.now) }
-    ensures within { Within (front.now ++ rest.now) result.reading }
-    ensures hashed { NameHashed (front.now ++ rest.now) result.reading result.hash }
+    ensures read { result.reading ≡ read_token (mark_texts marks) (bytes_of ahead.entry) }
+    ensures within { Within (bytes_of ahead.entry) result.reading }
+    ensures hashed { NameHashed (bytes_of ahead.entry) result.reading result.hash }
 {
-    if ahead_length(front, rest) == 0 {
+    if ahead.len() == 0 {
         return Read {
             reading: Reading::Is(Token::End),
             hash: 0,
         };
     }
     let begin_comment = marks.begin_comment;
-    let end_comment = marks.end_comment;
     let begin_quote = marks.begin_quote;
-    let end_quote = marks.end_quote;
-    let x = byte_ahead(front, rest, 0);
-    let met = which(begin_comment, begin_quote, x, front, rest, 0);
-    match met {
-        Met::First => Read {
-            reading: read_comment(begin_comment, end_comment, front, rest),
+    let x = ahead.byte(0);
+    if stands(begin_comment, x, ahead, 0) {
+        return Read {
+            reading: read_comment(begin_comment, marks.end_comment, ahead),
             hash: 0,
-        },
-        Met::Second => Read {
-            reading: read_quoted(begin_quote, end_quote, front, rest),
-            hash: 0,
-        },
-        Met::Neither => read_plain(x, front, rest),
+        };
     }
+    if stands(begin_quote, x, ahead, 0) {
+        return Read {
+            reading: read_quoted(begin_quote, marks.end_quote, ahead),
+            hash: 0,
+        };
+    }
+    read_plain(x, ahead)
 }

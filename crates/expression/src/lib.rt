@@ -8,24 +8,18 @@ mod apply;
 mod literals;
 mod reader;
 mod tokens;
-mod words;
 
-use rules::{Evaluated, Parsed, Worked};
+use rules::EvalError;
 
-// The whole text: the bits of a number, a zero divisor or bad shift count that is worked out, or nothing that can be read. At most
-// 33 * 11 calls of `expression` and 33 of `operand` are open at once: 32 enclosings, and the levels 1 to 11 in each.
-pub fn evaluate(s: &[u8]) -> Evaluated
+// The whole text: its number, or why it has none. At most 33 * 11 calls of `expression` and 33 of `operand` are open at
+// once: 32 enclosings, and the levels 1 to 11 in each.
+#[tactic(auto, unfolding(rules::specs::Expression::evaluation, rules::specs::Expression::wholly))]
+pub fn evaluate(s: &[u8]) -> Result<i32, EvalError>
     ensures { result ≡ evaluation s.now }
 {
-    let Parsed::Value(w, n) = reader::expression(s, 1, 32) else {
-        return Evaluated::Unreadable;
-    };
-    let end = tokens::past_blanks(s, n);
-    if end < s.len() {
-        return Evaluated::Unreadable;
+    let whole = reader::expression(s, 1, 32).ok_or(EvalError::Unreadable)?;
+    if tokens::past_blanks(s, whole.end) < s.len() {
+        return Err(EvalError::Unreadable);
     }
-    match w {
-        Worked::Number(x) => Evaluated::Number(x),
-        Worked::Divisor => Evaluated::Divisor,
-    }
+    whole.value.ok_or(EvalError::Divisor)
 }

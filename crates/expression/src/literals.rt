@@ -1,54 +1,44 @@
 // Literals: decimal, octal or hexadecimal.
-ghost use Rattle.std.specs.Prelude.{◌≡◌, ◌≤◌, length};
-ghost use Rattle.rules.specs.Numerals.{natural, up_to};
-ghost use Rattle.rules.specs.Expression.{is_x, literal, literal_read, literal_at};
+ghost use Rattle.std.specs.Prelude.{◌≡◌, ◌≤◌, length, IfSome};
+ghost use Rattle.rules.specs.Numerals.{up_to};
+ghost use Rattle.rules.specs.Expression.{behind_zero, literal, literal_at};
 ghost use Rattle.rules.specs.Words.{largest_bits};
-ghost use Rattle.expression.specs.Places.{ParsedWithin};
 
-use numerals::Natural;
-use rules::{Parsed, Worked};
+use numerals::read_natural;
+use rules::Part;
 
-fn is_x(b: u8) -> bool
-    ensures { result ≡ is_x b }
+// What stands behind a literal's first digit, 0.
+fn behind_zero(rest: &[u8]) -> Option<u32>
+    ensures { result ≡ up_to largest_bits (behind_zero rest.now) }
 {
-    if b == 120 { true } else { b == 88 }
-}
-
-// One or more digits of a radix, of a literal that ends at `end`.
-fn number_in(radix: u32, digits: &[u8], end: usize) -> Parsed
-    ensures { result ≡ literal_read (up_to largest_bits (natural radix digits.now)) end }
-{
-    let number = numerals::read_natural(digits, radix);
-    match number {
-        Natural::Number(n) => Parsed::Value(Worked::Number(n), end),
-        Natural::NoNumber => Parsed::Unreadable,
+    match rest {
+        [] => Some(0),
+        [b'x' | b'X', digits @ ..] => read_natural(digits, 16),
+        _ => read_natural(rest, 8),
     }
 }
 
-fn literal_of(token: &[u8], end: usize) -> Parsed
-    ensures { result ≡ literal_read (literal token.now) end }
+fn literal(token: &[u8]) -> Option<u32>
+    ensures { result ≡ literal token.now }
 {
-    if token.len() == 0 {
-        return Parsed::Unreadable;
+    match token {
+        [] => None,
+        [b'0', rest @ ..] => behind_zero(rest),
+        _ => read_natural(token, 10),
     }
-    if token[0] != 48 {
-        return number_in(10, token, end);
-    }
-    if token.len() == 1 {
-        return Parsed::Value(Worked::Number(0), end);
-    }
-    if is_x(token[1]) {
-        return number_in(16, &token[2..], end);
-    }
-    number_in(8, &token[1..], end)
 }
 
 // The literal at a place: its token is all letters, digits and underscores there.
-pub(crate) fn literal_at(s: &[u8], at: usize) -> Parsed
+#[tactic(auto, unfolding(rules::specs::Expression::literal_at, rules::specs::Expression::literal_read))]
+pub(crate) fn literal_at(s: &[u8], at: usize) -> Option<Part>
     requires { at ≤ length s.now }
     ensures is { result ≡ literal_at s.now at }
-    ensures within { ParsedWithin (length s.now) result }
+    ensures within { IfSome result (λ p. p.end ≤ length s.now) }
 {
     let end = at + ascii::name_length(&s[at..]);
-    literal_of(&s[at..end], end)
+    let n = literal(&s[at..end])?;
+    Some(Part {
+        value: Some(n.cast_signed()),
+        end,
+    })
 }

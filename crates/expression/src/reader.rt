@@ -1,95 +1,71 @@
 // The readers: operand and expression call each other, and the bytes that remain fall.
-ghost use Rattle.std.specs.Prelude.{◌≡◌, ℕ, ◌+◌, ◌-◌, ◌*◌, ◌<◌, ◌≤◌, length};
-ghost use Rattle.rules.specs.Operators.{unary_applied};
-ghost use Rattle.rules.specs.Expression.{closed_by, signed_by, operand_at, expression_at};
-ghost use Rattle.expression.specs.Places.{ParsedWithin};
+ghost use Rattle.std.specs.Prelude.{◌≡◌, ◌+◌, ◌*◌, ◌<◌, ◌≤◌, length, Some, IfSome};
+ghost use Rattle.rules.specs.Expression.{closed_by, operand_at, expression_at};
 
 use crate::{apply, literals, tokens};
-use rules::{Leading, Parsed, Unary};
+use rules::{Leading, Part};
 
-// What was read behind an opening parenthesis that ends at n must be closed.
-fn closed(s: &[u8], n: usize, r: Parsed) -> Parsed
-    requires { (n ≤ length s.now) × ParsedWithin (length s.now - n) r }
-    ensures is { result ≡ closed_by s.now n r }
-    ensures within { ParsedWithin (length s.now) result }
+// What was read behind an opening parenthesis that ends at n must be closed. As a call it would cost nested operands 7 % more
+// instructions.
+#[inline(always)]
+#[tactic(auto, unfolding(rules::specs::Expression::closed_by))]
+fn closed(s: &[u8], n: usize, r: Part) -> Option<Part>
+    requires { n + r.end ≤ length s.now }
+    ensures is { result ≡ closed_by s.now n (Some r) }
+    ensures within { IfSome result (λ p. p.end ≤ length s.now) }
 {
-    let Parsed::Value(w, m) = r else {
-        return Parsed::Unreadable;
-    };
-    let p = tokens::past_blanks(s, n + m);
+    let p = tokens::past_blanks(s, n + r.end);
     if tokens::byte_at(s, p) == b')' {
-        let end = p + 1;
-        Parsed::Value(w, end)
+        Some(Part {
+            value: r.value,
+            end: p + 1,
+        })
     } else {
-        Parsed::Unreadable
+        None
     }
 }
 
-// What was read behind a unary operator that ends at n.
-fn signed(u: Unary, n: usize, r: Parsed) -> Parsed
-    requires { ParsedWithin (18446744073709551615 - n) r }
-    ensures { result ≡ signed_by (unary_applied u) n r }
-{
-    let Parsed::Value(w, m) = r else {
-        return Parsed::Unreadable;
-    };
-    let end = n + m;
-    Parsed::Value(apply::apply_unary(u, w), end)
-}
-
-// The operand at the front: `left` more parentheses and unary operators may enclose a literal. The definition bounds its calls by
-// a number k, and gives the same at every k that is large enough.
+// The operand at the front: `left` more parentheses and unary operators may enclose a literal. The definition bounds its
+// calls by a number, and gives the same at each that is large enough.
 #[cycle(expression_operand)]
-fn operand(s: &[u8], left: u32) -> Parsed
-    ensures is { (k : ℕ) → 2 * length s.now + 1 ≤ k → result ≡ operand_at k s.now left }
-    ensures within { ParsedWithin (length s.now) result }
+#[tactic(auto, using(crate::proofs::Chains::operand_is), unfolding(rules::specs::Expression::operand_by, rules::specs::Expression::closed_by, rules::specs::Expression::signed_by))]
+fn operand(s: &[u8], left: u32) -> Option<Part>
+    ensures is { result ≡ operand_at (2 * length s.now + 1) s.now left }
+    ensures within { IfSome result (λ p. p.end ≤ length s.now) }
 {
-    match tokens::leading(s) {
+    match tokens::leading(s)? {
         Leading::Literal(at) => literals::literal_at(s, at),
-        Leading::Wrong => Parsed::Unreadable,
         Leading::Parenthesis(n) => {
-            if left == 0 {
-                return Parsed::Unreadable;
-            }
-            closed(s, n, expression(&s[n..], 1, left - 1))
+            let fewer = left.checked_sub(1)?;
+            let r = expression(&s[n..], 1, fewer)?;
+            closed(s, n, r)
         }
         Leading::Sign(u, n) => {
-            if left == 0 {
-                return Parsed::Unreadable;
-            }
-            signed(u, n, operand(&s[n..], left - 1))
+            let fewer = left.checked_sub(1)?;
+            let r = operand(&s[n..], fewer)?;
+            Some(Part {
+                value: apply::apply_unary(u, r.value),
+                end: n + r.end,
+            })
         }
     }
 }
 
 // The expression at the front, of operators of a level or a higher one, from left to right.
 #[cycle(expression_operand)]
-pub(crate) fn expression(s: &[u8], level: u32, left: u32) -> Parsed
+#[tactic(auto, using(crate::proofs::Chains::chains))]
+pub(crate) fn expression(s: &[u8], level: u32, left: u32) -> Option<Part>
     requires { 0 < level }
-    ensures is { (k : ℕ) → 2 * length s.now + 2 ≤ k → result ≡ expression_at k s.now level left }
-    ensures within { ParsedWithin (length s.now) result }
+    ensures is { result ≡ expression_at (2 * length s.now + 2) s.now level left }
+    ensures within { IfSome result (λ p. p.end ≤ length s.now) }
 {
-    let Parsed::Value(first, n) = operand(s, left) else {
-        return Parsed::Unreadable;
-    };
-    let mut w = first;
-    let mut at = n;
-    loop {
-        let o = tokens::operator_at(s, at);
-        let found = o.level;
-        if found < level {
-            return Parsed::Value(w, at);
-        }
-        let end = o.end;
-        let op = o.op;
-        match expression(&s[end..], found + 1, left) {
-            Parsed::Unreadable => {
-                return Parsed::Unreadable;
-            }
-            Parsed::Value(right, m) => {
-                w = apply::apply(op, w, right);
-                at = end + m;
-            }
-        }
+    let mut read = operand(s, left)?;
+    while let Some(o) = tokens::operator_at(s, read.end, level) {
+        let right = expression(&s[o.end..], o.level + 1, left)?;
+        read = Part {
+            value: apply::apply(o.op, read.value, right.value),
+            end: o.end + right.end,
+        };
     }
+    Some(read)
 }

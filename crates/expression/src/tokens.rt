@@ -1,8 +1,8 @@
 // The tokens of an expression but literals: blanks, what an operand begins with, and binary operators.
-ghost use Rattle.std.specs.Prelude.{◌≡◌, ◌+◌, ◌≤◌, length, if◌then◌else◌, slice_index};
-ghost use Rattle.rules.specs.Operators.{operator, single, double, no_operator, operator_of};
+ghost use Rattle.std.specs.Prelude.{◌≡◌, ◌+◌, ◌<◌, ◌≤◌, length, slice_index, IfSome};
+ghost use Rattle.rules.specs.Operators.{operator, strict, operator_of};
 ghost use Rattle.rules.specs.Expression.{past_blanks, leading_of, leading_at, operator_at};
-ghost use Rattle.expression.specs.Places.{LeadingWithin, OperatorWithin};
+ghost use Rattle.expression.specs.Places.{LeadingWithin};
 
 use rules::{Binary, Leading, Operator, Strict, Unary};
 
@@ -10,7 +10,7 @@ use rules::{Binary, Leading, Operator, Strict, Unary};
 pub(crate) fn byte_at(s: &[u8], i: usize) -> u8
     ensures { result ≡ slice_index s.now i }
 {
-    if i < s.len() { s[i] } else { 0 }
+    s.get(i).copied().unwrap_or(0)
 }
 
 // The place behind the blanks at a place.
@@ -19,151 +19,96 @@ pub(crate) fn past_blanks(s: &[u8], at: usize) -> usize
     ensures is { result ≡ past_blanks s.now at }
     ensures within { (at ≤ result) × (result ≤ length s.now) }
 {
-    let mut i = at;
-    while i < s.len() {
-        if ascii::is_blank(s[i]) {
-            i += 1;
-        } else {
-            return i;
-        }
-    }
-    i
+    at + s[at..].iter().take_while(|x| ascii::is_blank(**x)).count()
 }
 
 // What the bytes b and c begin, at a place with the next one: ++ and -- are no unary operators.
-fn leading_of(b: u8, c: u8, at: usize, next: usize) -> Leading
+#[tactic(auto, unfolding(rules::specs::Expression::leading_of))]
+fn leading_of(b: u8, c: u8, at: usize, next: usize) -> Option<Leading>
     requires { next ≡ at + 1 }
     ensures { result ≡ leading_of b c at }
 {
-    match b {
-        40 => Leading::Parenthesis(next),
-        33 => Leading::Sign(Unary::Not, next),
-        126 => Leading::Sign(Unary::Complement, next),
-        43 => if c == 43 {
-            Leading::Wrong
-        } else {
-            Leading::Sign(Unary::Plus, next)
-        },
-        45 => if c == 45 {
-            Leading::Wrong
-        } else {
-            Leading::Sign(Unary::Minus, next)
-        },
-        _ => if ascii::is_digit(b) {
-            Leading::Literal(at)
-        } else {
-            Leading::Wrong
-        },
+    match (b, c) {
+        (b'(', _) => Some(Leading::Parenthesis(next)),
+        (b'!', _) => Some(Leading::Sign(Unary::Not, next)),
+        (b'~', _) => Some(Leading::Sign(Unary::Complement, next)),
+        (b'+', b'+') | (b'-', b'-') => None,
+        (b'+', _) => Some(Leading::Sign(Unary::Plus, next)),
+        (b'-', _) => Some(Leading::Sign(Unary::Minus, next)),
+        _ if ascii::is_digit(b) => Some(Leading::Literal(at)),
+        _ => None,
     }
 }
 
 // What the operand at the front begins with.
-pub(crate) fn leading(s: &[u8]) -> Leading
+#[tactic(auto, unfolding(rules::specs::Expression::leading_at))]
+pub(crate) fn leading(s: &[u8]) -> Option<Leading>
     ensures is { result ≡ leading_at s.now (past_blanks s.now 0) }
     ensures within { LeadingWithin (length s.now) result }
 {
     let p = past_blanks(s, 0);
-    let b = byte_at(s, p);
     let next = p + 1;
-    let c = byte_at(s, next);
-    leading_of(b, c, p, next)
+    leading_of(byte_at(s, p), byte_at(s, next), p, next)
 }
 
-// Level 0: no operator.
-fn no_operator() -> Operator
-    ensures { result ≡ no_operator }
+// An operator with its level and how long its token is.
+fn operator(op: Binary, level: u32, end: usize) -> Option<Operator>
+    ensures { result ≡ operator op level end }
 {
-    Operator {
-        op: Binary::And,
-        level: 0,
-        end: 0,
-    }
+    Some(Operator { op, level, end })
 }
 
-// `&&` or `||`.
-fn logical(op: Binary, level: u32) -> Operator
-    ensures { result ≡ operator op level 2 }
+// One that works out both sides.
+fn strict(o: Strict, level: u32, end: usize) -> Option<Operator>
+    ensures { result ≡ strict o level end }
 {
-    Operator {
-        op: op,
-        level: level,
-        end: 2,
-    }
+    operator(Binary::Strict(o), level, end)
 }
 
-// An operator of one byte.
-fn single(o: Strict, level: u32) -> Operator
-    ensures { result ≡ single o level }
-{
-    Operator {
-        op: Binary::Strict(o),
-        level: level,
-        end: 1,
-    }
-}
-
-// An operator of two bytes.
-fn double(o: Strict, level: u32) -> Operator
-    ensures { result ≡ double o level }
-{
-    Operator {
-        op: Binary::Strict(o),
-        level: level,
-        end: 2,
-    }
-}
-
-fn choose(test: bool, yes: Operator, no: Operator) -> Operator
-    ensures { result ≡ (if test then yes else no) }
-{
-    if test { yes } else { no }
-}
-
-// The operator that the bytes b and c begin, and how long it is.
-fn operator_of(b: u8, c: u8) -> Operator
+// The operator that the bytes b and c begin.
+#[tactic(auto, unfolding(rules::specs::Operators::operator_of))]
+fn operator_of(b: u8, c: u8) -> Option<Operator>
     ensures { result ≡ operator_of b c }
 {
-    match b {
-        42 => single(Strict::Mul, 10),
-        47 => single(Strict::Div, 10),
-        37 => single(Strict::Rem, 10),
-        43 => choose(c == 43, no_operator(), single(Strict::Add, 9)),
-        45 => choose(c == 45, no_operator(), single(Strict::Sub, 9)),
-        60 => choose(
-            c == 60,
-            double(Strict::Shl, 8),
-            choose(c == 61, double(Strict::Le, 7), single(Strict::Lt, 7)),
-        ),
-        62 => choose(
-            c == 62,
-            double(Strict::Shr, 8),
-            choose(c == 61, double(Strict::Ge, 7), single(Strict::Gt, 7)),
-        ),
-        61 => choose(c == 61, double(Strict::Eq, 6), no_operator()),
-        33 => choose(c == 61, double(Strict::Ne, 6), no_operator()),
-        38 => choose(c == 38, logical(Binary::And, 2), single(Strict::BitAnd, 5)),
-        94 => single(Strict::BitXor, 4),
-        124 => choose(c == 124, logical(Binary::Or, 1), single(Strict::BitOr, 3)),
-        _ => no_operator(),
+    match (b, c) {
+        (b'*', _) => strict(Strict::Mul, 10, 1),
+        (b'/', _) => strict(Strict::Div, 10, 1),
+        (b'%', _) => strict(Strict::Rem, 10, 1),
+        (b'+', b'+') | (b'-', b'-') => None,
+        (b'+', _) => strict(Strict::Add, 9, 1),
+        (b'-', _) => strict(Strict::Sub, 9, 1),
+        (b'<', b'<') => strict(Strict::Shl, 8, 2),
+        (b'>', b'>') => strict(Strict::Shr, 8, 2),
+        (b'<', b'=') => strict(Strict::Le, 7, 2),
+        (b'<', _) => strict(Strict::Lt, 7, 1),
+        (b'>', b'=') => strict(Strict::Ge, 7, 2),
+        (b'>', _) => strict(Strict::Gt, 7, 1),
+        (b'=', b'=') => strict(Strict::Eq, 6, 2),
+        (b'!', b'=') => strict(Strict::Ne, 6, 2),
+        (b'&', b'&') => operator(Binary::And, 2, 2),
+        (b'&', _) => strict(Strict::BitAnd, 5, 1),
+        (b'^', _) => strict(Strict::BitXor, 4, 1),
+        (b'|', b'|') => operator(Binary::Or, 1, 2),
+        (b'|', _) => strict(Strict::BitOr, 3, 1),
+        _ => None,
     }
 }
 
-// The operator behind the blanks at a place.
-pub(crate) fn operator_at(s: &[u8], at: usize) -> Operator
+// The operator of at least a level behind the blanks at a place.
+#[tactic(auto, unfolding(rules::specs::Expression::operator_at, rules::specs::Expression::binding))]
+pub(crate) fn operator_at(s: &[u8], at: usize, level: u32) -> Option<Operator>
     requires { at ≤ length s.now }
-    ensures is { result ≡ operator_at s.now at }
-    ensures within { OperatorWithin (length s.now) at result }
+    ensures is { result ≡ operator_at s.now at level }
+    ensures within { IfSome result (λ o. (at < o.end) × (o.end ≤ length s.now) × (level ≤ o.level) × (o.level ≤ 10)) }
 {
     let p = past_blanks(s, at);
-    let b = byte_at(s, p);
-    let next = p + 1;
-    let c = byte_at(s, next);
-    let o = operator_of(b, c);
-    let op = o.op;
-    let end = p + o.end;
-    Operator {
-        op: op,
-        level: o.level,
-        end: end,
+    let o = operator_of(byte_at(s, p), byte_at(s, p + 1))?;
+    if o.level < level {
+        return None;
     }
+    Some(Operator {
+        op: o.op,
+        level: o.level,
+        end: p + o.end,
+    })
 }

@@ -1,8 +1,8 @@
 -- Laws of hashes and buckets: a hash has 32 bits, a bucket is one of 199. Assumes nothing.
-use Rattle.rules.proofs.Base.{◌≤◌, ◌+◌, ℕ, ◌<◌, ◌*◌, ◌^◌, ◌∙◌, refl, sym, ◌≡◌, true, [], ◌++◌, ◌∷◌, mod-lt, add-one, arith, length, drop, take, get_or, drop_of_length-le, drop-cons}
+use Rattle.rules.proofs.Base.{◌≤◌, ◌+◌, ℕ, ◌<◌, ◌*◌, ◌^◌, ◌∙◌, refl, sym, ◌≡◌, true, false, [], ◌++◌, ◌∷◌, mod-lt, add-one, arith, length, drop, take, get_or, drop-cons, drop_of_length-le}
 use native.Mathlib.Nat.{div-lt_iff_lt-mul}
+use Rattle.std.specs.List.{fold}
 use Rattle.rules.specs.Bytes.{Bytes, continues_name, name_length}
-use Rattle.ascii.proofs.Laws.{name_on}
 use Rattle.hashing.specs.declared.Scanned.{Scanned}
 use Rattle.hashing.specs.Hashing.{bucket_count, hash_on, hashed, bucket_at, bucket_of, ScannedFrom}
 
@@ -29,7 +29,28 @@ unfolding hashed
 hashed-append h [] w = refl
 hashed-append h (x ∷ xs) w = hashed-append (hash_on h x) xs w
 
+-- one byte after the other
+pub folded : (h : ℕ) (w : Bytes) → fold hash_on h w ≡ hashed h w
+unfolding hashed
+folded h [] = refl
+folded h (x ∷ xs) = folded (hash_on h x) xs
+
 -- ---- what a loop walks, from the place i on
+
+-- the name that goes on at a place, whether the byte there goes on with it or not
+module _ (s : Bytes) (i : ℕ) where
+  pub name_end : length s ≤ i → i + name_length (drop i s) ≡ i
+  unfolding name_length
+  name_end h = rw (drop_of_length-le s h) (omega arith)
+
+  module _ (h : i < length s) where
+    name_on : continues_name (get_or s i 0) ≡ true → i + name_length (drop i s) ≡ i + 1 + name_length (drop (i + 1) s)
+    unfolding name_length
+    name_on e = rw (drop-cons s i 0 h) (rw (e, name_length, add-one i) (omega arith))
+
+    pub name_off : continues_name (get_or s i 0) ≡ false → i + name_length (drop i s) ≡ i
+    unfolding name_length
+    name_off e = rw (drop-cons s i 0 h) (rw (e, name_length) (omega arith))
 
 -- the bytes at the front that go on with a name
 abbrev front : Bytes → Bytes
@@ -40,14 +61,6 @@ unfolding hashed name_length
 hashed_front h x xs e = rw (e, name_length)
 
 module _ (s : Bytes) (i h : ℕ) where
-  pub hashed_end : length s ≤ i → hashed h (drop i s) ≡ h
-  unfolding hashed
-  hashed_end e = rw (drop_of_length-le s e)
-
-  pub hashed_on : i < length s → hashed h (drop i s) ≡ hashed (hash_on h (get_or s i 0)) (drop (i + 1) s)
-  unfolding hashed
-  hashed_on e = rw (drop-cons s i 0 e, add-one i)
-
   module _ {r : Scanned} where
     -- the name does not go on
     pub scan_ends : i + name_length (drop i s) ≡ i → r.end ≡ i → r.hash ≡ h → ScannedFrom s i h r

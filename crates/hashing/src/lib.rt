@@ -11,11 +11,11 @@ pub struct Scanned {
     pub hash: u32,
 }
 
-// The hash goes on with a byte: 32 bits of the product. (The product is one of 64 bits, so nothing wraps that is not meant to.)
+// The hash goes on with a byte: 32 bits of the product.
 pub fn hash_on(hash: u32, x: u8) -> u32
     ensures { result ≡ hash_on hash x }
 {
-    ((hash as u64 + x as u64) * 2654435773 % 4294967296) as u32
+    hash.wrapping_add(x as u32).wrapping_mul(2654435773)
 }
 
 // The bucket of a hash.
@@ -29,12 +29,7 @@ pub fn bucket_at(hash: u32) -> usize
 pub fn bucket_of(name: &[u8]) -> usize
     ensures { result ≡ bucket_of name.now }
 {
-    let mut hash = 0u32;
-    let mut i = 0;
-    while i < name.len() {
-        hash = hash_on(hash, name[i]);
-        i += 1;
-    }
+    let hash = name.iter().fold(0, |hash, x| hash_on(hash, *x));
     bucket_at(hash)
 }
 
@@ -42,16 +37,16 @@ pub fn bucket_of(name: &[u8]) -> usize
 pub fn scan_name(s: &[u8], from: usize, hash: u32) -> Scanned
     ensures { ScannedFrom s.now from hash result }
 {
-    let mut i = from;
     let mut h = hash;
-    while i < s.len() {
+    for i in from..s.len() {
         let x = s[i];
-        if ascii::continues_name(x) {
-            h = hash_on(h, x);
-            i += 1;
-        } else {
+        if !ascii::continues_name(x) {
             return Scanned { end: i, hash: h };
         }
+        h = hash_on(h, x);
     }
-    Scanned { end: i, hash: h }
+    Scanned {
+        end: from.max(s.len()),
+        hash: h,
+    }
 }

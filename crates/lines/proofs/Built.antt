@@ -1,14 +1,14 @@
 -- Building the index of a text, word by word. Assumes nothing.
-use Rattle.rules.proofs.Base.{◌≤◌, ◌+◌, ℕ, ◌-◌, ◌<◌, suc, ◌*◌, ◌/◌, ◌∙◌, refl, sym, ap, ◌≡◌, ap₂, true, false, List, ◌++◌, add-one, arith, length, drop, take, get_or, length-drop, set, length-set, length-take, drop-cons, take_all, set_at, append_snoc}
+use Rattle.rules.proofs.Base.{◌≤◌, ◌+◌, ℕ, ◌-◌, ◌<◌, suc, ◌*◌, ◌/◌, ◌∙◌, refl, sym, ap, ◌≡◌, ap₂, List, Result, Ok, Err, ◌++◌, add-one, arith, length, drop, take, get_or, length-drop, set, length-set, length-take, drop-cons, take_all, set_at, append_snoc}
 use lib.Count.{ones}
-use Rattle.rules.specs.declared.IndexAnswer.TheVariants.{Built, TooLong, NoRoom}
+use Rattle.rules.specs.declared.IndexError.{IndexError}
+use Rattle.rules.specs.declared.IndexError.TheVariants.{TooLong, Beyond, NoLine, NoRoom}
 use Rattle.rules.specs.Bytes.{Bytes}
-use Rattle.rules.specs.Run.{most_lent}
 use Rattle.rules.specs.Contract.{fronted}
-use Rattle.rules.specs.Lines.{index_number, word_count, newlines, newline_bits, word_at, total_at, each, words_of, totals_of, has_room, building, held_by, Indexed}
+use Rattle.rules.specs.Lines.{index_number, word_count, newlines, newline_bits, word_at, total_at, each, words_of, totals_of, judged_index, building, held_by, Indexed}
 use Rattle.rules.proofs.Newlines.{newlines-add, newlines_le}
 use Rattle.rules.proofs.Lines.{length-each, each_last}
-use Rattle.lines.proofs.Judged.{too_long, no_room, admitted, room_for}
+use Rattle.lines.proofs.Judged.{Admitted, judged}
 use Rattle.lines.proofs.WordLaws.{ones_bits}
 
 -- the first k stand in a slice, and what is lent behind them is as it was
@@ -39,28 +39,35 @@ module _ (f : ℕ → ℕ) (lent : List ℕ) where
 
 -- the first k words and totals stand, and the newlines before the next word are counted
 pub record Building (text : Bytes) (words totals w t : List ℕ) (total k : ℕ) : Type 0 where
-  pub short : length text ≤ most_lent
-  pub fits : has_room (length text) (length words) (length totals) ≡ true
+  pub admitted : Admitted (length text) words totals
   pub within : k ≤ length text / 64 + 1
   pub words_are : Filled (word_at text) words w k
   pub totals_are : Filled (total_at text) totals t k
   pub total_is : total ≡ total_at text k
 
+-- a refusal leaves what is lent
+held_refused : (e : IndexError) (written lent : List ℕ) → held_by (Err e) written lent ≡ lent
+unfolding held_by index_number
+held_refused TooLong written lent = refl
+held_refused Beyond written lent = refl
+held_refused NoLine written lent = refl
+held_refused NoRoom written lent = refl
+
 module _ {text : Bytes} {words totals : List ℕ} where
-  pub build_too_long : most_lent < length text → Indexed text words totals TooLong words totals
-  unfolding building held_by index_number
-  build_too_long h = record { answer = too_long (length text) words totals Built h; words_are = refl; totals_are = refl }
-
-  pub build_no_room : length text ≤ most_lent → has_room (length text) (length words) (length totals) ≡ false → Indexed text words totals NoRoom words totals
-  unfolding building held_by index_number
-  build_no_room h e = record { answer = no_room (length text) words totals Built h e; words_are = refl; totals_are = refl }
-
-  pub build_start : length text ≤ most_lent → has_room (length text) (length words) (length totals) ≡ true → Building text words totals words totals 0 0
-  unfolding total_at newlines
-  build_start h e =
+  pub build_refused : {r : Result (Unit {0}) IndexError} (e : IndexError) → r ≡ Err e → r ≡ judged_index (length text) words totals (Ok tt) → Indexed text words totals r words totals
+  unfolding building
+  build_refused {r} e is a =
       record {
-        short = h;
-        fits = e;
+        answer = a;
+        words_are = sym (ap (λ (x : Result (Unit {0}) IndexError). held_by x (words_of text) words) is ∙ held_refused e (words_of text) words);
+        totals_are = sym (ap (λ (x : Result (Unit {0}) IndexError). held_by x (totals_of text) totals) is ∙ held_refused e (totals_of text) totals);
+      }
+
+  pub build_start : Admitted (length text) words totals → Building text words totals words totals 0 0
+  unfolding total_at newlines
+  build_start h =
+      record {
+        admitted = h;
         within = omega arith;
         words_are = fill_start (word_at text) words;
         totals_are = fill_start (total_at text) totals;
@@ -69,7 +76,7 @@ module _ {text : Bytes} {words totals : List ℕ} where
 
   module _ {w t : List ℕ} {total k : ℕ} (b : Building text words totals w t total k) where
     room : (length text / 64 < length words) × (length text / 64 < length totals)
-    room = room_for (length text) (length words) (length totals) b.fits
+    room = b.admitted.room
 
     module _ (more : k ≤ length text / 64) where
       pub word_fits : k < length w
@@ -93,26 +100,25 @@ module _ {text : Bytes} {words totals : List ℕ} where
 
         pub total_le : total + ones word ≤ 65536
         unfolding total_at
-        total_le = omega (arith, total_next, newlines_le (take ((k + 1) * 64) text), length-take ((k + 1) * 64) text, b.short)
+        total_le = omega (arith, total_next, newlines_le (take ((k + 1) * 64) text), length-take ((k + 1) * 64) text, b.admitted.short)
 
         pub build_on : Building text words totals (set w k word) (set t k total) (total + ones word) (k + 1)
         unfolding word_at
         build_on =
             record {
-              short = b.short;
-              fits = b.fits;
+              admitted = b.admitted;
               within = omega arith;
               words_are = fill_on (word_at text) words b.words_are (omega (arith, room.0)) e;
               totals_are = fill_on (total_at text) totals b.totals_are (omega (arith, room.1)) b.total_is;
               total_is = total_next;
             }
 
-    pub build_done : length text / 64 < k → Indexed text words totals Built w t
+    pub build_done : length text / 64 < k → Indexed text words totals (Ok tt) w t
     unfolding building held_by index_number words_of totals_of word_count
     build_done h =
         let last : k ≡ suc (length text / 64) = omega (arith, b.within) in
         record {
-          answer = admitted (length text) words totals Built b.short b.fits;
+          answer = judged (length text) words totals (Ok tt) b.admitted;
           words_are = fill_done (word_at text) words b.words_are ∙ ap (λ (n : ℕ). fronted (each (word_at text) 0 n) words) last;
           totals_are = fill_done (total_at text) totals b.totals_are ∙ ap (λ (n : ℕ). fronted (each (total_at text) 0 n) totals) last;
         }

@@ -1,45 +1,60 @@
 -- What is refused before anything else: 30, then 33. Assumes nothing.
-use Rattle.rules.proofs.Base.{◌≤◌, ℕ, ◌<◌, suc, ◌/◌, ◌∙◌, refl, sym, ◌≡◌, true, Bool, false, and-eq-true_iff, List, leb, ltb, length, le-leb, leb-true, lt-ltb, le-ltb}
-use Rattle.rules.specs.declared.IndexAnswer.{IndexAnswer}
-use Rattle.rules.specs.declared.IndexAnswer.TheVariants.{TooLong, NoRoom}
+use Rattle.rules.proofs.Base.{◌≤◌, ℕ, ◌<◌, suc, ◌/◌, ◌∙◌, refl, ap, ◌≡◌, true, false, Bool, cond, and-eq-true_iff, List, Result, Ok, Err, leb, ltb, length, le-leb, leb-true, lt-leb, lt-ltb, le-ltb, ltb-false, arith}
+use Rattle.std.proofs.Common.{IsErrAnd}
+use Rattle.std.proofs.lemmas.Result.{err_from_is_err_and}
+use Rattle.rules.specs.declared.IndexError.{IndexError}
+use Rattle.rules.specs.declared.IndexError.TheVariants.{TooLong, NoRoom}
 use Rattle.rules.specs.Run.{most_lent}
 use Rattle.rules.specs.Lines.{word_count, has_room, judged_index}
 
--- ---- room, as the code asks for it
+module _ (n : ℕ) (words totals : List ℕ) where
+  -- ---- in the order that the code asks in
 
-module _ (n words totals : ℕ) where
-  pub words_fit : n / 64 < words → ltb (n / 64) totals ≡ has_room n words totals
-  unfolding has_room word_count
-  words_fit h = rw (le-leb (suc (n / 64)) words h) refl
-
-  pub words_lack : words ≤ n / 64 → ltb (n / 64) words ≡ has_room n words totals
-  unfolding has_room word_count
-  words_lack h = rw (le-ltb (n / 64) words h) refl
-
-  pub room_for : has_room n words totals ≡ true → (n / 64 < words) × (n / 64 < totals)
-  unfolding has_room word_count
-  room_for e =
-      let b = (and-eq-true_iff (leb (suc (n / 64)) words) (leb (suc (n / 64)) totals)).0 e in
-      (leb-true (suc (n / 64)) words b.0, leb-true (suc (n / 64)) totals b.1)
-
--- what a test of `has_room` told
-pub has : {r t : Bool} → r ≡ t → r ≡ true → t ≡ true
-has e f = sym e ∙ f
-
-pub lacks : {r t : Bool} → r ≡ t → r ≡ false → t ≡ false
-lacks e f = sym e ∙ f
-
--- ---- the order
-
-module _ (n : ℕ) (words totals : List ℕ) (a : IndexAnswer) where
-  pub too_long : most_lent < n → TooLong ≡ judged_index n words totals a
+  pub too_long : {T : Type 0} (a : Result T IndexError) → most_lent < n → Err TooLong ≡ judged_index n words totals a
   unfolding judged_index
-  too_long h = rw (lt-ltb most_lent n h) refl
+  too_long a h = rw (lt-ltb most_lent n h) refl
 
-  pub no_room : n ≤ most_lent → has_room n (length words) (length totals) ≡ false → NoRoom ≡ judged_index n words totals a
-  unfolding judged_index
-  no_room h e = rw (le-ltb most_lent n h, e) refl
+  pub no_words : {T : Type 0} (a : Result T IndexError) → n ≤ most_lent → length words ≤ n / 64 → Err NoRoom ≡ judged_index n words totals a
+  unfolding judged_index has_room word_count
+  no_words a h l = rw (le-ltb most_lent n h, lt-leb (suc (n / 64)) (length words) (omega arith)) refl
 
-  pub admitted : n ≤ most_lent → has_room n (length words) (length totals) ≡ true → a ≡ judged_index n words totals a
+  pub no_totals : {T : Type 0} (a : Result T IndexError) → n ≤ most_lent → n / 64 < length words → length totals ≤ n / 64 → Err NoRoom ≡ judged_index n words totals a
+  unfolding judged_index has_room word_count
+  no_totals a h k l = rw (le-ltb most_lent n h, le-leb (suc (n / 64)) (length words) k, lt-leb (suc (n / 64)) (length totals) (omega arith)) refl
+
+  -- neither is refused
+  pub record Admitted : Type 0 where
+    pub short : n ≤ most_lent
+    pub room : (n / 64 < length words) × (n / 64 < length totals)
+
+  pub judged : {T : Type 0} (a : Result T IndexError) → Admitted → a ≡ judged_index n words totals a
+  unfolding judged_index has_room word_count
+  judged a m = rw (le-ltb most_lent n m.short, le-leb (suc (n / 64)) (length words) m.room.0, le-leb (suc (n / 64)) (length totals) m.room.1) refl
+
+  -- ---- what the first of these answers tells of another
+
+  pub admitted : ◌≡◌ {A = Result (Unit {0}) IndexError} (Ok tt) (judged_index n words totals (Ok tt)) → Admitted
+  unfolding judged_index has_room word_count
+  admitted e = go (ltb most_lent n) (has_room n (length words) (length totals)) refl refl e
+    where
+      go : (long fits : Bool) → ltb most_lent n ≡ long → has_room n (length words) (length totals) ≡ fits
+          → ◌≡◌ {A = Result (Unit {0}) IndexError} (Ok tt) (cond long (Err TooLong) (cond fits (Ok tt) (Err NoRoom))) → Admitted
+      go true fits l f e = let w : ◌≡◌ {A = ℕ} 0 1 = cc in absurd (omega arith)
+      go false false l f e = let w : ◌≡◌ {A = ℕ} 0 1 = cc in absurd (omega arith)
+      go false true l f e =
+          let b = (and-eq-true_iff (leb (suc (n / 64)) (length words)) (leb (suc (n / 64)) (length totals))).0 f in
+          record { short = ltb-false most_lent n l; room = (leb-true (suc (n / 64)) (length words) b.0, leb-true (suc (n / 64)) (length totals) b.1) }
+
+  pub refused : {T : Type 0} (a : Result T IndexError) {x : IndexError} → ◌≡◌ {A = Result (Unit {0}) IndexError} (Err x) (judged_index n words totals (Ok tt)) → Err x ≡ judged_index n words totals a
   unfolding judged_index
-  admitted h e = rw (le-ltb most_lent n h, e) refl
+  refused {T} a {x} e = go (ltb most_lent n) (has_room n (length words) (length totals)) e
+    where
+      go : (long fits : Bool) → ◌≡◌ {A = Result (Unit {0}) IndexError} (Err x) (cond long (Err TooLong) (cond fits (Ok tt) (Err NoRoom)))
+          → ◌≡◌ {A = Result T IndexError} (Err x) (cond long (Err TooLong) (cond fits a (Err NoRoom)))
+      go true fits e = let w : x ≡ TooLong = cc in rw w refl
+      go false false e = let w : x ≡ NoRoom = cc in rw w refl
+      go false true e = let w : ◌≡◌ {A = ℕ} 0 1 = cc in absurd (omega arith)
+
+-- the error of a `?` is the callee's
+pub passed : {T : Type 0} (r : Result T IndexError) (e : IndexError) → IsErrAnd r (λ x. x ≡ e) → r ≡ Err e
+passed r e h = let p = err_from_is_err_and r h in p.1 ∙ ap Err p.2

@@ -1,5 +1,5 @@
 pub mod WordLaws
 pub mod Judged
-pub mod Numbers
+pub mod Seeking
 pub mod Questions
 pub mod Built

@@ -1,13 +1,17 @@
 -- The bits of one word: what gathering and clearing them keeps. Assumes nothing.
-use Rattle.rules.proofs.Base.{◌≤◌, ◌+◌, ℕ, ◌-◌, ◌<◌, suc, zero, ◌*◌, ◌^◌, ◌/◌, ◌%◌, min, suc-le-suc, ◌∙◌, refl, sym, ap, ◌≡◌, ap₂, some, none, Option, [], ◌∷◌, add-zero, zero-add, le_trans, one-mul, le_of_eq, lt_of_le_of_lt, add_comm, pow-suc, lt_of_lt_of_le, add-one, arith, length, drop, take, get_or, length-drop, drop_of_length-le, length-take, drop-cons, get_or-take, eq-eqb, ne_eqb}
+use Rattle.rules.proofs.Base.{◌≤◌, ◌+◌, ℕ, ◌-◌, ◌<◌, suc, zero, ◌*◌, ◌^◌, ◌/◌, ◌%◌, suc-le-suc, ◌∙◌, refl, sym, ap, subst, ◌≡◌, ap₂, true, false, Bool, Some, None, Option, [], ◌∷◌, add-zero, le_trans, one-mul, le_of_eq, lt_of_le_of_lt, add_comm, pow-suc, lt_of_lt_of_le, add-one, arith, length, eqb, ltb, eqb-true, eqb-false, ltb-true, ltb-false}
 use lib.Bits.{bit_and, bit_or, and_step, and_self, and_le_l, and_mask, or_shifted}
 use lib.Count.{ones_in, ones, count_trailing_zeros, under, ones_step}
 use lib.Pow.{shl_exact, pow_mono, mod-mod-pow, field}
+use Rattle.std.proofs.Common.{reverse}
+use Rattle.std.specs.List.{fold}
+use Rattle.std.specs.Bool.{then_some}
+use Rattle.std.proofs.lemmas.List.{reverse-append}
+use Rattle.std.proofs.lemmas.List.Sums.{fold-append}
 use Rattle.rules.specs.Bytes.{Bytes}
 use Rattle.rules.specs.Places.{plus_one}
 use Rattle.rules.specs.Lines.{newline_bit, newlines, newline_bits, select}
 use Rattle.rules.proofs.Newlines.{bit_le, bits_odd, bits_half, no_bit}
-use Rattle.lines.specs.Bits.{bit_place}
 
 -- ---- gathering them
 
@@ -21,53 +25,28 @@ bits_lt (x ∷ xs) =
     let p : 2 ^ suc (length xs) ≡ 2 ^ length xs * 2 = pow-suc 2 (length xs) in
     omega arith
 
--- the bits of the bytes from i on, of the first 64, are in the word
-pub record Gathering (text : Bytes) (i word : ℕ) : Type 0 where
-  pub inside : (i ≤ 64) × (i ≤ length text)
-  pub is : word ≡ newline_bits (drop i (take 64 text))
+-- a word with one bit more, the least, for a byte in front of the others
+unfoldable pub gather : ℕ → ℕ → ℕ
+gather word x = bit_or ((word * 2) % 2 ^ 64) (newline_bit x)
 
-module _ {text : Bytes} where
-  pub gather_start : {i : ℕ} → i ≡ min 64 (length text) → Gathering text i 0
-  unfolding newline_bits
-  gather_start {i} e =
-      record {
-        inside = (omega arith, omega arith);
-        is = sym (ap newline_bits (drop_of_length-le (take 64 text) {i = i} (omega (arith, length-take 64 text))));
-      }
+gather_on : (x : ℕ) (xs : Bytes) → length xs ≤ 63 → gather (newline_bits xs) x ≡ newline_bits (x ∷ xs)
+unfolding gather newline_bits
+gather_on x xs h =
+    let bit : newline_bit x < 2 = lt_of_le_of_lt (bit_le x) (omega arith) in
+    let fits : newline_bits xs < 2 ^ 63 = lt_of_lt_of_le (bits_lt xs) (pow_mono h) in
+    ap (λ (w : ℕ). bit_or w (newline_bit x)) (shl_exact 63 1 64 fits (omega arith))
+    ∙ or_shifted (newline_bits xs) 1 (newline_bit x) bit
+    ∙ add_comm (newline_bits xs * 2) (newline_bit x)
 
-  module _ {i word : ℕ} (g : Gathering text i word) (more : 0 < i) where
-    -- the word has room for one bit more
-    shifted : (word * 2) % 2 ^ 64 ≡ word * 2
-    shifted =
-        let l : length (drop i (take 64 text)) ≤ 63 = omega (arith, length-drop i (take 64 text), length-take 64 text) in
-        let short : word < 2 ^ 63 = lt_of_lt_of_le (lt_of_le_of_lt (le_of_eq g.is) (bits_lt (drop i (take 64 text)))) (pow_mono l) in
-        shl_exact 63 1 64 short (omega arith)
-
-    -- the bits with that of the byte before them
-    one_more : newline_bits (drop (i - 1) (take 64 text)) ≡ newline_bit (get_or text (i - 1) 0) + word * 2
-    unfolding newline_bits
-    one_more =
-        let behind : suc (i - 1) ≡ i = omega arith in
-        ap newline_bits (drop-cons (take 64 text) (i - 1) 0 (omega (arith, length-take 64 text, g.inside.0, g.inside.1)))
-        ∙ ap₂ (λ (x w : ℕ). newline_bit x + w * 2) (get_or-take 64 text (i - 1) 0 (omega (arith, g.inside.0))) (ap (λ (n : ℕ). newline_bits (drop n (take 64 text))) behind ∙ sym g.is)
-
-    less : (i - 1 ≤ 64) × (i - 1 ≤ length text)
-    less = (omega (arith, g.inside.0), omega (arith, g.inside.1))
-
-    pub gather_newline : get_or text (i - 1) 0 ≡ 10 → Gathering text (i - 1) (bit_or ((word * 2) % 2 ^ 64) 1)
-    unfolding newline_bit
-    gather_newline e =
-        record {
-          inside = less;
-          is = ap (λ (w : ℕ). bit_or w 1) shifted ∙ or_shifted word 1 1 (omega arith) ∙ sym (one_more ∙ rw (eq-eqb (get_or text (i - 1) 0) 10 e) (add_comm 1 (word * 2)));
-        }
-
-    pub gather_other : (get_or text (i - 1) 0 ≡ 10 → ⊥) → Gathering text (i - 1) ((word * 2) % 2 ^ 64)
-    unfolding newline_bit
-    gather_other e = record { inside = less; is = shifted ∙ sym (one_more ∙ rw (ne_eqb (get_or text (i - 1) 0) 10 e) (zero-add (word * 2))) }
-
-  pub gather_done : {i word : ℕ} → Gathering text i word → i ≤ 0 → word ≡ newline_bits (take 64 text)
-  gather_done {i} g h = let z : i ≡ 0 = omega arith in g.is ∙ ap (λ (n : ℕ). newline_bits (drop n (take 64 text))) z
+-- gathered from the last byte on, they are the bits of the text
+pub gathered : (xs : Bytes) → length xs ≤ 64 → fold gather 0 (reverse xs) ≡ newline_bits xs
+unfolding newline_bits
+gathered [] h = refl
+gathered (x ∷ xs) h =
+    ap (fold gather 0) (reverse-append (x ∷ []) xs)
+    ∙ fold-append gather 0 (reverse xs) (x ∷ [])
+    ∙ ap (λ (w : ℕ). gather w x) (gathered xs (omega arith))
+    ∙ gather_on x xs (omega arith)
 
 -- as many are set as the bytes have newlines
 pub ones_bits : (xs : Bytes) → ones (newline_bits xs) ≡ newlines xs
@@ -96,7 +75,7 @@ cleared zero left n p = refl
 cleared (suc d) left n p = go (n % 2) refl (λ q. cleared d left (n / 2) q)
   where
     sought : ℕ → ℕ → ℕ → Option ℕ
-    sought before b h = elim b [ zero ↦ plus_one (select d before h) | suc c ↦ elim before [ zero ↦ some 0 | suc m ↦ plus_one (select d m h) ] ]
+    sought before b h = elim b [ zero ↦ plus_one (select d before h) | suc c ↦ elim before [ zero ↦ Some 0 | suc m ↦ plus_one (select d m h) ] ]
 
     least_clear : (m : ℕ) → bit_and n (n - 1) ≡ m * 2 → sought left (bit_and n (n - 1) % 2) (bit_and n (n - 1) / 2) ≡ plus_one (select d left m)
     least_clear m e =
@@ -113,25 +92,37 @@ cleared (suc d) left n p = go (n % 2) refl (λ q. cleared d left (n / 2) q)
         ap (λ (b : ℕ). sought (suc left) b (n / 2)) e ∙ sym (least_clear (n / 2) (odd_cleared n (omega arith)))
 
 -- with none before it, it is the least one
-least_set : (d n : ℕ) → 0 < n → n < 2 ^ d → select d 0 n ≡ some (count_trailing_zeros d n)
+least_set : (d n : ℕ) → 0 < n → n < 2 ^ d → select d 0 n ≡ Some (count_trailing_zeros d n)
 unfolding select count_trailing_zeros plus_one
 least_set zero n p h = absurd (omega arith)
 least_set (suc d) n p h = go (n % 2) refl (λ q. least_set d (n / 2) q (omega (arith, pow-suc 2 d)))
   where
-    go : (b : ℕ) → n % 2 ≡ b → (0 < n / 2 → select d 0 (n / 2) ≡ some (count_trailing_zeros d (n / 2)))
-        → elim (n % 2) [ zero ↦ plus_one (select d 0 (n / 2)) | suc c ↦ some 0 ] ≡ some (under (n % 2) (count_trailing_zeros d (n / 2)))
+    go : (b : ℕ) → n % 2 ≡ b → (0 < n / 2 → select d 0 (n / 2) ≡ Some (count_trailing_zeros d (n / 2)))
+        → elim (n % 2) [ zero ↦ plus_one (select d 0 (n / 2)) | suc c ↦ Some 0 ] ≡ Some (under (n % 2) (count_trailing_zeros d (n / 2)))
     go zero e r = rw (e, r (omega arith)) refl
     go (suc b) e r = rw e refl
 
--- 64 is the place of no bit of a word
+-- no word has as many bits before one
+pub too_far : (d before word : ℕ) → d ≤ before → select d before word ≡ None
+unfolding select plus_one
+too_far zero before word h = refl
+too_far (suc d) before word h = go (word % 2) before h (λ m q. too_far d m (word / 2) q)
+  where
+    go : (b before : ℕ) → suc d ≤ before → ((m : ℕ) → d ≤ m → select d m (word / 2) ≡ None)
+        → ◌≡◌ {A = Option ℕ} (elim b [ zero ↦ plus_one (select d before (word / 2)) | suc c ↦ elim before [ zero ↦ Some 0 | suc m ↦ plus_one (select d m (word / 2)) ] ]) None
+    go zero before h r = ap plus_one (r before (omega arith))
+    go (suc b) zero h r = absurd (omega arith)
+    go (suc b) (suc m) h r = ap plus_one (r m (omega arith))
+
+-- and a bit is one of them
 abbrev Under : ℕ → Option ℕ → Type 0
-Under d none = Unit {0}
-Under d (some i) = i < d
+Under d None = Unit {0}
+Under d (Some i) = i < d
 
 plus_one_under : (d : ℕ) (o : Option ℕ) → Under d o → Under (suc d) (plus_one o)
 unfolding plus_one
-plus_one_under d none h = tt
-plus_one_under d (some i) h = suc-le-suc h
+plus_one_under d None h = tt
+plus_one_under d (Some i) h = suc-le-suc h
 
 bit_under : (d before word : ℕ) → Under d (select d before word)
 unfolding select
@@ -139,29 +130,13 @@ bit_under zero before word = tt
 bit_under (suc d) before word = go (word % 2) before (λ b. bit_under d b (word / 2))
   where
     go : (b before : ℕ) → ((m : ℕ) → Under d (select d m (word / 2)))
-        → Under (suc d) (elim b [ zero ↦ plus_one (select d before (word / 2)) | suc c ↦ elim before [ zero ↦ some 0 | suc m ↦ plus_one (select d m (word / 2)) ] ])
+        → Under (suc d) (elim b [ zero ↦ plus_one (select d before (word / 2)) | suc c ↦ elim before [ zero ↦ Some 0 | suc m ↦ plus_one (select d m (word / 2)) ] ])
     go zero before h = plus_one_under d (select d before (word / 2)) (h before)
     go (suc b) zero h = omega arith
     go (suc b) (suc m) h = plus_one_under d (select d m (word / 2)) (h m)
 
-bit_place_lem : (o : Option ℕ) → Under 64 o → (bit_place o ≡ 64 → o ≡ none) × ((bit_place o ≡ 64 → ⊥) → o ≡ some (bit_place o))
-unfolding bit_place
-bit_place_lem none u = (λ h. refl, λ h. absurd (h refl))
-bit_place_lem (some i) u = (λ h. absurd (omega (arith, u, h)), λ h. refl)
-
-pub bit_none : (before word : ℕ) → bit_place (select 64 before word) ≡ 64 → select 64 before word ≡ none
-bit_none before word = (bit_place_lem (select 64 before word) (bit_under 64 before word)).0
-
-pub bit_some : (before word : ℕ) → (bit_place (select 64 before word) ≡ 64 → ⊥) → select 64 before word ≡ some (bit_place (select 64 before word))
-bit_some before word = (bit_place_lem (select 64 before word) (bit_under 64 before word)).1
-
-pub place_le : (before word : ℕ) → bit_place (select 64 before word) ≤ 64
-unfolding bit_place
-place_le before word = go (select 64 before word) (bit_under 64 before word)
-  where
-    go : (o : Option ℕ) → Under 64 o → bit_place o ≤ 64
-    go none u = omega arith
-    go (some i) u = omega (arith, u)
+pub bit_inside : (before word i : ℕ) → select 64 before word ≡ Some i → i < 64
+bit_inside before word i e = subst (Under 64) e (bit_under 64 before word)
 
 -- the bit that is sought among those of `rest` is the one that was sought
 pub record Clearing (word before rest left : ℕ) : Type 0 where
@@ -169,23 +144,39 @@ pub record Clearing (word before rest left : ℕ) : Type 0 where
   pub same : select 64 left rest ≡ select 64 before word
 
 module _ {word before rest left : ℕ} (c : Clearing word before rest left) where
-  pub clear_on : 0 < left → 0 < rest → Clearing word before (bit_and rest (rest - 1)) (left - 1)
-  clear_on more any =
-      let one : suc (left - 1) ≡ left = omega arith in
-      record {
-        fits = lt_of_le_of_lt (and_le_l rest (rest - 1)) c.fits;
-        same = sym (cleared 64 (left - 1) rest any) ∙ ap (λ (n : ℕ). select 64 n rest) one ∙ c.same;
-      }
+  pub clear_on : 0 < left → Clearing word before (bit_and rest ((rest + (2 ^ 64 - 1)) % 2 ^ 64)) (left - 1)
+  clear_on more = go (eqb rest 0) refl
+    where
+      one : suc (left - 1) ≡ left
+      one = omega arith
 
-  -- it is the least that is left
-  pub clear_found : 0 < rest → left ≡ 0 → count_trailing_zeros 64 rest ≡ bit_place (select 64 before word)
-  unfolding bit_place
-  clear_found any z = ap bit_place (sym (ap (λ (n : ℕ). select 64 n rest) z ∙ least_set 64 rest any c.fits) ∙ c.same)
+      fits : bit_and rest ((rest + (2 ^ 64 - 1)) % 2 ^ 64) < 2 ^ 64
+      fits = lt_of_le_of_lt (and_le_l rest ((rest + (2 ^ 64 - 1)) % 2 ^ 64)) c.fits
 
-  -- none is left
-  pub clear_none : rest ≡ 0 → 64 ≡ bit_place (select 64 before word)
-  unfolding bit_place
-  clear_none z = ap bit_place (sym (ap (select 64 left) z ∙ no_bit 64 left) ∙ c.same)
+      go : (t : Bool) → eqb rest 0 ≡ t → Clearing word before (bit_and rest ((rest + (2 ^ 64 - 1)) % 2 ^ 64)) (left - 1)
+      go true e =
+          let none : rest ≡ 0 = eqb-true rest 0 e in
+          let still : bit_and rest ((rest + (2 ^ 64 - 1)) % 2 ^ 64) ≡ 0 = omega (arith, none, and_le_l rest ((rest + (2 ^ 64 - 1)) % 2 ^ 64)) in
+          record {
+            fits = fits;
+            same = ap (select 64 (left - 1)) still ∙ no_bit 64 (left - 1) ∙ sym (no_bit 64 left) ∙ ap (select 64 left) (sym none) ∙ c.same;
+          }
+      go false e =
+          let some : rest ≡ 0 → ⊥ = eqb-false rest 0 e in
+          let any : 0 < rest = omega arith in
+          let less : (rest + (2 ^ 64 - 1)) % 2 ^ 64 ≡ rest - 1 = omega (arith, c.fits) in
+          record {
+            fits = fits;
+            same = ap (λ (n : ℕ). select 64 (left - 1) (bit_and rest n)) less ∙ sym (cleared 64 (left - 1) rest any) ∙ ap (λ (n : ℕ). select 64 n rest) one ∙ c.same;
+          }
+
+  -- it is the least that is left, if any is
+  pub clear_done : left ≡ 0 → then_some (ltb 0 rest) (count_trailing_zeros 64 rest) ≡ select 64 before word
+  clear_done z = go (ltb 0 rest) refl ∙ ap (λ (n : ℕ). select 64 n rest) (sym z) ∙ c.same
+    where
+      go : (t : Bool) → ltb 0 rest ≡ t → then_some t (count_trailing_zeros 64 rest) ≡ select 64 0 rest
+      go true e = sym (least_set 64 rest (ltb-true 0 rest e) c.fits)
+      go false e = let none : rest ≡ 0 = omega (arith, ltb-false 0 rest e) in sym (no_bit 64 0) ∙ ap (select 64 0) (sym none)
 
 -- ---- counting those below a place
 

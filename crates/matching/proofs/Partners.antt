@@ -1,6 +1,8 @@
 -- Laws of the table of partners. `table_puts` is what a caller of `partners_of` uses: the text replaced by the table is the transliterated one.
 -- Assumes nothing.
 use Rattle.rules.proofs.Base.{◌≤◌, ◌+◌, ℕ, ◌<◌, suc, zero, ◌∙◌, refl, sym, ap, ◌≡◌, ap₂, true, Bool, false, [], ◌++◌, ◌∷◌, arith, eqb, ltb, length, get_or, ne_eqb, ltb-true, ltb-false, lt-ltb, le-ltb}
+use Rattle.std.specs.Prelude.{Result, Ok, Err}
+use Rattle.std.specs.Result.{OkIff, result_unwrap_or}
 use Rattle.rules.specs.Bytes.{Bytes}
 use Rattle.rules.specs.Results.{partner, transliterated}
 use Rattle.matching.specs.Partners.{is_among, standing, entry_of, entries, partner_table, entry_for, put_by, replaced}
@@ -17,6 +19,11 @@ entry_same x e h = rw h
 pub entry_none : (x e : ℕ) → 257 ≤ e → entry_for x e ≡ []
 unfolding entry_for
 entry_none x e h = rw (le-ltb e 256 (omega arith), ne_eqb e 256 (omega arith), entry_for)
+
+-- the byte that an entry is, if it is one, else x
+pub entry_put : {E : Type 0} (x e : ℕ) (r : Result ℕ E) → OkIff r (e < 256) e → e < 257 → entry_for x e ≡ result_unwrap_or r x ∷ []
+entry_put x e (Ok y) h k = entry_byte x e h.0 ∙ ap (λ (n : ℕ). n ∷ []) (sym h.1)
+entry_put x e (Err y) h k = entry_same x e (omega arith)
 
 pub entry_one : (x e : ℕ) → e < 257 → length (entry_for x e) ≡ 1
 unfolding entry_for

@@ -1,10 +1,11 @@
 -- Laws of the place where a text first stands, and of what `first_place` answers. Assumes nothing.
-use Rattle.rules.proofs.Base.{◌≤◌, ◌+◌, ℕ, ◌<◌, suc, zero, ◌∙◌, refl, sym, ap, ◌≡◌, true, Bool, false, some, none, Option, [], ◌∷◌, zero-add, suc-add, arith, eqb, leb, length, get_or, eq-eqb, le-leb, leb-true, lt-leb, lt-ltb, eqb-true, le-ltb}
+use Rattle.rules.proofs.Base.{◌≤◌, ◌+◌, ℕ, ◌<◌, suc, zero, ◌∙◌, refl, sym, ap, ◌≡◌, true, Bool, false, Some, None, Option, [], ◌∷◌, zero-add, suc-add, arith, eqb, leb, length, get_or, eq-eqb, le-leb, leb-true, lt-leb, lt-ltb, eqb-true, le-ltb}
 use Rattle.rules.specs.Bytes.{Bytes}
 use Rattle.rules.specs.Tokens.{begins_with, first_place}
 use Rattle.rules.specs.Places.{plus_one}
-use Rattle.matching.specs.declared.Place.TheVariants.{At, Nowhere, TooLong}
-use Rattle.matching.specs.Places.{place_of, placed}
+use Rattle.std.specs.Prelude.{Ok, Err}
+use Rattle.matching.specs.declared.TooLong.{TooLong}
+use Rattle.matching.specs.Places.{placed}
 use Rattle.matching.specs.Borders.{Stands}
 
 -- the first k bytes of the two are the same
@@ -44,7 +45,7 @@ in_rest {p} {xs} {y} {k} {a} w = record { same = λ x h. w.same x h ∙ ap (λ (
 from_rest : {p xs : Bytes} {k a : ℕ} (y : ℕ) → Stands p xs k a → Stands p (y ∷ xs) k (suc a)
 from_rest {p} {xs} {k} {a} y w = record { same = λ x h. w.same x h ∙ sym (ap (λ (n : ℕ). get_or (y ∷ xs) n 0) (suc-add a x)) }
 
-place_here : (p t : Bytes) → begins_with p t ≡ true → first_place p t ≡ some 0
+place_here : (p t : Bytes) → begins_with p t ≡ true → first_place p t ≡ Some 0
 unfolding first_place
 place_here p [] e = rw (e, first_place)
 place_here p (x ∷ xs) e = rw (e, first_place)
@@ -54,7 +55,7 @@ unfolding first_place
 place_later p x xs e = rw (e, first_place)
 
 -- it stands at a and at no place before, or nowhere
-pub place_found : (p t : Bytes) (a : ℕ) → ((b : ℕ) → b < a → Stands p t (length p) b → ⊥) → a + length p ≤ length t → Stands p t (length p) a → first_place p t ≡ some a
+pub place_found : (p t : Bytes) (a : ℕ) → ((b : ℕ) → b < a → Stands p t (length p) b → ⊥) → a + length p ≤ length t → Stands p t (length p) a → first_place p t ≡ Some a
 unfolding plus_one
 place_found p t zero n l w = place_here p t (begins_true p t (omega arith) (from_front w))
 place_found p [] (suc a) n l w = absurd (omega arith)
@@ -62,7 +63,7 @@ place_found p (x ∷ xs) (suc a) n l w =
     place_later p x xs (begins_false p (x ∷ xs) (λ k f. n 0 (omega arith) (at_front f)))
     ∙ ap plus_one (place_found p xs a (λ b h v. n (suc b) (omega arith) (from_rest x v)) (omega arith) (in_rest w))
 
-pub place_none : (p t : Bytes) → ((b : ℕ) → b + length p ≤ length t → Stands p t (length p) b → ⊥) → first_place p t ≡ none
+pub place_none : (p t : Bytes) → ((b : ℕ) → b + length p ≤ length t → Stands p t (length p) b → ⊥) → first_place p t ≡ None
 unfolding first_place plus_one
 place_none p [] n = rw (begins_false p [] (λ k f. n 0 (omega arith) (at_front f)), first_place)
 place_none p (x ∷ xs) n =
@@ -72,55 +73,37 @@ place_none p (x ∷ xs) n =
 -- ---- what `first_place` answers
 
 module _ (p t : Bytes) where
-  pub placed_nowhere : length t < length p → Nowhere ≡ placed p t
-  unfolding placed place_of
-  placed_nowhere h = rw (lt-leb (length p) (length t) h, placed) (sym (ap place_of (place_none p t (λ b l. absurd (omega arith)))))
+  pub placed_nowhere : length t < length p → Ok None ≡ placed p t
+  unfolding placed
+  placed_nowhere h = rw (lt-leb (length p) (length t) h, placed, place_none p t (λ b l. absurd (omega arith)))
 
   module _ (h : length p ≤ length t) where
-    pub placed_first : length p ≤ 32768 → place_of (first_place p t) ≡ placed p t
+    pub placed_first : length p ≤ 32768 → Ok (first_place p t) ≡ placed p t
     unfolding placed
     placed_first l = rw (le-leb (length p) (length t) h, le-ltb 32768 (length p) l, placed)
 
-    pub placed_empty : length p ≡ 0 → At 0 ≡ placed p t
-    unfolding place_of
+    pub placed_empty : length p ≡ 0 → Ok (Some 0) ≡ placed p t
     placed_empty l =
-        sym (ap place_of (place_found p t 0 (λ b m. absurd (omega arith)) (omega arith) (record { same = λ x m. absurd (omega arith) }))) ∙ placed_first (omega arith)
+        let e : first_place p t ≡ Some 0 = place_found p t 0 (λ b m. absurd (omega arith)) (omega arith) (record { same = λ x m. absurd (omega arith) }) in
+        ap Ok (sym e) ∙ placed_first (omega arith)
 
-    pub placed_long : 32768 < length p → TooLong ≡ placed p t
+    pub placed_long : 32768 < length p → Err (record {}) ≡ placed p t
     unfolding placed
     placed_long l = rw (le-leb (length p) (length t) h, lt-ltb 32768 (length p) l, placed)
 
--- ---- for callers
+-- ---- for callers: where the two texts have no more than 65,536 bytes together, the answer is the first place
 
-same_answer : (o u : Option ℕ) → place_of o ≡ place_of u → o ≡ u
-unfolding place_of
-same_answer none none e = refl
-same_answer none (some n) e = cc
-same_answer (some m) none e = cc
-same_answer (some m) (some n) e = cc
-
-never_long : (o : Option ℕ) → place_of o ≡ TooLong → ⊥
-unfolding place_of
-never_long none e = let z : ◌≡◌ {A = ℕ} 0 1 = cc in omega arith
-never_long (some m) e = let z : ◌≡◌ {A = ℕ} 0 1 = cc in omega arith
-
--- where the two texts have no more than 65,536 bytes together, the answer is the first place
 module _ (p t : Bytes) (l : length p + length t ≤ 65536) where
-  pub placed_together : placed p t ≡ place_of (first_place p t)
+  pub placed_together : placed p t ≡ Ok (first_place p t)
   unfolding placed
   placed_together = go (leb (length p) (length t)) refl
     where
-      go : (q : Bool) → leb (length p) (length t) ≡ q → placed p t ≡ place_of (first_place p t)
+      go : (q : Bool) → leb (length p) (length t) ≡ q → placed p t ≡ Ok (first_place p t)
       go true w = let h = leb-true (length p) (length t) w in sym (placed_first p t h (omega arith))
       go false w = rw (w, placed)
 
-  pub answer_at : (n : ℕ) → placed p t ≡ At n → first_place p t ≡ some n
-  unfolding place_of
-  answer_at n e = same_answer (first_place p t) (some n) (sym placed_together ∙ e)
+  pub answer_is : (o : Option ℕ) → placed p t ≡ Ok o → first_place p t ≡ o
+  answer_is o e = let f = placed_together in cc
 
-  pub answer_nowhere : placed p t ≡ Nowhere → first_place p t ≡ none
-  unfolding place_of
-  answer_nowhere e = same_answer (first_place p t) none (sym placed_together ∙ e)
-
-  pub answer_known : placed p t ≡ TooLong → ⊥
-  answer_known e = never_long (first_place p t) (sym placed_together ∙ e)
+  pub answer_known : (x : TooLong) → placed p t ≡ Err x → ⊥
+  answer_known x e = let f = placed_together in cc

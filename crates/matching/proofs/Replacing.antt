@@ -1,7 +1,10 @@
 -- Laws of the loops that make the table of partners, and measure and write the text replaced by a table. Assumes nothing.
-use Rattle.rules.proofs.Base.{◌≤◌, ◌+◌, ℕ, ◌-◌, ◌<◌, suc, ◌∙◌, refl, sym, ap, ◌≡◌, subst, ap₂, true, Bool, false, List, [], ◌++◌, ◌∷◌, append-nil, add-one, arith, eqb, length, drop, take, get_or, length-append, set, drop_of_length-le, length-set, replicate, take-append-drop, get_or-replicate, length-take-le, drop-cons, drop-drop, take_all, take-suc-set, get_or-set_same, get_or-set_other, drop-set-lt, take-append_seam, ext_get_or, append_snoc, ne_eqb, eqb-true, eqb-false}
+use Rattle.rules.proofs.Base.{◌≤◌, ◌+◌, ℕ, ◌-◌, ◌<◌, suc, ◌∙◌, refl, sym, ap, ◌≡◌, subst, ap₂, true, Bool, false, List, [], ◌++◌, ◌∷◌, append-nil, add-one, arith, eqb, ltb, ltb-true, ltb-false, length, drop, take, get_or, length-append, set, drop_of_length-le, length-set, replicate, take-append-drop, get_or-replicate, length-take-le, drop-cons, drop-drop, take_all, take-suc-set, get_or-set_same, get_or-set_other, drop-set-lt, take-append_seam, ext_get_or, append_snoc, ne_eqb, eqb-true, eqb-false}
 use Rattle.rules.specs.Bytes.{Bytes}
-use Rattle.matching.specs.Partners.{is_among, entry_of, partner_table, entry_for, replaced, Fitted}
+use Rattle.std.specs.Prelude.{cond}
+use Rattle.std.specs.List.{count_by}
+use Rattle.std.proofs.lemmas.List.Sums.{sum_by-cons}
+use Rattle.matching.specs.Partners.{put_by, is_among, entry_of, partner_table, entry_for, replaced, Fitted}
 use Rattle.matching.proofs.Partners.{entry_none, entry_one, entry_on, entry_off, table_long, table_at, put_byte}
 
 -- ---- the table
@@ -64,6 +67,13 @@ module _ {bs ys : Bytes} {t : List ℕ} {n : ℕ} (w : Entering bs ys t n) (h : 
 
 -- ---- one byte of the text, at i
 
+one_counted : (t : List ℕ) (x : ℕ) → x < 256 → cond (ltb (get_or t x 0) 257) 1 0 ≡ length (put_by t x)
+one_counted t x h = go (ltb (get_or t x 0) 257) refl
+  where
+    go : (q : Bool) → ltb (get_or t x 0) 257 ≡ q → cond q 1 0 ≡ length (put_by t x)
+    go true w = sym (ap length (put_byte t x h) ∙ entry_one x (get_or t x 0) (ltb-true (get_or t x 0) 257 w))
+    go false w = sym (ap length (put_byte t x h ∙ entry_none x (get_or t x 0) (ltb-false (get_or t x 0) 257 w)))
+
 module _ (t : List ℕ) (s : Bytes) (i : ℕ) where
   replaced_end : length s ≤ i → replaced t (drop i s) ≡ []
   unfolding replaced
@@ -77,27 +87,15 @@ module _ (t : List ℕ) (s : Bytes) (i : ℕ) where
     replaced_off : 257 ≤ get_or t (get_or s i 0) 0 → replaced t (drop i s) ≡ replaced t (drop (i + 1) s)
     replaced_off k = rw (replaced_on, entry_none (get_or s i 0) _ k)
 
--- n bytes stand for the first i bytes of s
-pub record Counting (t : List ℕ) (s : Bytes) (n i : ℕ) : Type 0 where
-  pub within : i ≤ length s
-  pub fewer : n ≤ i
-  pub whole : n + length (replaced t (drop i s)) ≡ length (replaced t s)
-
-module _ {t : List ℕ} {s : Bytes} {n i : ℕ} (w : Counting t s n i) where
-  pub counted : length s ≤ i → n ≡ length (replaced t s)
-  counted h = omega (arith, ap length (replaced_end t s i h), w.whole)
-
-  module _ (h : i < length s) (l : get_or s i 0 < 256) where
-    pub count_one : get_or t (get_or s i 0) 0 < 257 → Counting t s (n + 1) (i + 1)
-    count_one k =
-        let f = w.fewer in
-        let e = length-append (entry_for (get_or s i 0) (get_or t (get_or s i 0) 0)) (replaced t (drop (i + 1) s)) in
-        record { within = omega arith; fewer = omega arith; whole = omega (arith, w.whole, ap length (replaced_on t s i h l), e, entry_one (get_or s i 0) _ k) }
-
-    pub count_none : 257 ≤ get_or t (get_or s i 0) 0 → Counting t s n (i + 1)
-    count_none k =
-        let f = w.fewer in
-        record { within = omega arith; fewer = omega arith; whole = omega (arith, w.whole, ap length (replaced_off t s i h l k)) }
+-- as many bytes stand for s as it has bytes that are not deleted
+pub counted : (t : List ℕ) (s : Bytes) → ((i : ℕ) → get_or s i 0 < 256) → count_by (λ x. ltb (get_or t x 0) 257) s ≡ length (replaced t s)
+unfolding replaced
+counted t [] h = refl
+counted t (x ∷ xs) h =
+    let f = length-append (put_by t x) (replaced t xs) in
+    let g = sum_by-cons (λ y. cond (ltb (get_or t y 0) 257) 1 0) x xs in
+    let m = counted t xs (λ i. h (suc i)) in
+    omega (arith, one_counted t x (h 0))
 
 -- d has j bytes that stand for the first i bytes of s, and behind them what was there before
 pub record Writing (t : List ℕ) (s before d : Bytes) (j i : ℕ) : Type 0 where
@@ -129,7 +127,7 @@ module _ {t : List ℕ} {s before d : Bytes} {j i : ℕ} (w : Writing t s before
     pub written_full : get_or t (get_or s i 0) 0 < 257 → j ≡ length d → Fitted (replaced t s) before false d
     written_full k e =
         let more = replaced t (drop i s) in
-        let some : 1 ≤ length more = omega (arith, ap length (replaced_on t s i h l), length-append (entry_for (get_or s i 0) (get_or t (get_or s i 0) 0)) (replaced t (drop (i + 1) s)), entry_one (get_or s i 0) _ k) in
+        let Some : 1 ≤ length more = omega (arith, ap length (replaced_on t s i h l), length-append (entry_for (get_or s i 0) (get_or t (get_or s i 0) 0)) (replaced t (drop (i + 1) s)), entry_one (get_or s i 0) _ k) in
         let f : d ++ more ≡ replaced t s = ap (λ (q : Bytes). q ++ more) (sym (take_all j d (omega arith))) ∙ w.joined in
         let m : length before < length (replaced t s) = omega (arith, w.long, ap length f, length-append d more) in
         record {

@@ -1,9 +1,9 @@
 -- Laws of borders, and of the two loops that go by them. Assumes nothing.
-use Rattle.rules.proofs.Base.{◌≤◌, ◌+◌, ℕ, ◌-◌, ◌<◌, ◌∙◌, refl, sym, ap, ◌≡◌, subst, ⊎_elim, some, none, List, eq-or-lt_of_le, arith, length, get_or, set, length-set, get_or-set_same, get_or-set_other}
+use Rattle.rules.proofs.Base.{◌≤◌, ◌+◌, ℕ, ◌-◌, ◌<◌, suc, zero, ◌∙◌, refl, sym, ap, ◌≡◌, subst, ⊎_elim, Some, None, List, eq-or-lt_of_le, arith, length, get_or, set, length-set, get_or-set_same, get_or-set_other}
 use borrow.Author.Count.{below_more}
 use Rattle.rules.specs.Bytes.{Bytes}
 use Rattle.rules.specs.Tokens.{first_place}
-use Rattle.matching.specs.Borders.{Stands, Longest, Bordered}
+use Rattle.matching.specs.Borders.{Stands, Longest, Bordered, GoesOn}
 use Rattle.matching.proofs.Places.{place_found, place_none}
 
 same_place : (t : Bytes) {m n : ℕ} → m ≡ n → get_or t m 0 ≡ get_or t n 0
@@ -33,6 +33,64 @@ module _ {p t : Bytes} {k a f : ℕ} (w : Stands p t k a) (l : Longest p k f) wh
       l.longest (a + k - b) (omega arith) (omega arith)
       (record { same = λ x y. v.same x (omega arith) ∙ same_place t (omega arith) ∙ sym (w.same (k - (a + k - b) + x) (omega arith)) })
 
+-- fewer fronts
+pub fronts_to : {p : Bytes} {d : List ℕ} {n : ℕ} (k : ℕ) → Bordered p d n → k ≤ n → Bordered p d k
+fronts_to k o h = record { front = λ j a b. o.front j a (omega arith) }
+
+-- ---- back from border to border, until x goes on
+
+-- p's first j bytes end with their first k, and no longer border of these goes on with x
+pub record Falling (p : Bytes) (x j k : ℕ) : Type 0 where
+  pub shorter : k ≤ j
+  border : Stands p p k (j - k)
+  ruled : (g : ℕ) → k < g → g ≤ j → Stands p p g (j - g) → get_or p g 0 ≡ x → ⊥
+
+pub fall_start : (p : Bytes) (x j : ℕ) → Falling p x j j
+fall_start p x j =
+    record {
+      shorter = omega arith;
+      border = record { same = λ y h. same_place p (omega arith) };
+      ruled = λ g h l. absurd (omega arith);
+    }
+
+module _ {p : Bytes} {x j k : ℕ} (w : Falling p x j k) where
+  pub fall_border : {d : List ℕ} → Bordered p d j → 0 < k → Longest p k (get_or d (k - 1) 0)
+  fall_border o z = let s = w.shorter in o.front k z (omega arith)
+
+  pub fall_on : get_or p k 0 ≡ x → GoesOn p j x (k + 1)
+  fall_on e =
+      let s = w.shorter in
+      record {
+        within = omega arith;
+        stands = λ f h. let m : k ≡ f = omega arith in subst (λ (y : ℕ). Stands p p y (j - y) × (get_or p y 0 ≡ x)) m (w.border, e);
+        longest = λ g h l. w.ruled g (omega arith) l;
+      }
+
+  -- x does not follow
+  module _ (n : get_or p k 0 ≡ x → ⊥) where
+    -- nor does it a border of k bytes or more
+    ruled_from : (g : ℕ) → k ≤ g → g ≤ j → Stands p p g (j - g) → get_or p g 0 ≡ x → ⊥
+    ruled_from g h l v e =
+        let longer : k < g → ⊥ = λ m. w.ruled g m l v e in
+        n (same_place p (omega arith) ∙ e)
+
+    pub fall_none : k ≡ 0 → GoesOn p j x 0
+    fall_none z = record { within = omega arith; stands = λ f h. absurd (omega arith); longest = λ g h. ruled_from g (omega arith) }
+
+    pub fall_back : {f : ℕ} → Longest p k f → Falling p x j f
+    fall_back {f} l =
+        let s = w.shorter in
+        let t = l.shorter in
+        let m : j - k + (k - f) ≡ j - f = omega arith in
+        record {
+          shorter = omega arith;
+          border = subst (λ (a : ℕ). Stands p p f a) m (border_stands w.border l);
+          ruled =
+              λ g h o v e.
+              let before : k ≤ g → ⊥ = λ i. ruled_from g i o v e in
+              none_between w.border l (j - g) g (omega arith) (omega arith) (omega arith) v;
+        }
+
 -- ---- one step of either loop
 
 -- p's first k bytes end at i in t; and at no place b before theirs, from `low` on, do its first q b bytes stand
@@ -41,51 +99,38 @@ record Tracked (p t : Bytes) (q : ℕ → ℕ) (low k i : ℕ) : Type 0 where
   stands : Stands p t k (i - k)
   ruled : (b : ℕ) → low ≤ b → b < i - k → Stands p t (q b) b → ⊥
 
-module _ {p t : Bytes} {q : ℕ → ℕ} {low k i : ℕ} (w : Tracked p t q low k i) where
-  same_byte : get_or p k 0 ≡ get_or t i 0 → Tracked p t q low (k + 1) (i + 1)
-  same_byte e =
-      let r = w.reach in
-      let m : i - k ≡ i + 1 - (k + 1) = omega arith in
+-- with the next byte r bytes end; and q b bytes from any place b of the k bytes reach beyond it
+module _ {p t : Bytes} {q : ℕ → ℕ} {low k i r : ℕ} (w : Tracked p t q low k i) (o : GoesOn p k (get_or t i 0) r) where
+  ends : Stands p t r (i + 1 - r)
+  ends = go r refl
+    where
+      go : (m : ℕ) → m ≡ r → Stands p t m (i + 1 - m)
+      go zero e = empty_front p t (i + 1 - 0)
+      go (suc f) e =
+          let h = o.within in
+          let u = w.reach in
+          let v = o.stands f (omega arith) in
+          let front : Stands p t f (i - f) = record { same = λ x l. v.0.same x l ∙ w.stands.same (k - f + x) (omega arith) ∙ same_place t (omega arith) } in
+          let m : f + 1 ≡ suc f = omega arith in
+          let n : i - f ≡ i + 1 - suc f = omega arith in
+          subst (λ (y : ℕ). Stands p t y (i + 1 - suc f)) m
+          (subst (λ (a : ℕ). Stands p t (f + 1) a) n (longer_front front (v.1 ∙ same_place t (omega arith))))
+
+  onward : ((b : ℕ) → i - k ≤ b → b ≤ i → i < q b + b) → Tracked p t q low r (i + 1)
+  onward beyond =
+      let h = o.within in
+      let u = w.reach in
       record {
         reach = omega arith;
-        stands = subst (λ (a : ℕ). Stands p t (k + 1) a) m (longer_front w.stands (e ∙ same_place t (omega arith)));
-        ruled = λ b h l. w.ruled b h (omega arith);
+        stands = ends;
+        ruled =
+            λ b l m v.
+            let before : b < i - k → ⊥ = λ n. w.ruled b l n v in
+            let far = beyond b (omega arith) (omega arith) in
+            o.longest (i - b) (omega arith) (omega arith)
+            (record { same = λ x y. v.same x (omega arith) ∙ same_place t (omega arith) ∙ sym (w.stands.same (k - (i - b) + x) (omega arith)) })
+            (v.same (i - b) (omega arith) ∙ same_place t (omega arith));
       }
-
-  -- the next byte is another one, and q b bytes from any place b of these reach beyond it
-  module _ (d : get_or p k 0 ≡ get_or t i 0 → ⊥) (beyond : (b : ℕ) → i - k ≤ b → b ≤ i → i < q b + b) where
-    -- so they do not stand where the front begins
-    ruled_here : (b : ℕ) → low ≤ b → b < i - k + 1 → Stands p t (q b) b → ⊥
-    ruled_here b h l v =
-        let r = w.reach in
-        let before : b < i - k → ⊥ = λ m. w.ruled b h m v in
-        let here : b ≡ i - k → ⊥ = λ m. let f = beyond b (omega arith) (omega arith) in d (v.same k (omega arith) ∙ same_place t (omega arith)) in
-        omega arith
-
-    past_byte : k ≡ 0 → Tracked p t q low k (i + 1)
-    past_byte z =
-        record {
-          reach = omega arith;
-          stands = rw z (empty_front p t (i + 1 - 0));
-          ruled = λ b h l. ruled_here b h (omega arith);
-        }
-
-    back_to : {f : ℕ} → Longest p k f → Tracked p t q low f i
-    back_to {f} l =
-        let r = w.reach in
-        let s = l.shorter in
-        let m : i - k + (k - f) ≡ i - f = omega arith in
-        record {
-          reach = omega arith;
-          stands = subst (λ (a : ℕ). Stands p t f a) m (border_stands w.stands l);
-          ruled =
-              λ b h o v.
-              let before : b ≤ i - k → ⊥ = λ g. ruled_here b h (omega arith) v in
-              let after : i - k < b → ⊥ =
-              λ g. let y = beyond b (omega arith) (omega arith) in none_between w.stands l b (q b) g (omega arith) (omega arith) v
-              in
-              omega arith;
-        }
 
 -- ---- the search
 
@@ -104,42 +149,27 @@ search_start p t h =
     }
 
 module _ {p t : Bytes} {k i : ℕ} (w : Searching p t k i) where
-  pub search_reach : k ≤ i
-  search_reach = w.tracked.reach
-
-  pub search_lost : length t ≤ i → first_place p t ≡ none
+  pub search_lost : length t ≤ i → first_place p t ≡ None
   search_lost h =
       let l = w.less in
       let r = w.tracked.reach in
       place_none p t (λ b m. w.tracked.ruled b (omega arith) (omega arith))
 
-  pub search_border : {d : List ℕ} → Bordered p d (length p) → (k ≡ 0 → ⊥) → Longest p k (get_or d (k - 1) 0)
-  search_border o z = let l = w.less in o.front k (omega arith) (omega arith)
+  -- r bytes end with the next byte
+  module _ {r : ℕ} (h : i < length t) (o : GoesOn p k (get_or t i 0) r) where
+    next : Tracked p t (λ b. length p) 0 r (i + 1)
+    next = let l = w.less in onward w.tracked o (λ b m n. omega arith)
 
-  module _ (h : i < length t) where
-    pub search_on : get_or p k 0 ≡ get_or t i 0 → (k + 1 ≡ length p → ⊥) → Searching p t (k + 1) (i + 1)
-    search_on e n = let l = w.less in record { less = omega arith; inside = omega arith; tracked = same_byte w.tracked e }
+    pub search_reach : r ≤ i + 1
+    search_reach = next.reach
 
-    pub search_found : get_or p k 0 ≡ get_or t i 0 → k + 1 ≡ length p → first_place p t ≡ some (i + 1 - (k + 1))
-    search_found e n =
-        let s = same_byte w.tracked e in
-        let r = s.reach in
-        place_found p t (i + 1 - (k + 1)) (λ b. s.ruled b (omega arith)) (omega arith) (subst (λ (x : ℕ). Stands p t x (i + 1 - (k + 1))) n s.stands)
+    pub search_on : (r ≡ length p → ⊥) → Searching p t r (i + 1)
+    search_on n = let l = w.less in let m = o.within in record { less = omega arith; inside = omega arith; tracked = next }
 
-    -- the next byte is another one
-    module _ (n : get_or p k 0 ≡ get_or t i 0 → ⊥) where
-      beyond : (b : ℕ) → i - k ≤ b → b ≤ i → i < length p + b
-      beyond b m o = let l = w.less in omega arith
-
-      pub search_past : k ≡ 0 → Searching p t k (i + 1)
-      search_past z = record { less = w.less; inside = omega arith; tracked = past_byte w.tracked n beyond z }
-
-      pub search_back : {d : List ℕ} → Bordered p d (length p) → (k ≡ 0 → ⊥) → Searching p t (get_or d (k - 1) 0) i
-      search_back o z =
-          let f = search_border o z in
-          let l = w.less in
-          let s = f.shorter in
-          record { less = omega arith; inside = w.inside; tracked = back_to w.tracked n beyond f }
+    pub search_found : r ≡ length p → first_place p t ≡ Some (i + 1 - r)
+    search_found n =
+        let m = next.reach in
+        place_found p t (i + 1 - r) (λ b. next.ruled b (omega arith)) (omega arith) (subst (λ (x : ℕ). Stands p t x (i + 1 - r)) n next.stands)
 
 -- ---- the table of borders
 
@@ -165,67 +195,40 @@ more_fronts {p} {d} {i} f o h l = record { front = λ k a b. ⊎_elim (new k) (o
         rw (get_or-set_other d i (k - 1) f 0 g) (o.front k a (omega arith))
 
 -- k bytes are a border of the first i, no longer one goes on with the next byte, and the table has the fronts up to i
-pub record Filling (p : Bytes) (before d : List ℕ) (k i : ℕ) : Type 0 where
+pub record Filling (p : Bytes) (d : List ℕ) (k i : ℕ) : Type 0 where
   pub inside : i ≤ length p
   pub less : k < i
   pub room : length p ≤ length d
-  pub long : length d ≡ length before
   tracked : Tracked p p (λ b. i + 1 - b) 1 k i
   pub fronts : Bordered p d i
 
-pub fill_start : (p : Bytes) (d : List ℕ) → 0 < length p → length p ≤ length d → Filling p (set d 0 0) (set d 0 0) 0 1
+pub fill_start : (p : Bytes) (d : List ℕ) → 0 < length p → length p ≤ length d → Filling p (set d 0 0) 0 1
 fill_start p d h l =
     record {
       inside = h;
       less = omega arith;
       room = rw (length-set d 0 0) l;
-      long = refl;
       tracked = record { reach = omega arith; stands = empty_front p p (1 - 0); ruled = λ b m n. absurd (omega arith) };
       fronts =
           more_fronts {d = d} {i = 0} 0 (record { front = λ k m n. absurd (omega arith) }) (omega arith)
           (record { shorter = omega arith; border = empty_front p p (1 - 0); longest = λ g m n. absurd (omega arith) });
     }
 
-module _ {p : Bytes} {before d : List ℕ} {k i : ℕ} (w : Filling p before d k i) where
+module _ {p : Bytes} {d : List ℕ} {k i : ℕ} (w : Filling p d k i) where
   pub fill_done : length p ≤ i → Bordered p d (length p)
   fill_done h = record { front = λ j a b. w.fronts.front j a (omega arith) }
 
-  pub fill_border : (k ≡ 0 → ⊥) → Longest p k (get_or d (k - 1) 0)
-  fill_border z = let o = w.less in w.fronts.front k (omega arith) (omega arith)
-
-  module _ (h : i < length p) where
-    -- the longest border of one byte more goes into the table
-    fill_next : (f : ℕ) → Tracked p p (λ b. i + 1 - b) 1 f (i + 1) → f < i + 1 → Filling p before (set d i f) f (i + 1)
-    fill_next f v m =
-        let r = w.room in
-        record {
-          inside = omega arith;
-          less = m;
-          room = rw (length-set d i f) r;
-          long = length-set d i f ∙ w.long;
-          tracked = widened v (λ b. omega arith);
-          fronts = more_fronts f w.fronts (omega arith) (longest_tracked v m);
-        }
-
-    pub fill_on : get_or p k 0 ≡ get_or p i 0 → Filling p before (set d i (k + 1)) (k + 1) (i + 1)
-    fill_on e = let o = w.less in fill_next (k + 1) (same_byte w.tracked e) (omega arith)
-
-    module _ (n : get_or p k 0 ≡ get_or p i 0 → ⊥) where
-      pub fill_past : k ≡ 0 → Filling p before (set d i 0) k (i + 1)
-      fill_past z =
-          subst (λ (x : ℕ). Filling p before (set d i x) k (i + 1)) z
-          (fill_next k (past_byte w.tracked n (λ b a c. omega arith) z) (omega arith))
-
-      pub fill_back : (k ≡ 0 → ⊥) → Filling p before d (get_or d (k - 1) 0) i
-      fill_back z =
-          let f = fill_border z in
-          let o = w.less in
-          let s = f.shorter in
-          record {
-            inside = w.inside;
-            less = omega arith;
-            room = w.room;
-            long = w.long;
-            tracked = back_to w.tracked n (λ b a c. omega arith) f;
-            fronts = w.fronts;
-          }
+  -- the longest border of one byte more goes into the table
+  pub fill_on : {r : ℕ} → i < length p → GoesOn p k (get_or p i 0) r → Filling p (set d i r) r (i + 1)
+  fill_on {r} h o =
+      let l = w.less in
+      let m = o.within in
+      let n = w.room in
+      let v = onward w.tracked o (λ b a c. omega arith) in
+      record {
+        inside = omega arith;
+        less = omega arith;
+        room = rw (length-set d i r) n;
+        tracked = widened v (λ b. omega arith);
+        fronts = more_fronts r w.fronts (omega arith) (longest_tracked v (omega arith));
+      }

@@ -15,3 +15,9 @@ pub record Longest (p : Bytes) (k f : ℕ) : Type 0 where
 -- the table has that length for each front of p up to n bytes
 pub record Bordered (p : Bytes) (t : List ℕ) (n : ℕ) : Type 0 where
   pub front : (k : ℕ) → 0 < k → k ≤ n → Longest p k (get_or t (k - 1) 0)
+
+-- where p's first k bytes are followed by x: of the fronts of p that they and x end with, of k + 1 bytes at most, the longest has r bytes
+pub record GoesOn (p : Bytes) (k x r : ℕ) : Type 0 where
+  pub within : r ≤ k + 1
+  pub stands : (f : ℕ) → r ≡ f + 1 → Stands p p f (k - f) × (get_or p f 0 ≡ x)
+  pub longest : (g : ℕ) → r ≤ g → g ≤ k → Stands p p g (k - g) → get_or p g 0 ≡ x → ⊥

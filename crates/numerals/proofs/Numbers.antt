@@ -1,11 +1,8 @@
 -- Laws of 32-bit signed numbers and their bits. Assumes nothing.
-use Rattle.rules.proofs.Base.{◌≤◌, ℕ, ◌-◌, suc, zero, ◌^◌, ◌%◌, ◌∙◌, refl, sym, ◌≡◌, subst, true, Bool, false, some, none, Option, [], ◌∷◌, arith, eqb, leb, pos, ℤ, negsuc, neg_ℤ, leb-true, lt-ltb, le-ltb}
+use Rattle.rules.proofs.Base.{◌≤◌, ℕ, ◌-◌, suc, zero, ◌^◌, ◌%◌, refl, ◌≡◌, subst, true, Bool, false, Some, None, Option, [], ◌∷◌, arith, eqb, leb, pos, ℤ, negsuc, neg_ℤ, leb-true, lt-ltb, le-ltb}
 use Rattle.rules.specs.Bytes.{Bytes}
 use Rattle.rules.specs.Words.{signed_value, wrapped}
 use Rattle.rules.specs.Numerals.{natural, up_to, as_signed, number}
-use Rattle.numerals.specs.declared.Decimal.{Decimal}
-use Rattle.numerals.specs.declared.Decimal.TheVariants as read
-use Rattle.numerals.specs.Answers.{decimal_of}
 
 -- a number of 32 bits: from -2 ^ 31, which is `negsuc 2147483647`, to 2 ^ 31 - 1
 abbrev pub Signed : ℤ → Type 0
@@ -36,45 +33,22 @@ signed_bits (negsuc n) h =
     rw e (bits_minus (4294967295 - n) n (omega arith) (omega arith))
 
 -- what a text writes within a limit
-limited : (f : ℕ → ℤ) (l : ℕ) → ((n : ℕ) → n ≤ l → Signed (f n)) → (o : Option ℕ) (z : ℤ) → as_signed f (up_to l o) ≡ some z → Signed z
+limited : (f : ℕ → ℤ) (l : ℕ) → ((n : ℕ) → n ≤ l → Signed (f n)) → (o : Option ℕ) (z : ℤ) → as_signed f (up_to l o) ≡ Some z → Signed z
 unfolding as_signed up_to
-limited f l g none z e = let w : ◌≡◌ {A = ℕ} 0 1 = cc in absurd (omega arith)
-limited f l g (some n) z e = go (leb n l) refl e
+limited f l g None z e = let w : ◌≡◌ {A = ℕ} 0 1 = cc in absurd (omega arith)
+limited f l g (Some n) z e = go (leb n l) refl e
   where
-    go : (t : Bool) → leb n l ≡ t → as_signed f (elim t [ true ↦ some n | false ↦ none ]) ≡ some z → Signed z
+    go : (t : Bool) → leb n l ≡ t → as_signed f (elim t [ true ↦ Some n | false ↦ None ]) ≡ Some z → Signed z
     go true q k = let m : f n ≡ z = cc in subst Signed m (g n (leb-true n l q))
     go false q k = let w : ◌≡◌ {A = ℕ} 0 1 = cc in absurd (omega arith)
 
-pub number_range : (w : Bytes) (z : ℤ) → number w ≡ some z → Signed z
+pub number_range : (w : Bytes) (z : ℤ) → number w ≡ Some z → Signed z
 unfolding number
 number_range [] z e = let w : ◌≡◌ {A = ℕ} 0 1 = cc in absurd (omega arith)
 number_range (x ∷ xs) z e = go (eqb x 45) e
   where
     go : (t : Bool)
-        → elim t [ true ↦ as_signed (λ n. neg_ℤ (pos n)) (up_to 2147483648 (natural 10 xs)) | false ↦ as_signed pos (up_to 2147483647 (natural 10 (x ∷ xs))) ] ≡ some z
+        → elim t [ true ↦ as_signed (λ n. neg_ℤ (pos n)) (up_to 2147483648 (natural 10 xs)) | false ↦ as_signed pos (up_to 2147483647 (natural 10 (x ∷ xs))) ] ≡ Some z
         → Signed z
     go true q = limited (λ n. neg_ℤ (pos n)) 2147483648 signed_neg (natural 10 xs) z q
     go false q = limited pos 2147483647 (λ n h. h) (natural 10 (x ∷ xs)) z q
-
--- what was read, by the bits that an answer has
-pub record Value (o : Option ℤ) (bits : ℕ) : Type 0 where
-  pub value : ℤ
-  pub is : o ≡ some value
-  pub by_bits : bits ≡ wrapped value
-
-module _ {o : Option ℤ} {d : Decimal} (e : d ≡ decimal_of o) where
-  pub decimal_none : d ≡ read.NoNumber → o ≡ none
-  unfolding decimal_of
-  decimal_none k = go o (sym e ∙ k)
-    where
-      go : (o : Option ℤ) → decimal_of o ≡ read.NoNumber → o ≡ none
-      go none m = refl
-      go (some z) m = let w : ◌≡◌ {A = ℕ} 0 1 = cc in absurd (omega arith)
-
-  pub decimal_some : (bits : ℕ) → d ≡ read.Number bits → Value o bits
-  unfolding decimal_of
-  decimal_some bits k = go o (sym e ∙ k)
-    where
-      go : (o : Option ℤ) → decimal_of o ≡ read.Number bits → Value o bits
-      go none m = let w : ◌≡◌ {A = ℕ} 0 1 = cc in absurd (omega arith)
-      go (some z) m = record { value = z; is = refl; by_bits = cc }

@@ -1,11 +1,15 @@
 -- Laws of digits that are counted and written. Assumes nothing.
-use Rattle.rules.proofs.Base.{◌≤◌, ◌+◌, ℕ, ◌-◌, ◌<◌, suc, zero, ◌/◌, ◌%◌, max, ◌∙◌, refl, sym, ap, ◌≡◌, true, Bool, false, ◌&&◌, [], ◌++◌, ◌∷◌, append_assoc, append-nil, div-lt_self, add-one, arith, leb, ltb, pos, ℤ, negsuc, nat_abs, length, drop, take, length-append, length-drop, set, drop_of_length-le, length-set, length-take, replicate, take-append-drop, length-replicate, replicate-append-replicate, length-take-le, take-suc-set, take_at, drop_at, set_split, take-take, take-set-le, drop-length, take-length, eq-eqb, ne_eqb, leb-true, ltb-true, ltb-false, lt-ltb, le-ltb}
+use Rattle.rules.proofs.Base.{◌≤◌, ◌+◌, ℕ, ◌-◌, ◌<◌, suc, zero, ◌/◌, ◌%◌, max, ◌^◌, ◌*◌, pow-suc, mul-le-mul, le_refl, not, true≢false, ◌∙◌, refl, sym, ap, ◌≡◌, true, Bool, false, [], ◌++◌, ◌∷◌, append_assoc, append-nil, div-lt_self, arith, ltb, pos, ℤ, negsuc, nat_abs, length, drop, take, length-append, length-drop, set, drop_of_length-le, length-set, length-take, replicate, take-append-drop, length-replicate, length-take-le, take_at, drop_at, set_split, take-take, take-set-le, drop-length, eq-eqb, ne_eqb, eqb, eqb-true, eqb-false, not-true, not-false, ltb-true, ltb-false, lt-ltb, le-ltb}
+use Rattle.std.specs.Prelude.{Option, Some, None}
+use Rattle.std.proofs.Common.{mul_assoc, mul-one}
+use Rattle.std.proofs.lemmas.Nat.{le-div, div_below}
+use Rattle.std.proofs.lemmas.Bool.Decides.{nat_tests}
+use Rattle.std.specs.Option.{option_eq}
+use native.Mathlib.Numerals.{unary_clauses}
+use lib.Signed.{lt_z}
 use borrow.Rule.Slice.PartMut.{put_mid}
 use Rattle.rules.specs.Bytes.{Bytes}
-use Rattle.rules.specs.Words.{signed_value}
 use Rattle.rules.specs.Numerals.{digit_byte, digits_by, digits_in, zero_filled, written_in}
-use Rattle.numerals.specs.declared.Length.{Length}
-use Rattle.numerals.specs.declared.Length.TheVariants as measured
 use Rattle.numerals.specs.Answers.{is_radix, length_of, Written}
 
 -- the digits of v by a bound: one below the radix, and the last behind those of the quotient from there on
@@ -28,31 +32,31 @@ module _ (k radix v : ℕ) where
 pub quotient_less : (radix v : ℕ) → 2 ≤ radix → radix ≤ v → v / radix < v
 quotient_less radix v p h = div-lt_self (omega arith) (omega arith)
 
--- what the loop of `digit_count` keeps: n digits are counted, the first of what is left among them
-abbrev pub Counted : ℕ → ℕ → ℕ → ℕ → Type 0
-Counted radix v left n = (j : ℕ) × (left < j) × (n + length (digits_by j radix left) ≡ 1 + length (digits_in radix v))
+power_positive : (radix k : ℕ) → 2 ≤ radix → 0 < radix ^ k
+power_positive radix zero p = let z : radix ^ 0 ≡ 1 = simp unary_clauses in omega arith
+power_positive radix (suc k) p = rw (pow-suc radix k) (omega (arith, mul-le-mul (power_positive radix k p) p))
 
-pub counts_first : (radix v : ℕ) → Counted radix v v 1
+-- how many digits a number has, between two powers of the radix; zero has as many as one
+digits_between : (j k radix v : ℕ) → 2 ≤ radix → v < j → radix ^ k ≤ max v 1 → max v 1 < radix * radix ^ k → k + 1 ≡ length (digits_by j radix v)
+digits_between zero k radix v p h a b = absurd (omega arith)
+digits_between (suc j) zero radix v p h a b =
+    let y : radix ^ 0 ≡ 1 = simp unary_clauses in
+    let z : radix * radix ^ 0 ≡ radix = rw y (mul-one radix) in
+    rw (last_digit j radix v (omega arith))
+digits_between (suc j) (suc k) radix v p h a b =
+    let o = power_positive radix k p in
+    let c = rw (pow-suc radix k) at a in
+    let d = rw (pow-suc radix k, ← mul_assoc) at b in
+    let q : 1 * radix ≤ radix ^ k * radix = mul-le-mul o (le_refl radix) in
+    let n : 2 * 1 ≤ radix * radix ^ k = mul-le-mul p o in
+    let l = quotient_less radix v p (omega arith) in
+    let i = le-div (radix ^ k) v radix (omega arith) (omega arith) in
+    let e = div_below v radix (radix * radix ^ k) (omega arith) (omega arith) in
+    rw (more_digits j radix v (omega arith), length-append) (omega (arith, digits_between j k radix (v / radix) p (omega arith) (omega arith) (omega arith)))
+
+pub digits_counted : (k radix v : ℕ) → 2 ≤ radix → radix ^ k ≤ max v 1 → max v 1 < radix * radix ^ k → k + 1 ≡ length (digits_in radix v)
 unfolding digits_in
-counts_first radix v = (suc v, omega arith, refl)
-
-module _ (radix v left n : ℕ) (w : Counted radix v left n) where
-  pub counts_all : left < radix → n ≡ length (digits_in radix v)
-  counts_all h = go w.0 w.1 w.2
-    where
-      go : (j : ℕ) → left < j → n + length (digits_by j radix left) ≡ 1 + length (digits_in radix v) → n ≡ length (digits_in radix v)
-      go zero l e = absurd (omega arith)
-      go (suc j) l e = let f = rw (last_digit j radix left h) at e in omega arith
-
-  pub counts_on : 2 ≤ radix → radix ≤ left → Counted radix v (left / radix) (n + 1)
-  counts_on p h = go w.0 w.1 w.2
-    where
-      go : (j : ℕ) → left < j → n + length (digits_by j radix left) ≡ 1 + length (digits_in radix v) → Counted radix v (left / radix) (n + 1)
-      go zero l e = absurd (omega arith)
-      go (suc j) l e =
-          let f = rw (more_digits j radix left h, length-append) at e in
-          let q = quotient_less radix left p h in
-          (j, omega arith, omega arith)
+digits_counted k radix v p a b = digits_between (suc v) k radix v p (omega arith) a b
 
 -- what the loop of `write_digits` keeps: behind the place i stand the last digits of v, those of `left` are still to be written, and
 -- the front is as it was
@@ -134,23 +138,6 @@ module _ (radix v : ℕ) (before : Bytes) (left i : ℕ) (out : Bytes) (w : Digi
     pub digits_all : left < radix → a ≡ digit_byte left → (i - 1 ≡ length before - length (digits_in radix v)) × (set out (i - 1) a ≡ take (i - 1) before ++ digits_in radix v)
     digits_all = first_stored radix v before left (i - 1) out before_place a
 
--- zeros from the front
-pub zeros_on : (i : ℕ) (out : Bytes) → i < length out → take i out ≡ replicate i 48 → take (i + 1) (set out i 48) ≡ replicate (i + 1) 48
-zeros_on i out h e = rw (add-one i, take-suc-set out i 48 h, e) (replicate-append-replicate i 1 48 ∙ ap (λ (n : ℕ). replicate n 48) (add-one i))
-
-pub zeros_all : (i : ℕ) (out : Bytes) → i ≡ length out → take i out ≡ replicate i 48 → out ≡ replicate (length out) 48
-zeros_all i out h e = rw (h, take-length out) at e
-
--- the number that bits stand for, its sign apart
-module _ (x : ℕ) where
-  pub abs_plain : x < 2147483648 → x ≡ nat_abs (signed_value x)
-  unfolding signed_value
-  abs_plain h = rw (lt-ltb x 2147483648 h)
-
-  pub abs_minus : 2147483648 ≤ x → 4294967295 - x + 1 ≡ nat_abs (signed_value x)
-  unfolding signed_value
-  abs_minus h = rw (le-ltb x 2147483648 h) (omega arith)
-
 -- a digit's byte
 pub digit_small : (d : ℕ) → d < 10 → 48 + d ≡ digit_byte d
 unfolding digit_byte
@@ -171,33 +158,34 @@ filled_again least ds =
     let e : length (zero_filled least ds) - length ds ≡ least - length ds = omega (arith, length_filled least ds) in
     rw e
 
--- the text of bits x with the magnitude m: how long it is, and what fills a slice of that length
-module _ (x radix m : ℕ) (e : m ≡ nat_abs (signed_value x)) where
-  module _ (h : x < 2147483648) (least : ℕ) where
-    plain : written_in radix least (signed_value x) ≡ zero_filled least (digits_in radix m)
-    unfolding signed_value written_in
-    plain = rw (e, lt-ltb x 2147483648 h)
+-- the text of a number with the magnitude m, by its sign
+plain : (x : ℤ) (radix m : ℕ) → m ≡ nat_abs x → lt_z x (pos 0) ≡ false → (least : ℕ) → written_in radix least x ≡ zero_filled least (digits_in radix m)
+unfolding written_in
+plain (pos n) radix m e h least = rw e
+plain (negsuc n) radix m e h least = absurd (true≢false h)
 
-    pub plain_length_lem : length (written_in radix least (signed_value x)) ≡ max least (length (digits_in radix m))
-    plain_length_lem = rw plain (length_filled least (digits_in radix m))
+minus : (x : ℤ) (radix m : ℕ) → m ≡ nat_abs x → lt_z x (pos 0) ≡ true → (least : ℕ) → written_in radix least x ≡ 45 ∷ zero_filled least (digits_in radix m)
+unfolding written_in
+minus (pos n) radix m e h least = absurd (omega (arith, ltb-true n 0 h))
+minus (negsuc n) radix m e h least = rw e
 
-    pub fills_plain : (before after : Bytes) → after ≡ zero_filled (length before) (digits_in radix m) → length (written_in radix least (signed_value x)) ≡ length before
-        → after ≡ written_in radix least (signed_value x)
-    fills_plain before after f g = f ∙ rw (← g, plain) (filled_again least (digits_in radix m))
+-- how long it is, and what fills a slice of that length
+module _ (x : ℤ) (radix m : ℕ) (e : m ≡ nat_abs x) (least : ℕ) where
+  module _ (h : lt_z x (pos 0) ≡ false) where
+    pub plain_length_lem : length (written_in radix least x) ≡ max (length (digits_in radix m)) least
+    plain_length_lem = rw (plain x radix m e h least) (length_filled least (digits_in radix m) ∙ omega arith)
 
-  module _ (h : 2147483648 ≤ x) (least : ℕ) where
-    minus : written_in radix least (signed_value x) ≡ 45 ∷ zero_filled least (digits_in radix m)
-    unfolding signed_value written_in
-    minus = rw (e, le-ltb x 2147483648 h)
+    pub fills_plain : (before after : Bytes) → after ≡ zero_filled (length before) (digits_in radix m) → length (written_in radix least x) ≡ length before → after ≡ written_in radix least x
+    fills_plain before after f g = f ∙ rw (← g, plain x radix m e h least) (filled_again least (digits_in radix m))
 
-    pub minus_length : length (written_in radix least (signed_value x)) ≡ max least (length (digits_in radix m)) + 1
-    minus_length = rw (minus, length_filled least (digits_in radix m)) (sym (add-one _))
+  module _ (h : lt_z x (pos 0) ≡ true) where
+    pub minus_length : length (written_in radix least x) ≡ max (length (digits_in radix m)) least + 1
+    minus_length = rw (minus x radix m e h least, length_filled least (digits_in radix m)) (omega arith)
 
-    pub fills_minus : (before after : Bytes) → after ≡ 45 ∷ zero_filled (length before - 1) (digits_in radix m) → length (written_in radix least (signed_value x)) ≡ length before
-        → after ≡ written_in radix least (signed_value x)
+    pub fills_minus : (before after : Bytes) → after ≡ 45 ∷ zero_filled (length before - 1) (digits_in radix m) → length (written_in radix least x) ≡ length before → after ≡ written_in radix least x
     fills_minus before after f g =
-        let k : length before - 1 ≡ length (zero_filled least (digits_in radix m)) = rw (← g, minus) (omega arith) in
-        f ∙ rw (k, minus, filled_again least (digits_in radix m))
+        let k : length before - 1 ≡ length (zero_filled least (digits_in radix m)) = rw (← g, minus x radix m e h least) (omega arith) in
+        f ∙ rw (k, minus x radix m e h least, filled_again least (digits_in radix m))
 
 -- the digits behind a minus, put back behind it
 module _ (before : Bytes) (h : 0 < length before) where
@@ -215,12 +203,12 @@ module _ (before : Bytes) (h : 0 < length before) where
 
 -- zeros over the front, and the digits behind them
 pub zeros_digits : (before out zeros ds : Bytes) (start : ℕ) → length ds ≤ length before → start ≡ length before - length ds → out ≡ take start before ++ ds
-    → zeros ≡ replicate (length (take start out)) 48 → (start ≡ length (take start out)) × (zeros ++ drop start out ≡ zero_filled (length before) ds)
+    → zeros ≡ replicate (length (take start out)) 48 → zeros ++ drop start out ≡ zero_filled (length before) ds
 unfolding zero_filled
 zeros_digits before out zeros ds start h e f g =
     let l : length (take start before) ≡ start = length-take-le start before (omega arith) in
     let n : length (take start out) ≡ start = rw (f, take_at (take start before) ds start l) l in
-    (sym n, rw (g, n, f, drop_at (take start before) ds start l, ← e))
+    rw (g, n, f, drop_at (take start before) ds start l, ← e)
 
 -- the text with no least count is the shortest
 shortest : (radix least : ℕ) (z : ℤ) → length (written_in radix 0 z) ≤ length (written_in radix least z)
@@ -230,59 +218,55 @@ shortest radix least (negsuc n) = rw (length_filled 0 (digits_in radix (suc n)),
 
 pub radix_range : (radix : ℕ) → is_radix radix ≡ true → (2 ≤ radix) × (radix ≤ 36)
 unfolding is_radix
-radix_range radix e = go (leb 2 radix) (leb radix 36) refl refl e
-  where
-    go : (s t : Bool) → leb 2 radix ≡ s → leb radix 36 ≡ t → s && t ≡ true → (2 ≤ radix) × (radix ≤ 36)
-    go true true f g h = (leb-true 2 radix f, leb-true radix 36 g)
-    go true false f g h = let z : ◌≡◌ {A = ℕ} 0 1 = cc in absurd (omega arith)
-    go false t f g h = let z : ◌≡◌ {A = ℕ} 0 1 = cc in absurd (omega arith)
+radix_range radix e = grind (arith, nat_tests)
 
--- what `written_length` answers, and what was written by it
+-- what `==` of two lengths says
+pub same_length : (o : Option ℕ) (n : ℕ) → false ≡ not (option_eq eqb o (Some n)) → o ≡ Some n
+same_length None n e = absurd (true≢false (sym e))
+same_length (Some m) n e = ap Some (eqb-true m n (not-false (eqb m n) (sym e)))
+
+pub other_length : (o : Option ℕ) (n : ℕ) → true ≡ not (option_eq eqb o (Some n)) → o ≡ Some n → ⊥
+other_length None n e h = let z : ◌≡◌ {A = ℕ} 0 1 = cc in absurd (omega arith)
+other_length (Some m) n e h = let k : m ≡ n = cc in absurd (eqb-false m n (not-true (eqb m n) (sym e)) k)
+
+-- the length of a text, and that of another slice
 module _ (radix : ℕ) (text : Bytes) where
-  pub good_length : {n : ℕ} → is_radix radix ≡ true → n ≡ length text → measured.Bytes n ≡ length_of radix text
+  pub good_length : is_radix radix ≡ true → length_of radix text ≡ Some (length text)
   unfolding length_of
-  good_length e f = ap measured.Bytes f ∙ rw (e, length_of)
+  good_length e = rw (e, length_of)
 
-  pub bad_length : is_radix radix ≡ false → measured.BadRadix ≡ length_of radix text
+  pub bad_length : is_radix radix ≡ false → length_of radix text ≡ None
   unfolding length_of
   bad_length e = rw (e, length_of)
 
-  module _ {r : Length} (w : r ≡ length_of radix text) where
-    measured_by : {n : ℕ} → r ≡ measured.Bytes n → (is_radix radix ≡ true) × (n ≡ length text)
-    measured_by {n} e = go (is_radix radix) refl
-      where
-        go : (t : Bool) → is_radix radix ≡ t → (is_radix radix ≡ true) × (n ≡ length text)
-        go true f = (f, cc (good_length f refl, w, e))
-        go false f = let z : ◌≡◌ {A = ℕ} 0 1 = cc (bad_length f, w, e) in absurd (omega arith)
+  -- the length is that of a slice
+  fitting : (n : ℕ) → length_of radix text ≡ Some n → (is_radix radix ≡ true) × (length text ≡ n)
+  fitting n e = go (is_radix radix) refl
+    where
+      go : (t : Bool) → is_radix radix ≡ t → (is_radix radix ≡ true) × (length text ≡ n)
+      go true f = (f, cc (good_length f, e))
+      go false f = let z : ◌≡◌ {A = ℕ} 0 1 = cc (bad_length f, e) in absurd (omega arith)
 
-    refused : r ≡ measured.BadRadix → is_radix radix ≡ false
-    refused e = go (is_radix radix) refl
-      where
-        go : (t : Bool) → is_radix radix ≡ t → is_radix radix ≡ false
-        go true f = let z : ◌≡◌ {A = ℕ} 0 1 = cc (good_length f refl, w, e) in absurd (omega arith)
-        go false f = f
+  -- what was written by it
+  pub written_whole : (before after : Bytes) → length_of radix text ≡ Some (length before) → (length text ≡ length before → after ≡ text) → Written (is_radix radix) text before true after
+  written_whole before after e g =
+      let f = fitting (length before) e in
+      let k = eq-eqb (length text) (length before) f.1 in
+      record { fits = rw (f.0, k); written = rw (f.0, k) (g f.1) }
 
-    pub bad_radix : (before : Bytes) → r ≡ measured.BadRadix → Written (is_radix radix) text before false before
-    bad_radix before e = rw (refused e) (record { fits = refl; written = refl })
-
-    pub bad_room : {n : ℕ} (before : Bytes) → r ≡ measured.Bytes n → (n ≡ length before → ⊥) → Written (is_radix radix) text before false before
-    bad_room before e h =
-        let m = measured_by e in
-        let k = ne_eqb (length text) (length before) (λ f. h (m.1 ∙ f)) in
-        record { fits = rw (m.0, k); written = rw (m.0, k) }
-
-    pub good_room : {n : ℕ} (before after : Bytes) → r ≡ measured.Bytes n → n ≡ length before → (length text ≡ length before → after ≡ text)
-        → Written (is_radix radix) text before true after
-    good_room before after e h g =
-        let m = measured_by e in
-        let l = sym m.1 ∙ h in
-        let k = eq-eqb (length text) (length before) l in
-        record { fits = rw (m.0, k); written = rw (m.0, k) (g l) }
+  pub written_none : (before : Bytes) → (length_of radix text ≡ Some (length before) → ⊥) → Written (is_radix radix) text before false before
+  written_none before h = go (is_radix radix) refl
+    where
+      go : (t : Bool) → is_radix radix ≡ t → Written (is_radix radix) text before false before
+      go true f =
+          let k = ne_eqb (length text) (length before) (λ e. h (good_length f ∙ ap Some e)) in
+          record { fits = rw (f, k); written = rw (f, k) }
+      go false f = rw f (record { fits = refl; written = refl })
 
 -- a slice as long as the text has room for the shortest
-pub room_text : (radix least : ℕ) (z : ℤ) (before : Bytes) {r : Length} {n : ℕ} → r ≡ length_of radix (written_in radix least z) → r ≡ measured.Bytes n → n ≡ length before
+pub room_text : (radix least : ℕ) (z : ℤ) (before : Bytes) → length_of radix (written_in radix least z) ≡ Some (length before)
     → (2 ≤ radix) × (radix ≤ 36) × (length (written_in radix 0 z) ≤ length before)
-room_text radix least z before w e h =
-    let m = measured_by radix (written_in radix least z) w e in
-    let k = radix_range radix m.0 in
-    (k.0, k.1, omega (arith, shortest radix least z, m.1))
+room_text radix least z before e =
+    let f = fitting radix (written_in radix least z) (length before) e in
+    let k = radix_range radix f.0 in
+    (k.0, k.1, omega (arith, shortest radix least z, f.1))

@@ -1,11 +1,9 @@
 -- The line that is found by a sheet's words has the reading that a question of the sheet answers. Assumes nothing.
-use Rattle.rules.proofs.Base.{ℕ, suc, zero, ◌<◌, ◌≤◌, ◌+◌, ◌*◌, ◌∙◌, refl, sym, ap, ap₂, ◌≡◌, true, false, Bool, ◌&&◌, List, [], ◌∷◌, ◌++◌, arith, ltb, ltb-true, ltb-false, length, take, drop, get_or, length-take, List·getD-append, get_or-append-add, get_or-take, drop_of_length-le, drop-cons, le_of_suc-le-suc}
+use Rattle.rules.proofs.Base.{ℕ, suc, zero, ◌<◌, ◌≤◌, ◌+◌, ◌*◌, ◌∙◌, refl, sym, ap, ap₂, ◌≡◌, true, false, Bool, ◌&&◌, Some, None, Option, List, [], ◌∷◌, ◌++◌, arith, ltb, ltb-true, ltb-false, length, take, drop, get_or, length-take, List·getD-append, get_or-append-add, get_or-take, drop_of_length-le, drop-cons, le_of_suc-le-suc}
 use Rattle.rules.specs.declared.Value.{Value}
 use Rattle.rules.specs.declared.Value.TheVariants as value
 use Rattle.rules.specs.declared.Entry.{Entry}
 use Rattle.rules.specs.declared.Sheet.{Sheet}
-use Rattle.rules.specs.declared.Lookup.{Lookup}
-use Rattle.rules.specs.declared.Lookup.TheVariants as lookup
 use Rattle.rules.specs.Bytes.{Bytes}
 use Rattle.rules.specs.Sheets.{unused_line, name_in, is_named, first_named, question}
 use Rattle.quenhovach.specs.Sheets.{value_words, line_words, lines_words, sheet_words, name_at, found_from, found_line, FindsReading}
@@ -56,14 +54,14 @@ module _ (s : Sheet) (full : length s.lines ≡ 256) (text name : Bytes) where
   abbrev below : List Entry
   below = take s.count s.lines
 
-  abbrev Found : ℕ → Lookup → Type 0
-  Found n a = (n < 256 → a ≡ lookup.Found (line n).value) × (n ≡ 256 → a ≡ lookup.Absent)
+  abbrev Found : ℕ → Option Value → Type 0
+  Found n a = (n < 256 → a ≡ Some (line n).value) × (n ≡ 256 → a ≡ None)
 
   module _ (k : ℕ) (h : k < 256) where
     at_line : k < s.count → drop k below ≡ line k ∷ drop (suc k) below
     at_line c = drop-cons below k unused_line (rw (length-take s.count s.lines) (omega (arith, c, full, h))) ∙ ap (λ (e : Entry). e ∷ drop (suc k) below) (get_or-take s.count s.lines k unused_line c)
 
-    hit : k < s.count → is_named text name (line k) ≡ true → first_named text name (drop k below) ≡ lookup.Found (line k).value
+    hit : k < s.count → is_named text name (line k) ≡ true → first_named text name (drop k below) ≡ Some (line k).value
     unfolding first_named
     hit c e = rw (at_line c, first_named, e)
 

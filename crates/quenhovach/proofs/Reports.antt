@@ -5,7 +5,7 @@ use Rattle.rules.specs.Bytes.{Bytes}
 use Rattle.rules.specs.Contract.{Buffers, Expanded, report_of}
 use Rattle.rules.specs.declared.Report.{Report}
 use Rattle.rules.specs.declared.SheetReport.{SheetReport}
-use Rattle.rules.specs.Sheets.{SheetExpanded}
+use Rattle.rules.specs.Sheets.{SheetExpanded, sheet_in}
 use Rattle.quenhovach.specs.Reported.{Reported}
 use Rattle.quenhovach.specs.Sheets.{sheet_numbers, sheet_words, SheetInWords}
 
@@ -20,7 +20,7 @@ reported x e =
 
 -- the same of a run that was read as a sheet, with the words of the sheet
 pub sheet_reported :
-    {text set : Bytes} {budget : ℕ} {b a : Buffers} {r : SheetReport} {ns ws : List ℕ} → SheetExpanded text set budget b a r → ns ≡ sheet_numbers r → ws ≡ sheet_words r.sheet
+    {text set : Bytes} {budget : ℕ} {b a : Buffers} {r : SheetReport} {ns ws : List ℕ} → SheetExpanded text set budget b a r → ns ≡ sheet_numbers r → ws ≡ sheet_words (sheet_in r.answer)
     → SheetInWords text set budget b a (get_or ns 0 0) ns ws
 unfolding sheet_numbers
 sheet_reported x e w =
@@ -28,6 +28,6 @@ sheet_reported x e w =
     record {
       number_is = ap (λ (l : List ℕ). get_or l 0 0) n;
       report_is = n;
-      words_are = w ∙ ap (λ (r : SheetReport). sheet_words r.sheet) x.report;
+      words_are = w ∙ ap (λ (r : SheetReport). sheet_words (sheet_in r.answer)) x.report;
       buffers_are = x.buffers;
     }

@@ -1,17 +1,16 @@
 -- The sheet in numbers, as C has it.
-use Rattle.std.specs.Prelude.{ℕ, zero, suc, ◌+◌, ◌*◌, ◌<◌, ◌≡◌, true, false, ◌&&◌, List, [], ◌∷◌, ◌++◌, ltb, get_or}
+use Rattle.std.specs.Prelude.{ℕ, zero, suc, ◌+◌, ◌*◌, ◌<◌, ◌≡◌, true, false, ◌&&◌, List, [], ◌∷◌, ◌++◌, ltb, get_or, Some, None}
 use Rattle.std.specs.Float.{binary64}
 use Rattle.std.specs.Float.Ieee.{to_bits}
 use Rattle.rules.specs.declared.Value.{Value}
 use Rattle.rules.specs.declared.Value.TheVariants as value
 use Rattle.rules.specs.declared.Entry.{Entry}
-use Rattle.rules.specs.declared.Lookup.TheVariants as lookup
 use Rattle.rules.specs.declared.Sheet.{Sheet}
 use Rattle.rules.specs.declared.SheetReport.{SheetReport}
 use Rattle.rules.specs.Bytes.{Bytes}
 use Rattle.rules.specs.Words.{wrapped}
 use Rattle.rules.specs.Contract.{Buffers, left_by, run_in}
-use Rattle.rules.specs.Sheets.{unused_line, is_named, question, most_lines, sheet_read, sheet_number, sheet_detail, sheet_report_of}
+use Rattle.rules.specs.Sheets.{unused_line, is_named, question, most_lines, sheet_read, sheet_in, sheet_number, sheet_detail, sheet_report_of}
 
 -- kind, value and length of a reading: the number's 32 bits, the decimal's 64, or a word's place and length
 unfoldable pub value_words : Value → List ℕ
@@ -39,14 +38,14 @@ sheet_numbers r = sheet_number r.answer ∷ sheet_detail r.answer ∷ r.steps �
 pub record SheetInWords (text set : Bytes) (budget : ℕ) (before after : Buffers) (n : ℕ) (report words : List ℕ) : Type 0 where
   pub number_is : n ≡ sheet_number (sheet_report_of (run_in text set before budget)).answer
   pub report_is : report ≡ sheet_numbers (sheet_report_of (run_in text set before budget))
-  pub words_are : words ≡ sheet_words (sheet_report_of (run_in text set before budget)).sheet
+  pub words_are : words ≡ sheet_words (sheet_in (sheet_report_of (run_in text set before budget)).answer)
   pub buffers_are : after ≡ left_by (run_in text set before budget) before
 
 -- a text is read: n is what is given back, `line` the detail
 pub record ReadInWords (text : Bytes) (n : ℕ) (words : List ℕ) (line : ℕ) : Type 0 where
-  pub number_is : n ≡ sheet_number (sheet_read text).answer
-  pub words_are : words ≡ sheet_words (sheet_read text).sheet
-  pub line_is : line ≡ sheet_detail (sheet_read text).answer
+  pub number_is : n ≡ sheet_number (sheet_read text)
+  pub words_are : words ≡ sheet_words (sheet_in (sheet_read text))
+  pub line_is : line ≡ sheet_detail (sheet_read text)
 
 -- place and length of the k-th line's name, by any words
 unfoldable pub name_at : List ℕ → ℕ → Entry
@@ -63,5 +62,5 @@ found_line words text name = found_from words text name 0 most_lines
 
 -- the words are those of a sheet: the line that is found has the reading that a question of the sheet answers, and where none is found it is absent
 pub record FindsReading (s : Sheet) (text name : Bytes) (k : ℕ) : Type 0 where
-  pub found : k < most_lines → question s text name ≡ lookup.Found (get_or s.lines k unused_line).value
-  pub absent : k ≡ most_lines → question s text name ≡ lookup.Absent
+  pub found : k < most_lines → question s text name ≡ Some (get_or s.lines k unused_line).value
+  pub absent : k ≡ most_lines → question s text name ≡ None

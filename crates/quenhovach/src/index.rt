@@ -7,8 +7,7 @@ ghost use Rattle.quenhovach.specs.Looked.{IndexedInNumbers, InNumbers};
 pub extern "C" fn quenhovach_lines_build(text: &[u8], words: &mut [u64], totals: &mut [u32]) -> u32
     ensures { IndexedInNumbers text.now words.old totals.old result words.new totals.new }
 {
-    let answer = lines::build(text, words, totals);
-    lines::number_of(answer)
+    lines::number_of(lines::build(text, words, totals))
 }
 
 // The line of a place, by any words and totals; 0 with a refusal, whose number is returned.
@@ -38,7 +37,7 @@ pub extern "C" fn quenhovach_lines_start_of(
 ) -> u32
     ensures { InNumbers (start_of length words.now totals.now line) result start.new }
 {
-    let answer = lines::start_of(length, words, totals, line);
+    let answer = lines::start_of(length, words, totals, line).map(|place| place as u64);
     *start = lines::value_of(answer);
     lines::number_of(answer)
 }

@@ -4,11 +4,10 @@
 ghost use Rattle.std.specs.Prelude.{◌≡◌};
 ghost use Rattle.std.specs.Float.{binary64};
 ghost use Rattle.std.specs.Float.Ieee.{to_bits};
-ghost use Rattle.rules.specs.Words.{wrapped};
-ghost use Rattle.rules.specs.Sheets.{sheet_number, sheet_detail};
+ghost use Rattle.rules.specs.Sheets.{sheet_number, sheet_detail, sheet_in};
 ghost use Rattle.quenhovach.specs.Sheets.{value_words, sheet_words, sheet_numbers, found_line, ReadInWords, SheetInWords};
 
-use rules::{Sheet, SheetAnswer, SheetReport, Value};
+use rules::{Sheet, SheetError, SheetReport, Value};
 
 const LINES: usize = 256;
 
@@ -16,25 +15,14 @@ const LINE_WORDS: usize = 5;
 
 const SHEET_WORDS: usize = 1281;
 
-// The 32 bits of a number.
-fn number_bits(n: i32) -> u32
-    ensures { result ≡ wrapped n }
-{
-    if 0 <= n {
-        n as u32
-    } else {
-        4294967295 - (-1 - n) as u32
-    }
-}
-
 // The 64 bits of a decimal; of all NaNs one pattern.
 fn decimal_bits(x: f64) -> u64
     ensures { result ≡ to_bits binary64 x }
 {
-    if x != x {
+    if x.is_nan() {
         return 9221120237041090560;
     }
-    f64::to_bits(x)
+    x.to_bits()
 }
 
 // Kind, value and length of a reading.
@@ -42,66 +30,72 @@ fn value_words(v: Value) -> [u64; 3]
     ensures { result ≡ value_words v }
 {
     match v {
-        Value::Number(n) => [1, number_bits(n) as u64, 0],
+        Value::Number(n) => [1, u64::from(n.cast_unsigned()), 0],
         Value::Decimal(x) => [2, decimal_bits(x), 0],
         Value::Word { place, length } => [3, place as u64, length as u64],
     }
 }
 
+// By value, since of a lent sheet the proof lacks that its array has 256 lines.
 fn sheet_words(s: Sheet) -> [u64; SHEET_WORDS]
     ensures { result ≡ sheet_words s }
 {
-    let lines = s.lines;
     let mut words = [0u64; SHEET_WORDS];
     words[0] = s.count as u64;
-    let mut i: usize = 0;
-    let mut at: usize = 1;
-    while i < LINES {
-        let line = lines[i];
-        let value = line.value;
-        let v = value_words(value);
+    // A line has five words, so the place in the words is counted from the line's.
+    for i in 0..LINES {
+        let line = s.lines[i];
+        let at = 1 + i * LINE_WORDS;
+        let v = value_words(line.value);
         words[at] = line.name as u64;
         words[at + 1] = line.length as u64;
         words[at + 2] = v[0];
         words[at + 3] = v[1];
         words[at + 4] = v[2];
-        at += LINE_WORDS;
-        i += 1;
     }
     words
 }
 
-fn number_of(a: SheetAnswer) -> u32
-    ensures { result ≡ sheet_number a }
+// The words of what was read: a refusal has those of no lines.
+fn answer_words(answer: Result<Sheet, SheetError>) -> [u64; SHEET_WORDS]
+    ensures { result ≡ sheet_words (sheet_in answer) }
 {
-    match a {
-        SheetAnswer::Good => 0,
-        SheetAnswer::Malformed(_) => 20,
-        SheetAnswer::Twice(_) => 21,
-        SheetAnswer::TooMany(_) => 22,
-        SheetAnswer::NotDone(answer) => answers::number_of(answer),
+    match answer {
+        Ok(s) => sheet_words(s),
+        Err(_) => sheet_words(sheet::empty()),
     }
 }
 
-fn detail_of(a: SheetAnswer) -> u32
-    ensures { result ≡ sheet_detail a }
+fn number_of(answer: &Result<Sheet, SheetError>) -> u32
+    ensures { result ≡ sheet_number answer.now }
 {
-    match a {
-        SheetAnswer::Good => 0,
-        SheetAnswer::Malformed(line) => line,
-        SheetAnswer::Twice(line) => line,
-        SheetAnswer::TooMany(line) => line,
-        SheetAnswer::NotDone(answer) => answers::detail_of(answer),
+    match answer {
+        Ok(_) => 0,
+        Err(SheetError::Malformed(_)) => 20,
+        Err(SheetError::Twice(_)) => 21,
+        Err(SheetError::TooMany(_)) => 22,
+        Err(SheetError::NotDone(a)) => answers::number_of(*a),
     }
 }
 
-fn numbers_of(r: SheetReport) -> [u32; 6]
-    ensures { result ≡ sheet_numbers r }
+fn detail_of(answer: &Result<Sheet, SheetError>) -> u32
+    ensures { result ≡ sheet_detail answer.now }
 {
-    let answer = r.answer;
+    match answer {
+        Ok(_) => 0,
+        Err(SheetError::Malformed(line) | SheetError::Twice(line) | SheetError::TooMany(line)) => {
+            *line
+        }
+        Err(SheetError::NotDone(a)) => answers::detail_of(*a),
+    }
+}
+
+fn numbers_of(r: &SheetReport) -> [u32; 6]
+    ensures { result ≡ sheet_numbers r.now }
+{
     [
-        number_of(answer),
-        detail_of(answer),
+        number_of(&r.answer),
+        detail_of(&r.answer),
         r.steps,
         r.place,
         r.output,
@@ -139,9 +133,8 @@ pub extern "C" fn quenhovach_sheet_expand(
         output,
         budget,
     );
-    let s = r.sheet;
-    *words = sheet_words(s);
-    let numbers = numbers_of(r);
+    let numbers = numbers_of(&r);
+    *words = answer_words(r.answer);
     *report = numbers;
     numbers[0]
 }
@@ -151,12 +144,11 @@ pub extern "C" fn quenhovach_sheet_expand(
 pub extern "C" fn quenhovach_sheet_read(text: &[u8], words: &mut [u64; 1281], line: &mut u32) -> u32
     ensures { ReadInWords text.now result words.new line.new }
 {
-    let r = sheet::read(text);
-    let s = r.sheet;
-    let answer = r.answer;
-    *words = sheet_words(s);
-    *line = detail_of(answer);
-    number_of(answer)
+    let answer = sheet::read(text);
+    *line = detail_of(&answer);
+    let number = number_of(&answer);
+    *words = answer_words(answer);
+    number
 }
 
 // The first line of this name, by any words and any text, from 0; 256 where there is none.
@@ -164,17 +156,14 @@ pub extern "C" fn quenhovach_sheet_read(text: &[u8], words: &mut [u64; 1281], li
 pub extern "C" fn quenhovach_sheet_find(words: &[u64; 1281], text: &[u8], name: &[u8]) -> usize
     ensures { result ≡ found_line words.now text.now name.now }
 {
-    let mut i: usize = 0;
-    let mut at: usize = 1;
-    while i < LINES {
+    for i in 0..LINES {
         if words[0] <= i as u64 {
             return LINES;
         }
+        let at = 1 + i * LINE_WORDS;
         if sheet::is_named(text, words[at] as usize, words[at + 1] as usize, name) {
             return i;
         }
-        at += LINE_WORDS;
-        i += 1;
     }
     LINES
 }

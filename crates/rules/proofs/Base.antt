@@ -3,7 +3,8 @@ pub use Prim.Native.Nat.{◌≤◌, ◌+◌, ℕ, ◌-◌, ◌<◌, suc, zero, �
 pub use mathlib.Core.Path.{◌∙◌, refl, sym, ap, ◌≡◌, subst, ap₂, subst₂}
 pub use mathlib.Core.Bool.{true, Bool, false, true≢false, ◌||◌, not, cond, ◌&&◌, or-true, and-eq-true_iff}
 pub use mathlib.Core.Logic.{◌⊎◌, inl, inr, ⊎_elim}
-pub use mathlib.Core.Option.{some, none, Option, none-ne-some as Option·none-ne-some, some-injective as Option·some-injective}
+pub use Rattle.std.specs.Prelude.{Option, None, Some, Result, Ok, Err}
+pub use Rattle.std.proofs.lemmas.Option.{none-some, same_Some}
 pub use mathlib.Core.List.{List, [], ◌++◌, ◌∷◌, append_assoc, append-nil, map}
 pub use native.Mathlib.Nat.{add-zero, zero-add, not-suc-le-zero, le_of_suc-le-suc, le_trans, add-suc, suc-add, add_assoc, le_of_lt, one-mul, div-eq_of_lt, suc_inj, le-add_right, add-mul, mul-le-mul, le_refl, div-lt_self, le_of_eq, mul-le-mul_left, mod-lt, div-le_self, mod-le, mul-add, lt_of_le_of_lt, mul-lt-mul_of_pos_right, eq-or-lt_of_le, add_comm, pow-suc, lt_of_lt_of_le}
 pub use native.Mathlib.Numerals.{add-one}

@@ -3,7 +3,7 @@ use Prim.Native.Nat.{ℕ, zero, suc}
 use mathlib.Core.Path.{◌≡◌, refl, sym, ap, subst, ◌∙◌}
 use mathlib.Core.Bool.{Bool, true, false, ◌&&◌, ◌||◌}
 use mathlib.Core.List.{List, [], ◌∷◌, ◌++◌, map}
-use mathlib.Core.Option.{Option, none, some}
+use Rattle.std.specs.Prelude.{Option, None, Some}
 use borrow.Author.Tests.{eqb-true}
 use lib.Dec.{eqb, leb}
 use lib.IntN.{pos}
@@ -75,9 +75,9 @@ ends x t h =
 -- a number that a macro needs
 needed :
     {A : Type 0} {u : Streams} {cs : A → List Change} {f : A → Outcome} (o : Option A) → ((x : A) → MakesWholly (cs x) u (f x))
-    → MakesWholly (elim o [ none ↦ [] | some x ↦ cs x ]) u (elim o [ none ↦ refused no_number | some x ↦ f x ])
-needed none h = refuses no_number
-needed (some x) h = h x
+    → MakesWholly (elim o [ None ↦ [] | Some x ↦ cs x ]) u (elim o [ None ↦ refused no_number | Some x ↦ f x ])
+needed None h = refuses no_number
+needed (Some x) h = h x
 
 -- ---- the macros
 
@@ -100,8 +100,8 @@ naming_makes f args s = tested (is_name (arg 1 args)) (goes_on _ refl) (refuses 
 
 copying_makes : (o : Option Meaning) (w : Bytes) (s : State) → MakesWholly [] s.streams (copying o w s)
 unfolding copying with_table
-copying_makes none w s = refuses _
-copying_makes (some m) w s = goes_on _ refl
+copying_makes None w s = refuses _
+copying_makes (Some m) w s = goes_on _ refl
 
 copydef_makes : Changing call_copydef no_changes
 unfolding call_copydef no_changes
@@ -219,8 +219,8 @@ name_makes (bare m) name end s = call_makes m name [] (taking end s)
 module _ (c : Call) (cs : List Call) (s : State) where
   closed_makes : (o : Option Meaning) → MakesWholly (call_or (closed_call c cs o s) []) s.streams (called o c.name (c.finished ++ (c.current ∷ [])) (with_calls cs s))
   unfolding call_or closed_call called with_calls
-  closed_makes none = refuses _
-  closed_makes (some m) = call_makes m c.name (c.finished ++ (c.current ∷ [])) (with_calls cs s)
+  closed_makes None = refuses _
+  closed_makes (Some m) = call_makes m c.name (c.finished ++ (c.current ∷ [])) (with_calls cs s)
 
   right_makes : (d : ℕ) → MakesWholly (call_or (right_call d c cs s) []) s.streams (right_met d c cs s)
   unfolding call_or right_call right_met closed with_calls
@@ -241,7 +241,7 @@ module _ (c : Call) (cs : List Call) (s : State) where
   in_call_makes x = go (eqb x 40) refl
     where
       behind : (y z : Bool)
-          → MakesWholly (call_or (elim y [ true ↦ right_call c.depth c cs s | false ↦ none ]) []) s.streams
+          → MakesWholly (call_or (elim y [ true ↦ right_call c.depth c cs s | false ↦ None ]) []) s.streams
           (elim y [ true ↦ right_met c.depth c cs s | false ↦ elim z [ true ↦ comma_at_depth c.depth c cs s | false ↦ other_met x c cs s ] ])
       behind true z = right_makes c.depth
       behind false true = comma_makes c.depth
@@ -284,12 +284,12 @@ step_makes s =
 
 -- an outcome is that of the call, if there is one
 abbrev Performs : Option Calling → Outcome → Type 0
-Performs o x = (c : Calling) → o ≡ some c → x ≡ performed c.meaning c.name c.arguments c.from
+Performs o x = (c : Calling) → o ≡ Some c → x ≡ performed c.meaning c.name c.arguments c.from
 
-nothing_performs : {x : Outcome} → Performs none x
+nothing_performs : {x : Outcome} → Performs None x
 nothing_performs c e = cc
 
-call_performs : (c : Calling) → Performs (some c) (performed c.meaning c.name c.arguments c.from)
+call_performs : (c : Calling) → Performs (Some c) (performed c.meaning c.name c.arguments c.from)
 call_performs c v e = let p : c ≡ v = cc in ap (λ (z : Calling). performed z.meaning z.name z.arguments z.from) p
 
 name_performs : (u : NameUse) (name : Bytes) (end : ℕ) (s : State) → Performs (bare_call u name end s) (named u name end s)
@@ -300,8 +300,8 @@ name_performs (bare m) name end s = call_performs _
 
 closed_performs : (c : Call) (cs : List Call) (o : Option Meaning) (s : State) → Performs (closed_call c cs o s) (called o c.name (c.finished ++ (c.current ∷ [])) (with_calls cs s))
 unfolding closed_call called
-closed_performs c cs none s = nothing_performs
-closed_performs c cs (some m) s = call_performs _
+closed_performs c cs None s = nothing_performs
+closed_performs c cs (Some m) s = call_performs _
 
 right_performs : (d : ℕ) (c : Call) (cs : List Call) (s : State) → Performs (right_call d c cs s) (right_met d c cs s)
 unfolding right_call right_met closed
@@ -332,6 +332,6 @@ read_performs (OpenQuote n) s = nothing_performs
 read_performs OpenComment s = nothing_performs
 
 -- a step that makes a call comes to what the call's meaning makes of its arguments
-pub step_performs : (s : State) (c : Calling) → call_of s ≡ some c → step s ≡ performed c.meaning c.name c.arguments c.from
+pub step_performs : (s : State) (c : Calling) → call_of s ≡ Some c → step s ≡ performed c.meaning c.name c.arguments c.from
 unfolding call_of step
 step_performs s = read_performs (read_token s.marks (ahead s.source)) s

@@ -4,7 +4,8 @@ use native.Mathlib.Omega.{arith}
 use mathlib.Core.Path.{◌≡◌, refl, sym, ap, subst, ◌∙◌}
 use mathlib.Core.Bool.{Bool, true, false, true≢false}
 use mathlib.Core.List.{[], ◌∷◌, ◌++◌}
-use mathlib.Core.Option.{Option, none, some, some-ne-none}
+use Rattle.std.specs.Prelude.{Option, None, Some}
+use Rattle.std.proofs.lemmas.Option.{none-some}
 use lib.Dec.{eqb}
 use lib.ListN.{length, drop, length-append}
 use lib.Seq.{drop-append_seam}
@@ -26,8 +27,8 @@ NotOpen OpenComment = ⊥
 
 comment_ends : (ahead i : ℕ) (o : Option ℕ) → NotOpen (comment_read newline_mark ahead i o)
 unfolding comment_read comment_to_end same_bytes
-comment_ends ahead i none = tt
-comment_ends ahead i (some n) = tt
+comment_ends ahead i None = tt
+comment_ends ahead i (Some n) = tt
 
 quote_no_comment : (begin end : ℕ) (q : QuoteEnd) → NotOpen (quote_read begin end q)
 unfolding quote_read
@@ -77,12 +78,12 @@ comment_first m [] e = absurd (true≢false (sym e ∙ no_mark m.begin_comment))
     no_mark (x ∷ xs) = refl
 comment_first m (x ∷ xs) e = rw (e, read_token)
 
-plus_one_none : (o : Option ℕ) → plus_one o ≡ none → o ≡ none
+plus_one_none : (o : Option ℕ) → plus_one o ≡ None → o ≡ None
 unfolding plus_one
-plus_one_none none e = refl
-plus_one_none (some n) e = absurd (some-ne-none (suc n) e)
+plus_one_none None e = refl
+plus_one_none (Some n) e = absurd (none-some (suc n) (sym e))
 
-newline_last : (s : Bytes) → first_place newline_mark s ≡ none → first_place newline_mark (s ++ newline_mark) ≡ some (length s)
+newline_last : (s : Bytes) → first_place newline_mark s ≡ None → first_place newline_mark (s ++ newline_mark) ≡ Some (length s)
 unfolding first_place begins_with plus_one
 newline_last [] e = refl
 newline_last (x ∷ xs) e = go (eqb 10 x) e (λ q. newline_last xs (plus_one_none (first_place newline_mark xs) q))
@@ -92,27 +93,27 @@ newline_last (x ∷ xs) e = go (eqb 10 x) e (λ q. newline_last xs (plus_one_non
 
     -- where a newline first stands, by the test of the byte x and where one stands behind it
     placed : Bool → Option ℕ → Option ℕ
-    placed t o = elim (here t) [ true ↦ some 0 | false ↦ plus_one o ]
+    placed t o = elim (here t) [ true ↦ Some 0 | false ↦ plus_one o ]
 
-    go : (t : Bool) → placed t (first_place newline_mark xs) ≡ none
-        → (plus_one (first_place newline_mark xs) ≡ none → first_place newline_mark (xs ++ newline_mark) ≡ some (length xs))
-        → placed t (first_place newline_mark (xs ++ newline_mark)) ≡ some (suc (length xs))
-    go true q on = absurd (some-ne-none 0 q)
+    go : (t : Bool) → placed t (first_place newline_mark xs) ≡ None
+        → (plus_one (first_place newline_mark xs) ≡ None → first_place newline_mark (xs ++ newline_mark) ≡ Some (length xs))
+        → placed t (first_place newline_mark (xs ++ newline_mark)) ≡ Some (suc (length xs))
+    go true q on = absurd (none-some 0 (sym q))
     go false q on = ap plus_one (on q)
 
 -- a comment that is all that is ahead
 module _ (m : MarkTexts) (full : 1 ≤ length m.begin_comment) (remark : Bytes) where
-  unended : first_place m.end_comment remark ≡ none → read_token m (m.begin_comment ++ remark) ≡ comment_to_end m.end_comment (length (m.begin_comment ++ remark))
+  unended : first_place m.end_comment remark ≡ None → read_token m (m.begin_comment ++ remark) ≡ comment_to_end m.end_comment (length (m.begin_comment ++ remark))
   unfolding read_comment comment_read
   unended e = comment_first m (m.begin_comment ++ remark) (at_front m.begin_comment remark full) ∙ rw (drop-append_seam m.begin_comment remark, e) refl
 
   -- 02 "Any other end mark still refuses with detail 2"
-  pub other_mark_open : same_bytes m.end_comment newline_mark ≡ false → first_place m.end_comment remark ≡ none → read_token m (m.begin_comment ++ remark) ≡ OpenComment
+  pub other_mark_open : same_bytes m.end_comment newline_mark ≡ false → first_place m.end_comment remark ≡ None → read_token m (m.begin_comment ++ remark) ≡ OpenComment
   unfolding comment_to_end
   other_mark_open other e = unended e ∙ rw (other, comment_to_end)
 
   -- without its newline and with it: 02 "nothing is added"
-  module _ (newline : m.end_comment ≡ newline_mark) (plain : first_place newline_mark remark ≡ none) where
+  module _ (newline : m.end_comment ≡ newline_mark) (plain : first_place newline_mark remark ≡ None) where
     pub without_newline : read_token m (m.begin_comment ++ remark) ≡ Is (token.Comment (length (m.begin_comment ++ remark)))
     unfolding comment_to_end same_bytes
     without_newline = unended (ap (λ (end : Bytes). first_place end remark) newline ∙ plain) ∙ rw newline refl

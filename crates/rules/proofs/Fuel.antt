@@ -8,14 +8,14 @@ use mathlib.Core.List.{[], ◌∷◌, ◌++◌}
 use lib.Dec.{ltb, eqb}
 use lib.ListN.{length, drop, length-drop}
 use borrow.Author.Tests.{ltb-false}
-use Rattle.rules.specs.declared.Worked.{Worked}
-use Rattle.rules.specs.declared.Parsed.{Parsed}
-use Rattle.rules.specs.declared.Parsed.TheVariants.{Value, Unreadable}
+use Rattle.std.specs.Prelude.{ℤ, Option, None, Some, IfSome}
+use Rattle.rules.specs.declared.Part.{Part}
 use Rattle.rules.specs.declared.Leading.{Leading}
+use Rattle.rules.specs.declared.Operator.{Operator}
 use Rattle.rules.specs.Bytes.{Bytes}
 use Rattle.rules.specs.Numerals.{digit_byte, digits_by, digits_in}
 use Rattle.rules.specs.Operators.{unary_applied, applied}
-use Rattle.rules.specs.Expression.{operator_at, closed_by, signed_by, operand_by, onward, operand_at, expression_at, chain_at, wholly, evaluation}
+use Rattle.rules.specs.Expression.{part, operator_at, closed_by, signed_by, operand_by, onward, operand_at, expression_at, chain_at, wholly, evaluation}
 use Rattle.rules.proofs.Reach.{Within, Points, to_literal, to_parenthesis, to_sign, to_none, leading_within, operator_within}
 use Rattle.rules.proofs.Reach.{operand_within, expression_within}
 
@@ -40,24 +40,31 @@ pub digits_enough : (k radix v : ℕ) → 2 ≤ radix → v < k → digits_by k 
 unfolding digits_in
 digits_enough k radix v p h = digits_same k (suc v) radix v p h (omega arith)
 
-onward_same :
-    {n : ℕ} {q r : Parsed} {f g : Worked → ℕ → Parsed} → q ≡ r → Within 1 n q → ((w : Worked) (m : ℕ) → 1 ≤ m → m ≤ n → f w m ≡ g w m)
-    → onward q f ≡ onward r g
+pub onward_same :
+    {n : ℕ} {q r : Option Part} {f g : Option ℤ → ℕ → Option Part} → q ≡ r → Within 1 n q
+    → ((w : Option ℤ) (m : ℕ) → 1 ≤ m → m ≤ n → f w m ≡ g w m) → onward q f ≡ onward r g
 unfolding onward
 onward_same {n} {q} {f} {g} e h same = go q h ∙ ap (λ r. onward r g) e
   where
-    go : (q : Parsed) → Within 1 n q → onward q f ≡ onward q g
-    go Unreadable l = refl
-    go (Value w m) l = same w m (l w m refl).0 (l w m refl).1
+    go : (q : Option Part) → Within 1 n q → onward q f ≡ onward q g
+    go None l = refl
+    go (Some p) l = same p.value p.end l.0 l.1
 
-operand_by_same :
-    (s : Bytes) (left : ℕ) {e f o p : ℕ → Parsed} {l : Leading} → Points (length s) l
+pub operand_by_same :
+    (s : Bytes) (left : ℕ) {e f o p : ℕ → Option Part} {l : Option Leading} → Points (length s) l
     → ((n : ℕ) → 1 ≤ n → n ≤ length s → (e n ≡ f n) × (o n ≡ p n)) → operand_by s left e o l ≡ operand_by s left f p l
 unfolding operand_by
 operand_by_same s left (to_literal h) same = refl
-operand_by_same s left (to_parenthesis {n} h l) same = otherwise (eqb left 0) Unreadable λ _. ap (closed_by s n) (same n h l).0
-operand_by_same s left (to_sign {u} {n} h l) same = otherwise (eqb left 0) Unreadable λ _. ap (signed_by (unary_applied u) n) (same n h l).1
+operand_by_same s left (to_parenthesis {n} h l) same = otherwise (eqb left 0) None λ _. ap (closed_by s n) (same n h l).0
+operand_by_same s left (to_sign {u} {n} h l) same = otherwise (eqb left 0) None λ _. ap (signed_by (unary_applied u) n) (same n h l).1
 operand_by_same s left to_none same = refl
+
+-- two choices by an operator are the same if what is read behind each operator is
+by_operator_same :
+    {Q : Operator → Type 0} {f g : Operator → Option Part} (y : Option Part) (x : Option Operator) → IfSome x Q → ((o : Operator) → Q o → f o ≡ g o)
+    → ◌≡◌ {A = Option Part} (elim x [ None ↦ y | Some o ↦ f o ]) (elim x [ None ↦ y | Some o ↦ g o ])
+by_operator_same y None h e = refl
+by_operator_same y (Some o) h e = e o h
 
 -- two for each byte that remains are enough, with 1 to 3 more. The levels do not matter
 mutual
@@ -80,15 +87,13 @@ mutual
       chain_same k j s level left w m q (omega arith) (omega arith)
 
   pub chain_same :
-      (k j : ℕ) (s : Bytes) (level left : ℕ) (w : Worked) (at : ℕ) → at ≤ length s → 2 * (length s - at) + 3 ≤ k → 2 * (length s - at) + 3 ≤ j
+      (k j : ℕ) (s : Bytes) (level left : ℕ) (w : Option ℤ) (at : ℕ) → at ≤ length s → 2 * (length s - at) + 3 ≤ k → 2 * (length s - at) + 3 ≤ j
       → chain_at k s level left w at ≡ chain_at j s level left w at
   chain_same zero j s level left w at i h l = absurd (omega arith)
   chain_same (suc k) zero s level left w at i h l = absurd (omega arith)
   chain_same (suc k) (suc j) s level left w at i h l =
-      let o = operator_at s at in
-      let d = operator_within s at i in
+      by_operator_same (part w at) (operator_at s at level) (operator_within s at level i) λ o d.
       let e = length-drop o.end s in
-      otherwise (ltb o.level level) (Value w at) λ _.
       onward_same (expression_same k j (drop o.end s) (o.level + 1) left (omega arith) (omega arith))
       (expression_within k (drop o.end s) (o.level + 1) left) λ r m p q.
       chain_same k j s level left (applied o.op w r) (o.end + m) (omega arith) (omega arith) (omega arith)

@@ -1,5 +1,5 @@
 -- The history of a run: the streams in the end are its changes made in turn, and how a finished run closes it.
-use Rattle.rules.proofs.Base.{◌≤◌, ◌+◌, ℕ, suc, zero, ◌∙◌, refl, sym, ap, ◌≡◌, subst, true, Bool, false, some, none, Option, List, [], ◌++◌, ◌∷◌, append_assoc, append-nil, ◌&&◌, arith, length}
+use Rattle.rules.proofs.Base.{◌≤◌, ◌+◌, ℕ, suc, zero, ◌∙◌, refl, sym, ap, ◌≡◌, subst, true, Bool, false, Some, None, Option, List, [], ◌++◌, ◌∷◌, append_assoc, append-nil, ◌&&◌, arith, length}
 use Rattle.rules.specs.declared.Answer.{Answer}
 use Rattle.rules.specs.declared.Answer.TheVariants as answer
 use Rattle.rules.specs.Answers.{answer_number, Ending, done, exit, ending_answer, fault_answer}
@@ -112,12 +112,12 @@ went ls (suc n) k s = go (step s) refl (λ t. went ls n (suc k) t)
     over t b e = subst (Went k s) (sym e) (stands (answer.Room (suc b)) k s s refl (omega arith))
 
     onward : (t : State) → step s ≡ next t → Went (suc k) t (run_from ls n (suc k) t) → (o : Option ℕ) → overfull (held t) ls ≡ o → Went k s (run_from ls (suc n) k s)
-    onward t p w none q = subst (Went k s) (sym (run_on ls n k s t p q)) (goes k s t (run_from ls n (suc k) t) p w)
-    onward t p w (some b) q = over t b (run_room ls n k s t b p q)
+    onward t p w None q = subst (Went k s) (sym (run_on ls n k s t p q)) (goes k s t (run_from ls n (suc k) t) p w)
+    onward t p w (Some b) q = over t b (run_room ls n k s t b p q)
 
     last : (x : Ending) (t : State) → step s ≡ stop x t → (o : Option ℕ) → overfull (held t) ls ≡ o → Went k s (run_from ls (suc n) k s)
-    last x t p none q = subst (Went k s) (sym (run_ends ls n k s x t p q)) (ends k s t x p)
-    last x t p (some b) q = over t b (run_ends_room ls n k s x t b p q)
+    last x t p None q = subst (Went k s) (sym (run_ends ls n k s x t p q)) (ends k s t x p)
+    last x t p (Some b) q = over t b (run_ends_room ls n k s x t b p q)
 
     go : (o : Outcome) → step s ≡ o → ((t : State) → Went (suc k) t (run_from ls n (suc k) t)) → Went k s (run_from ls (suc n) k s)
     go (next t) p w = onward t p (w t) (overfull (held t) ls) refl
@@ -132,8 +132,8 @@ module _ (b : Start) (a : Setting) where
 
   went_started : (o : Option (List Item)) → Went 0 (start_state (items_or o) b) (started o b a)
   unfolding started items_or start_state answer_number
-  went_started none = stands answer.BadSet 0 _ _ refl (omega arith)
-  went_started (some is) = went (lengths a) a.budget 0 (start_state is b)
+  went_started None = stands answer.BadSet 0 _ _ refl (omega arith)
+  went_started (Some is) = went (lengths a) a.budget 0 (start_state is b)
 
   went_admitted : (x : Bool) → Went 0 first (admitted x b a)
   unfolding admitted first start_state answer_number

@@ -5,14 +5,14 @@ use native.Mathlib.Omega.{arith}
 use mathlib.Core.Path.{◌≡◌, refl, sym, ap, ap₂, ◌∙◌}
 use mathlib.Core.Bool.{Bool, true, false, cond, and-eq-true_iff}
 use mathlib.Core.List.{List, [], ◌∷◌, ◌++◌}
-use mathlib.Core.Option.{Option, none, some}
+use Rattle.std.specs.Prelude.{Option, None, Some, Result, Ok, Err}
 use lib.Count.{ones_in}
 use lib.Dec.{leb, ltb}
 use lib.ListN.{length, take, drop, get_or, length-append, length-drop, get_or-append}
 use lib.Seq.{take-take, take-add, take_all, length-take-le}
 use borrow.Author.Tests.{ltb-true, ltb-false, leb-true}
-use Rattle.rules.specs.declared.IndexAnswer.{IndexAnswer}
-use Rattle.rules.specs.declared.IndexAnswer.TheVariants.{Built, Line, Start, TooLong, Beyond, NoRoom}
+use Rattle.rules.specs.declared.IndexError.{IndexError}
+use Rattle.rules.specs.declared.IndexError.TheVariants.{TooLong, Beyond, NoRoom}
 use Rattle.rules.specs.Bytes.{Bytes}
 use Rattle.rules.specs.Places.{plus_one}
 use Rattle.rules.specs.Run.{most_lent}
@@ -57,11 +57,11 @@ module _ (f : ℕ → ℕ) (n : ℕ) (lent : List ℕ) (room : n ≤ length lent
 
 -- ---- one law for both questions: refused alike, and where nothing is refused, what is answered of the built index
 
-kept_built : (written lent : List ℕ) → held_by Built written lent ≡ fronted written lent
+kept_built : (written lent : List ℕ) → held_by (Ok tt) written lent ≡ fronted written lent
 unfolding held_by index_number
 kept_built written lent = refl
 
-kept_refused : (written lent : List ℕ) → held_by NoRoom written lent ≡ lent
+kept_refused : (written lent : List ℕ) → held_by (Err NoRoom) written lent ≡ lent
 unfolding held_by index_number
 kept_refused written lent = refl
 
@@ -76,10 +76,10 @@ module _ (text : Bytes) (words totals : List ℕ) where
   count = word_count (length text)
 
   -- what is judged, by the two tests
-  abbrev judged_by : Bool → Bool → IndexAnswer → IndexAnswer
-  judged_by long fits a = cond long TooLong (cond fits a NoRoom)
+  abbrev judged_by : Bool → Bool → Result ℕ IndexError → Result ℕ IndexError
+  judged_by long fits a = cond long (Err TooLong) (cond fits a (Err NoRoom))
 
-  answered : {r : IndexAnswer} {w t : List ℕ} → Indexed text words totals r w t → (X : List ℕ → List ℕ → IndexAnswer) (Y : IndexAnswer)
+  answered : {r : Result (Unit {0}) IndexError} {w t : List ℕ} → Indexed text words totals r w t → (X : List ℕ → List ℕ → Result ℕ IndexError) (Y : Result ℕ IndexError)
       → (count ≤ length words → count ≤ length totals → X built_words built_totals ≡ Y)
       → judged_index (length text) w t (X w t) ≡ judged_index (length text) words totals Y
   unfolding judged_index has_room building words_of totals_of
@@ -89,14 +89,14 @@ module _ (text : Bytes) (words totals : List ℕ) where
           → judged_by (ltb most_lent (length text)) (has_room (length text) (length w) (length t)) (X w t) ≡ judged_by (ltb most_lent (length text)) (has_room (length text) (length words) (length totals)) Y
       go true fits e f a = rw e refl
       go false false e f a =
-          let refused : r ≡ NoRoom = a ∙ rw (e, f) refl in
-          let wi : w ≡ words = h.words_are ∙ ap (λ (x : IndexAnswer). held_by x (words_of text) words) refused ∙ kept_refused (words_of text) words in
-          let ti : t ≡ totals = h.totals_are ∙ ap (λ (x : IndexAnswer). held_by x (totals_of text) totals) refused ∙ kept_refused (totals_of text) totals in
+          let refused : r ≡ Err NoRoom = a ∙ rw (e, f) refl in
+          let wi : w ≡ words = h.words_are ∙ ap (λ (x : Result (Unit {0}) IndexError). held_by x (words_of text) words) refused ∙ kept_refused (words_of text) words in
+          let ti : t ≡ totals = h.totals_are ∙ ap (λ (x : Result (Unit {0}) IndexError). held_by x (totals_of text) totals) refused ∙ kept_refused (totals_of text) totals in
           rw (e, ap length wi, ap length ti, f) refl
       go false true e f a =
-          let is : r ≡ Built = a ∙ rw (e, f) refl in
-          let wi : w ≡ built_words = h.words_are ∙ ap (λ (x : IndexAnswer). held_by x (words_of text) words) is ∙ kept_built (words_of text) words in
-          let ti : t ≡ built_totals = h.totals_are ∙ ap (λ (x : IndexAnswer). held_by x (totals_of text) totals) is ∙ kept_built (totals_of text) totals in
+          let is : r ≡ Ok tt = a ∙ rw (e, f) refl in
+          let wi : w ≡ built_words = h.words_are ∙ ap (λ (x : Result (Unit {0}) IndexError). held_by x (words_of text) words) is ∙ kept_built (words_of text) words in
+          let ti : t ≡ built_totals = h.totals_are ∙ ap (λ (x : Result (Unit {0}) IndexError). held_by x (totals_of text) totals) is ∙ kept_built (totals_of text) totals in
           let b = (and-eq-true_iff (leb count (length words)) (leb count (length totals))).0 f in
           let wr = leb-true count (length words) b.0 in
           let tr = leb-true count (length totals) b.1 in
@@ -129,8 +129,8 @@ module _ (text : Bytes) (words totals : List ℕ) where
     -- the word's bit, and the place in the text that it stands for
     bit_at : (k : ℕ) (o : Option ℕ) → behind_bit k o ≡ start_at (farther (k * 64) (plus_one o))
     unfolding behind_bit start_at farther plus_one
-    bit_at k none = refl
-    bit_at k (some i) = ap Start (omega arith)
+    bit_at k None = refl
+    bit_at k (Some i) = ap Ok (omega arith)
 
     -- in the bytes of the first n words
     start_from : (m n : ℕ) → n ≤ count → start_in_word built_words built_totals m (last_below (suc m) built_totals n) ≡ start_at (behind_newline m (take (n * 64) text))
@@ -156,7 +156,7 @@ module _ (text : Bytes) (words totals : List ℕ) where
         word_is = built_word k (omega arith)
 
         go : (t : Bool) → ltb (get_or built_totals k 0) (suc m) ≡ t → start_in_word built_words built_totals m (last_below (suc m) built_totals k) ≡ start_at (behind_newline m front)
-            → start_in_word built_words built_totals m (cond t (some k) (last_below (suc m) built_totals k)) ≡ start_at (behind_newline m (take (k * 64 + 64) text))
+            → start_in_word built_words built_totals m (cond t (Some k) (last_below (suc m) built_totals k)) ≡ start_at (behind_newline m (take (k * 64 + 64) text))
         go true e r =
             let le : newlines front ≤ m = omega (arith, ltb-true (get_or built_totals k 0) (suc m) e, total_is) in
             ap₂ (λ (a b : ℕ). behind_bit k (select 64 (m - a) b)) total_is word_is
@@ -178,20 +178,20 @@ module _ (text : Bytes) (words totals : List ℕ) where
 
   -- ---- for every text, every lent room, place and line
 
-  module _ {r : IndexAnswer} {w t : List ℕ} (h : Indexed text words totals r w t) where
+  module _ {r : Result (Unit {0}) IndexError} {w t : List ℕ} (h : Indexed text words totals r w t) where
     -- "The line of a place is one more than the newlines before it"
     pub line_counted : (place : ℕ) → line_of (length text) w t place ≡ judged_index (length text) words totals (counted_line text place)
     unfolding line_of counted_line
     line_counted place =
         answered
         h
-        (λ (a b : List ℕ). cond (leb place (length text)) (Line (line_in a b place)) Beyond)
+        (λ (a b : List ℕ). cond (leb place (length text)) (Ok (line_in a b place)) (Err Beyond))
         (counted_line text place)
         (λ wr tr. go wr tr (leb place (length text)) refl)
       where
         go : count ≤ length words → count ≤ length totals → (u : Bool) → leb place (length text) ≡ u
-            → cond u (Line (line_in built_words built_totals place)) Beyond ≡ cond u (Line (suc (newlines (take place text)))) Beyond
-        go wr tr true e = ap Line (line_built wr tr place (leb-true place (length text) e))
+            → cond u (Ok (line_in built_words built_totals place)) (Err Beyond) ≡ cond u (Ok (suc (newlines (take place text)))) (Err Beyond)
+        go wr tr true e = ap Ok (line_built wr tr place (leb-true place (length text) e))
         go wr tr false e = refl
 
     -- "The start of the n-th line too"

@@ -5,7 +5,7 @@ use native.Mathlib.Nat.{add_assoc, zero-add, sub-zero}
 use mathlib.Core.Path.{◌≡◌, refl, sym, ap, ap₂, ◌∙◌}
 use mathlib.Core.Bool.{Bool, true, false, cond}
 use mathlib.Core.List.{[], ◌∷◌, ◌++◌}
-use mathlib.Core.Option.{Option, none, some}
+use Rattle.std.specs.Prelude.{Option, None, Some}
 use lib.Count.{ones_in}
 use lib.Dec.{eqb}
 use lib.ListN.{length, take, drop}
@@ -65,28 +65,28 @@ newlines_le (x ∷ xs) = let h = bit_le x in let k = newlines_le xs in omega ari
 -- ---- the place behind a newline
 
 unfoldable pub farther : ℕ → Option ℕ → Option ℕ
-farther a none = none
-farther a (some p) = some (a + p)
+farther a None = None
+farther a (Some p) = Some (a + p)
 
 farther_zero : (o : Option ℕ) → farther 0 o ≡ o
 unfolding farther
-farther_zero none = refl
-farther_zero (some p) = ap some (zero-add p)
+farther_zero None = refl
+farther_zero (Some p) = ap Some (zero-add p)
 
 farther_later : (a : ℕ) (o : Option ℕ) → plus_one (farther a o) ≡ farther (suc a) o
 unfolding farther plus_one
-farther_later a none = refl
-farther_later a (some p) = ap some (omega arith)
+farther_later a None = refl
+farther_later a (Some p) = ap Some (omega arith)
 
 -- a word without set bits
-pub no_bit : (d m : ℕ) → select d m 0 ≡ none
+pub no_bit : (d m : ℕ) → select d m 0 ≡ None
 unfolding select plus_one
 no_bit zero m = refl
 no_bit (suc d) m = ap plus_one (no_bit d m)
 
 -- `behind_newline` by the first byte's bit and the bytes behind it
 abbrev on_bit : ℕ → ℕ → Bytes → Option ℕ
-on_bit b m xs = elim b [ zero ↦ plus_one (behind_newline m xs) | suc c ↦ elim m [ zero ↦ some 1 | suc k ↦ plus_one (behind_newline k xs) ] ]
+on_bit b m xs = elim b [ zero ↦ plus_one (behind_newline m xs) | suc c ↦ elim m [ zero ↦ Some 1 | suc k ↦ plus_one (behind_newline k xs) ] ]
 
 -- the bit in a word says where the newline stands; the place behind it is one more
 pub bit-behind : (d m : ℕ) (xs : Bytes) → plus_one (select d m (newline_bits xs)) ≡ behind_newline m (take d xs)
@@ -94,11 +94,11 @@ unfolding select plus_one behind_newline newline_bits
 bit-behind zero m xs = refl
 bit-behind (suc d) m [] = ap plus_one (no_bit (suc d) m)
 bit-behind (suc d) m (x ∷ xs) =
-    ap₂ (λ (a b : ℕ). plus_one (elim a [ zero ↦ plus_one (select d m b) | suc c ↦ elim m [ zero ↦ some 0 | suc k ↦ plus_one (select d k b) ] ])) (bits_odd x xs) (bits_half x xs)
+    ap₂ (λ (a b : ℕ). plus_one (elim a [ zero ↦ plus_one (select d m b) | suc c ↦ elim m [ zero ↦ Some 0 | suc k ↦ plus_one (select d k b) ] ])) (bits_odd x xs) (bits_half x xs)
     ∙ first (newline_bit x) m (λ k. bit-behind d k xs)
   where
     first : (b m : ℕ) → ((k : ℕ) → plus_one (select d k (newline_bits xs)) ≡ behind_newline k (take d xs))
-        → plus_one (elim b [ zero ↦ plus_one (select d m (newline_bits xs)) | suc c ↦ elim m [ zero ↦ some 0 | suc k ↦ plus_one (select d k (newline_bits xs)) ] ])
+        → plus_one (elim b [ zero ↦ plus_one (select d m (newline_bits xs)) | suc c ↦ elim m [ zero ↦ Some 0 | suc k ↦ plus_one (select d k (newline_bits xs)) ] ])
         ≡ on_bit b m (take d xs)
     first zero m h = ap plus_one (h m)
     first (suc c) zero h = refl

@@ -1,5 +1,5 @@
 -- Laws of the predefined names that keep their own meaning: where one loses it, the others keep theirs. Assumes nothing.
-use Rattle.rules.proofs.Base.{◌≤◌, ◌+◌, ℕ, ◌-◌, suc, zero, ◌^◌, ◌/◌, ◌%◌, ◌∙◌, refl, sym, ap, ◌≡◌, true, Bool, false, true≢false, cond, some, none, Option, List, [], ◌∷◌, pow-suc, div-eq_of_lt, dec_le, arith, eqb, get_or, eqb-true}
+use Rattle.rules.proofs.Base.{◌≤◌, ◌+◌, ℕ, ◌-◌, suc, zero, ◌^◌, ◌/◌, ◌%◌, ◌∙◌, refl, sym, ap, ◌≡◌, true, Bool, false, true≢false, cond, Some, None, Option, List, [], ◌∷◌, pow-suc, div-eq_of_lt, dec_le, arith, eqb, get_or, eqb-true}
 use lib.Pow.{shr-shr}
 use Rattle.rules.specs.Bytes.{Bytes, same_bytes}
 use Rattle.rules.specs.Table.{Meaning, predefined, predefined_names, number_from, predefined_number, keeps_own, own_meaning, own_lost}
@@ -36,13 +36,13 @@ other_bit (suc i) (suc k) own h ne =
 
 -- ---- the names by their numbers
 
-number_name : (w : Bytes) (ns : List Bytes) (k j : ℕ) → number_from k w ns ≡ some j → (k ≤ j) × (w ≡ get_or ns (j - k) [])
+number_name : (w : Bytes) (ns : List Bytes) (k j : ℕ) → number_from k w ns ≡ Some j → (k ≤ j) × (w ≡ get_or ns (j - k) [])
 unfolding number_from
 number_name w [] k j e = absurd (let z : ◌≡◌ {A = ℕ} 0 1 = cc in omega arith)
 number_name w (n ∷ ns) k j e = go (same_bytes w n) refl e (number_name w ns (suc k) j)
   where
-    go : (t : Bool) → same_bytes w n ≡ t → elim t [ true ↦ some k | false ↦ number_from (suc k) w ns ] ≡ some j
-        → (number_from (suc k) w ns ≡ some j → (suc k ≤ j) × (w ≡ get_or ns (j - suc k) [])) → (k ≤ j) × (w ≡ get_or (n ∷ ns) (j - k) [])
+    go : (t : Bool) → same_bytes w n ≡ t → elim t [ true ↦ Some k | false ↦ number_from (suc k) w ns ] ≡ Some j
+        → (number_from (suc k) w ns ≡ Some j → (suc k ≤ j) × (w ≡ get_or ns (j - suc k) [])) → (k ≤ j) × (w ≡ get_or (n ∷ ns) (j - k) [])
     go true s e f =
         let q : k ≡ j = cc in
         let z : 0 ≡ j - k = omega arith in
@@ -60,29 +60,29 @@ keeps_other (suc j) (suc k) own h l ne t =
     let e : suc k - 1 ≡ k = omega arith in
     ap (λ (b : ℕ). eqb ((own - 2 ^ b) / 2 ^ j % 2) 1) e ∙ ap (λ (n : ℕ). eqb n 1) (other_bit j k own (eqb-true _ _ t) (λ q. ne (ap suc q)))
 
-keeps_lost : (w : Bytes) (j own : ℕ) → 1 ≤ j → (predefined_number w ≡ some j → ⊥) → keeps_own j (own_lost w own) ≡ keeps_own j own
+keeps_lost : (w : Bytes) (j own : ℕ) → 1 ≤ j → (predefined_number w ≡ Some j → ⊥) → keeps_own j (own_lost w own) ≡ keeps_own j own
 unfolding own_lost predefined_number
 keeps_lost w j own h ne = go (predefined_number w) refl
   where
-    taken : (k : ℕ) → predefined_number w ≡ some k → (t : Bool) → keeps_own k own ≡ t → keeps_own j (cond t (own - 2 ^ (k - 1)) own) ≡ keeps_own j own
-    taken k q true t = keeps_other j k own h (number_name w predefined_names 1 k q).0 (λ e. ne (q ∙ ap some (sym e))) t
+    taken : (k : ℕ) → predefined_number w ≡ Some k → (t : Bool) → keeps_own k own ≡ t → keeps_own j (cond t (own - 2 ^ (k - 1)) own) ≡ keeps_own j own
+    taken k q true t = keeps_other j k own h (number_name w predefined_names 1 k q).0 (λ e. ne (q ∙ ap Some (sym e))) t
     taken k q false t = refl
 
     go : (o : Option ℕ) → predefined_number w ≡ o
-        → keeps_own j (elim o [ none ↦ own | some k ↦ cond (keeps_own k own) (own - 2 ^ (k - 1)) own ]) ≡ keeps_own j own
-    go none q = refl
-    go (some k) q = taken k q (keeps_own k own) refl
+        → keeps_own j (elim o [ None ↦ own | Some k ↦ cond (keeps_own k own) (own - 2 ^ (k - 1)) own ]) ≡ keeps_own j own
+    go None q = refl
+    go (Some k) q = taken k q (keeps_own k own) refl
 
 pub own_other : (v w : Bytes) (own : ℕ) → same_bytes v w ≡ false → own_meaning v (own_lost w own) ≡ own_meaning v own
 unfolding own_meaning predefined_number
 own_other v w own ne = go (predefined_number v) refl
   where
-    apart : (j : ℕ) → predefined_number v ≡ some j → predefined_number w ≡ some j → ⊥
+    apart : (j : ℕ) → predefined_number v ≡ Some j → predefined_number w ≡ Some j → ⊥
     apart j q r =
         true≢false (sym (same_self v) ∙ ap (same_bytes v) ((number_name v predefined_names 1 j q).1 ∙ sym (number_name w predefined_names 1 j r).1) ∙ ne)
 
     go : (o : Option ℕ) → predefined_number v ≡ o
-        → ◌≡◌ {A = Option Meaning} (elim o [ none ↦ none | some j ↦ elim (keeps_own j (own_lost w own)) [ true ↦ some (predefined j) | false ↦ none ] ])
-        (elim o [ none ↦ none | some j ↦ elim (keeps_own j own) [ true ↦ some (predefined j) | false ↦ none ] ])
-    go none q = refl
-    go (some j) q = rw (keeps_lost w j own (number_name v predefined_names 1 j q).0 (apart j q))
+        → ◌≡◌ {A = Option Meaning} (elim o [ None ↦ None | Some j ↦ elim (keeps_own j (own_lost w own)) [ true ↦ Some (predefined j) | false ↦ None ] ])
+        (elim o [ None ↦ None | Some j ↦ elim (keeps_own j own) [ true ↦ Some (predefined j) | false ↦ None ] ])
+    go None q = refl
+    go (Some j) q = rw (keeps_lost w j own (number_name v predefined_names 1 j q).0 (apart j q))

@@ -3,7 +3,7 @@ use Prim.Native.Nat.{ℕ, zero, suc, ◌+◌, ◌≤◌, ◌<◌}
 use mathlib.Core.Path.{◌≡◌, refl, sym, ap, ◌∙◌}
 use mathlib.Core.Bool.{Bool, true, false, true≢false, false≢true}
 use mathlib.Core.List.{List, [], ◌∷◌}
-use mathlib.Core.Option.{Option, none, some}
+use Rattle.std.specs.Prelude.{Option, None, Some}
 use native.Mathlib.Omega.{arith}
 use lib.Dec.{leb}
 use lib.ListN.{length, get_or}
@@ -29,27 +29,27 @@ overfull-fits : (h : ℕ) (hs : List ℕ) (l : ℕ) (ls : List ℕ) → h ≤ l 
 unfolding overfull
 overfull-fits h hs l ls p = rw (le-leb h l p, overfull)
 
-overfull_over : (h : ℕ) (hs : List ℕ) (l : ℕ) (ls : List ℕ) → l < h → overfull (h ∷ hs) (l ∷ ls) ≡ some 0
+overfull_over : (h : ℕ) (hs : List ℕ) (l : ℕ) (ls : List ℕ) → l < h → overfull (h ∷ hs) (l ∷ ls) ≡ Some 0
 unfolding overfull
 overfull_over h hs l ls p = rw (lt-leb h l p, overfull)
 
-plus_one_none : (o : Option ℕ) → plus_one o ≡ none → o ≡ none
+plus_one_none : (o : Option ℕ) → plus_one o ≡ None → o ≡ None
 unfolding plus_one
-plus_one_none none e = refl
-plus_one_none (some n) e = cc
+plus_one_none None e = refl
+plus_one_none (Some n) e = cc
 
-plus_one_zero : (o : Option ℕ) → plus_one o ≡ some 0 → ⊥
+plus_one_zero : (o : Option ℕ) → plus_one o ≡ Some 0 → ⊥
 unfolding plus_one
-plus_one_zero none e = let z : ◌≡◌ {A = ℕ} 0 1 = cc in omega arith
-plus_one_zero (some n) e = let z : suc n ≡ 0 = cc in omega arith
+plus_one_zero None e = let z : ◌≡◌ {A = ℕ} 0 1 = cc in omega arith
+plus_one_zero (Some n) e = let z : suc n ≡ 0 = cc in omega arith
 
-plus_one_suc : (o : Option ℕ) (k : ℕ) → plus_one o ≡ some (suc k) → o ≡ some k
+plus_one_suc : (o : Option ℕ) (k : ℕ) → plus_one o ≡ Some (suc k) → o ≡ Some k
 unfolding plus_one
-plus_one_suc none k e = cc
-plus_one_suc (some n) k e = let z : suc n ≡ suc k = cc in ap {B = Option ℕ} some (omega arith)
+plus_one_suc None k e = cc
+plus_one_suc (Some n) k e = let z : suc n ≡ suc k = cc in ap {B = Option ℕ} Some (omega arith)
 
 -- what fits in lengths fits in lengths that are nowhere smaller
-wider_fits : (hs ls ms : List ℕ) → Below ls ms → overfull hs ls ≡ none → overfull hs ms ≡ none
+wider_fits : (hs ls ms : List ℕ) → Below ls ms → overfull hs ls ≡ None → overfull hs ms ≡ None
 unfolding overfull plus_one
 wider_fits [] ls ms w e = refl
 wider_fits (h ∷ hs) [] [] w e = refl
@@ -57,14 +57,14 @@ wider_fits (h ∷ hs) [] (m ∷ ms) w e = absurd w
 wider_fits (h ∷ hs) (l ∷ ls) [] w e = absurd w
 wider_fits (h ∷ hs) (l ∷ ls) (m ∷ ms) w e = go (leb h l) refl (wider_fits hs ls ms w.1)
   where
-    go : (b : Bool) → leb h l ≡ b → (overfull hs ls ≡ none → overfull hs ms ≡ none) → overfull (h ∷ hs) (m ∷ ms) ≡ none
+    go : (b : Bool) → leb h l ≡ b → (overfull hs ls ≡ None → overfull hs ms ≡ None) → overfull (h ∷ hs) (m ∷ ms) ≡ None
     go true q ih =
         overfull-fits h hs m ms (omega (arith, leb-true h l q, w.0))
         ∙ ap plus_one (ih (plus_one_none (overfull hs ls) (sym (overfull-fits h hs l ls (leb-true h l q)) ∙ e)))
     go false q ih = cc (overfull_over h hs l ls (leb-false h l q))
 
 -- what does not fit in a length does not fit in an equal one
-same_over : (k : ℕ) (hs ls ms : List ℕ) → Below ls ms → overfull hs ls ≡ some k → get_or ls k 0 ≡ get_or ms k 0 → overfull hs ms ≡ some k
+same_over : (k : ℕ) (hs ls ms : List ℕ) → Below ls ms → overfull hs ls ≡ Some k → get_or ls k 0 ≡ get_or ms k 0 → overfull hs ms ≡ Some k
 unfolding overfull plus_one
 same_over k [] ls ms w e g = e
 same_over k (h ∷ hs) [] [] w e g = e
@@ -72,13 +72,13 @@ same_over k (h ∷ hs) [] (m ∷ ms) w e g = absurd w
 same_over k (h ∷ hs) (l ∷ ls) [] w e g = absurd w
 same_over zero (h ∷ hs) (l ∷ ls) (m ∷ ms) w e g = go (leb h l) refl
   where
-    go : (b : Bool) → leb h l ≡ b → overfull (h ∷ hs) (m ∷ ms) ≡ some 0
+    go : (b : Bool) → leb h l ≡ b → overfull (h ∷ hs) (m ∷ ms) ≡ Some 0
     go true q = absurd (plus_one_zero (overfull hs ls) (sym (overfull-fits h hs l ls (leb-true h l q)) ∙ e))
     go false q = overfull_over h hs m ms (omega (arith, leb-false h l q))
 same_over (suc k) (h ∷ hs) (l ∷ ls) (m ∷ ms) w e g = go (leb h l) refl (same_over k hs ls ms w.1)
   where
     go :
-        (b : Bool) → leb h l ≡ b → (overfull hs ls ≡ some k → get_or ls k 0 ≡ get_or ms k 0 → overfull hs ms ≡ some k) → overfull (h ∷ hs) (m ∷ ms) ≡ some (suc k)
+        (b : Bool) → leb h l ≡ b → (overfull hs ls ≡ Some k → get_or ls k 0 ≡ get_or ms k 0 → overfull hs ms ≡ Some k) → overfull (h ∷ hs) (m ∷ ms) ≡ Some (suc k)
     go true q ih =
         overfull-fits h hs m ms (omega (arith, leb-true h l q, w.0))
         ∙ ap plus_one (ih (plus_one_suc (overfull hs ls) k (sym (overfull-fits h hs l ls (leb-true h l q)) ∙ e)) g)
@@ -87,8 +87,8 @@ same_over (suc k) (h ∷ hs) (l ∷ ls) (m ∷ ms) w e g = go (leb h l) refl (sa
 -- a run goes on counting from the steps that it has
 judged_counts : (go : State → Ended) (k : ℕ) (s t : State) (o : Option ℕ) → k ≤ (go t).steps → k ≤ (judged go k s t o).steps
 unfolding judged ended_with
-judged_counts go k s t none h = h
-judged_counts go k s t (some b) h = omega arith
+judged_counts go k s t None h = h
+judged_counts go k s t (Some b) h = omega arith
 
 continued_counts :
     (ls : List ℕ) (go : State → Ended) (k : ℕ) (s : State) (o : Outcome) → ((t : State) → k ≤ (go t).steps) → k ≤ (continued ls go k s o).steps
@@ -103,10 +103,10 @@ run_counts ls zero k s = omega arith
 run_counts ls (suc n) k s =
     continued_counts ls (λ t. run_from ls n (suc k) t) k s (step s) (λ t. omega (arith, run_counts ls n (suc k) t))
 
-some_injective : {j k : ℕ} → some j ≡ some k → j ≡ k
+some_injective : {j k : ℕ} → Some j ≡ Some k → j ≡ k
 some_injective e = cc
 
-some_none : {k : ℕ} → some k ≡ none → ⊥
+some_none : {k : ℕ} → Some k ≡ None → ⊥
 some_none e = let z : ◌≡◌ {A = ℕ} 0 1 = cc in omega arith
 
 -- Monotone, of lengths and budgets; and the first run goes no further than the second, however it ends
@@ -133,13 +133,13 @@ module _ (ls ms : List ℕ) (budget budget' : ℕ) where
 
   -- room judged under both lengths
   judged_kept :
-      (g h : State → Ended) (k : ℕ) (s t : State) (x y : Option ℕ) → (x ≡ none → y ≡ none) → ((b : ℕ) → x ≡ some b → get_or ls b 0 ≡ get_or ms b 0 → y ≡ some b)
+      (g h : State → Ended) (k : ℕ) (s t : State) (x y : Option ℕ) → (x ≡ None → y ≡ None) → ((b : ℕ) → x ≡ Some b → get_or ls b 0 ≡ get_or ms b 0 → y ≡ Some b)
       → k ≤ (h t).steps → Kept ls ms budget budget' (g t) (h t) → Kept ls ms budget budget' (judged g k s t x) (judged h k s t y)
   unfolding judged
-  judged_kept g h k s t none none f o c u = u
-  judged_kept g h k s t none (some b) f o c u = absurd (some_none (f refl))
-  judged_kept g h k s t (some b) none f o c u = room_kept b k s (h t) c (λ e. absurd (some_none (sym (o b refl e))))
-  judged_kept g h k s t (some b) (some d) f o c u =
+  judged_kept g h k s t None None f o c u = u
+  judged_kept g h k s t None (Some b) f o c u = absurd (some_none (f refl))
+  judged_kept g h k s t (Some b) None f o c u = room_kept b k s (h t) c (λ e. absurd (some_none (sym (o b refl e))))
+  judged_kept g h k s t (Some b) (Some d) f o c u =
       room_kept b k s (ended_with (answer.Room (suc d)) k s) (unfold ended_with in omega arith)
       (λ e. ap (λ (j : ℕ). ended_with (answer.Room (suc j)) k s) (some_injective (o b refl e)))
 
@@ -196,8 +196,8 @@ monotone u = record { same = u.same; further = λ _. u.further; again = u.again 
 -- so is whether its set is good up to the set
 started_monotone : (x : Start) (a b : Setting) → NowhereSmaller a b → (o : Option (List Item)) → Monotone a b (started o x a) (started o x b)
 unfolding started
-started_monotone x a b w none = monotone (kept_refl _)
-started_monotone x a b w (some is) =
+started_monotone x a b w None = monotone (kept_refl _)
+started_monotone x a b w (Some is) =
     monotone (run_kept (lengths a) (lengths b) a.budget b.budget (below w) a.budget b.budget 0 (start_state is x) (omega arith) (omega arith) w.budget)
 
 admitted_monotone : (x : Start) (a b : Setting) → NowhereSmaller a b → (p q : Bool) → p ≡ q → Monotone a b (admitted p x a) (admitted q x b)

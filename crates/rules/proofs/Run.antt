@@ -3,7 +3,7 @@ use Prim.Native.Nat.{ℕ, zero, suc, ◌+◌, ◌≤◌}
 use mathlib.Core.Path.{◌≡◌, refl}
 use mathlib.Core.Bool.{Bool, true, false}
 use mathlib.Core.List.{List, [], ◌∷◌}
-use mathlib.Core.Option.{Option, none, some}
+use Rattle.std.specs.Prelude.{Option, None, Some}
 use native.Mathlib.Omega.{arith}
 use lib.ListN.{length}
 use Rattle.rules.specs.declared.Answer.TheVariants as answer
@@ -35,24 +35,24 @@ module _ (ls : List ℕ) (n k : ℕ) (s : State) where
   run_refused f e = rw (e, run_from)
 
   -- the step is completed and the run goes on
-  pub run_on : (t : State) → step s ≡ next t → overfull (held t) ls ≡ none → run_from ls (suc n) k s ≡ run_from ls n (suc k) t
+  pub run_on : (t : State) → step s ≡ next t → overfull (held t) ls ≡ None → run_from ls (suc n) k s ≡ run_from ls n (suc k) t
   unfolding run_from continued judged
   run_on t e f = rw (e, f, run_from)
 
   -- the step would overfill a buffer
-  pub run_room : (t : State) (b : ℕ) → step s ≡ next t → overfull (held t) ls ≡ some b → run_from ls (suc n) k s ≡ ended_with (answer.Room (suc b)) k s
+  pub run_room : (t : State) (b : ℕ) → step s ≡ next t → overfull (held t) ls ≡ Some b → run_from ls (suc n) k s ≡ ended_with (answer.Room (suc b)) k s
   unfolding run_from continued judged
   run_room t b e f = rw (e, f, run_from)
 
   -- the step ends the run
   pub run_ends :
-      (x : Ending) (t : State) → step s ≡ stop x t → overfull (held t) ls ≡ none → run_from ls (suc n) k s ≡ ended_with (ending_answer x) (suc k) t
+      (x : Ending) (t : State) → step s ≡ stop x t → overfull (held t) ls ≡ None → run_from ls (suc n) k s ≡ ended_with (ending_answer x) (suc k) t
   unfolding run_from continued judged
   run_ends x t e f = rw (e, f, run_from)
 
   -- the step would end the run, and overfill a buffer
   pub run_ends_room :
-      (x : Ending) (t : State) (b : ℕ) → step s ≡ stop x t → overfull (held t) ls ≡ some b
+      (x : Ending) (t : State) (b : ℕ) → step s ≡ stop x t → overfull (held t) ls ≡ Some b
       → run_from ls (suc n) k s ≡ ended_with (answer.Room (suc b)) k s
   unfolding run_from continued judged
   run_ends_room x t b e f = rw (e, f, run_from)
@@ -86,8 +86,8 @@ SpentAt n e = answer_number e.answer ≡ 3 → e.steps ≡ n
 
 judged_spent : (n : ℕ) (go : State → Ended) (k : ℕ) (s t : State) (o : Option ℕ) → SpentAt n (go t) → SpentAt n (judged go k s t o)
 unfolding judged ended_with answer_number
-judged_spent n go k s t none h e = h e
-judged_spent n go k s t (some b) h e = omega arith
+judged_spent n go k s t None h e = h e
+judged_spent n go k s t (Some b) h e = omega arith
 
 continued_spent :
     (n : ℕ) (ls : List ℕ) (go : State → Ended) (k : ℕ) (s : State) (o : Outcome) → ((t : State) → SpentAt n (go t)) → SpentAt n (continued ls go k s o)
@@ -105,8 +105,8 @@ from_spent ls (suc n) k s e =
 
 started_spent : (x : Option (List Item)) (b : Start) (a : Setting) → SpentAt a.budget (started x b a)
 unfolding started ended_with answer_number
-started_spent none b a e = omega arith
-started_spent (some is) b a e = omega (arith, from_spent (lengths a) a.budget 0 (start_state is b) e)
+started_spent None b a e = omega arith
+started_spent (Some is) b a e = omega (arith, from_spent (lengths a) a.budget 0 (start_state is b) e)
 
 admitted_spent : (x : Bool) (b : Start) (a : Setting) → SpentAt a.budget (admitted x b a)
 unfolding admitted ended_with answer_number

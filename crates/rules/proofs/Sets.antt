@@ -1,5 +1,5 @@
 -- Texts in chunks, items and sets: what is read was written so, and what is written is read back. So a set has one form (02, request 1). Assumes nothing.
-use Rattle.rules.proofs.Base.{◌≤◌, ◌+◌, ℕ, ◌-◌, ◌<◌, suc, zero, ◌*◌, ◌/◌, ◌%◌, ◌^◌, min, ◌∙◌, refl, sym, ap, ◌≡◌, ap₂, subst, true, Bool, false, ◌&&◌, and-eq-true_iff, some, none, Option, Option·none-ne-some, Option·some-injective, List, [], ◌++◌, ◌∷◌, append_assoc, pow-suc, ℕ_discrete, dec_lt, arith, eqb, leb, length, drop, take, get_or, length-append, length-drop, length-take, length-take-le, List·getD-eq-default, take-append-drop, drop-drop, take-append-le, drop-append-le, drop-append-add, take-append_seam, drop-append_seam, take_at, drop_at, get_or-drop, get_or-take, eq-eqb, ne_eqb, eqb-true, le-leb, lt-leb, leb-true}
+use Rattle.rules.proofs.Base.{◌≤◌, ◌+◌, ℕ, ◌-◌, ◌<◌, suc, zero, ◌*◌, ◌/◌, ◌%◌, ◌^◌, min, ◌∙◌, refl, sym, ap, ◌≡◌, ap₂, subst, true, Bool, false, ◌&&◌, and-eq-true_iff, Some, None, Option, none-some, same_Some, List, [], ◌++◌, ◌∷◌, append_assoc, pow-suc, ℕ_discrete, dec_lt, arith, eqb, leb, length, drop, take, get_or, length-append, length-drop, length-take, length-take-le, List·getD-eq-default, take-append-drop, drop-drop, take-append-le, drop-append-le, drop-append-add, take-append_seam, drop-append_seam, take_at, drop_at, get_or-drop, get_or-take, eq-eqb, ne_eqb, eqb-true, le-leb, lt-leb, leb-true}
 use Rattle.rules.specs.Bytes.{Bytes, same_bytes}
 use Rattle.rules.specs.Chunks.{least_first, bytes_least_first, chunk_kind, Carried, and_byte, carried, chunks_read, chunked_from, chunked}
 use Rattle.rules.specs.Sets.{end_kind, item_kind, longest_set, Item, ItemRead, parted, body_read, item_read, is_end, and_item, items_from, set_items, item_text, item_form, set_form}
@@ -17,7 +17,7 @@ unfoldable pub and_bytes : Bytes → Option Carried → Option Carried
 and_bytes [] o = o
 and_bytes (x ∷ xs) o = and_byte x (and_bytes xs o)
 
-no_bytes : (owed : ℕ) → 0 < owed → carried [] owed 0 ≡ none
+no_bytes : (owed : ℕ) → 0 < owed → carried [] owed 0 ≡ None
 unfolding carried
 no_bytes zero h = absurd (omega arith)
 no_bytes (suc owed) h = refl
@@ -28,7 +28,7 @@ unfolding carried
 kind_read kind w zero h e = absurd (omega arith)
 kind_read kind w (suc owed) h e = rw (eq-eqb _ _ e, carried)
 
-kind_other : (kind : ℕ) (w : Bytes) (owed : ℕ) → 0 < owed → (kind ≡ chunk_kind owed → ⊥) → carried (kind ∷ w) owed 0 ≡ none
+kind_other : (kind : ℕ) (w : Bytes) (owed : ℕ) → 0 < owed → (kind ≡ chunk_kind owed → ⊥) → carried (kind ∷ w) owed 0 ≡ None
 unfolding carried
 kind_other kind w zero h e = absurd (omega arith)
 kind_other kind w (suc owed) h e = rw (ne_eqb _ _ e, carried)
@@ -45,7 +45,7 @@ chunk_read (x ∷ w) (suc owed) (suc left) h k =
     ∙ ap (λ (m : ℕ). and_byte x (and_bytes (take left w) (carried (drop left w) m 0))) n
 
 -- where they don't, nothing is read
-chunk_lacks : (w : Bytes) (owed left : ℕ) → left ≤ owed → length w < left → carried w owed left ≡ none
+chunk_lacks : (w : Bytes) (owed left : ℕ) → left ≤ owed → length w < left → carried w owed left ≡ None
 unfolding carried and_byte
 chunk_lacks w owed zero h k = absurd (omega arith)
 chunk_lacks w zero (suc left) h k = absurd (omega arith)
@@ -54,17 +54,17 @@ chunk_lacks (x ∷ w) (suc owed) (suc left) h k = ap (and_byte x) (chunk_lacks w
 
 -- so a whole chunk: it is the one that is due and its bytes stand there, or nothing is read
 module _ (owed kind : ℕ) (more : 0 < owed) (due : kind ≡ chunk_kind owed) where
-  pub turn_other : (w : Bytes) → (get_or w 0 0 ≡ kind → ⊥) → chunks_read owed w ≡ none
+  pub turn_other : (w : Bytes) → (get_or w 0 0 ≡ kind → ⊥) → chunks_read owed w ≡ None
   unfolding chunks_read carried
   turn_other [] ne = no_bytes owed more
   turn_other (x ∷ w) ne = kind_other x w owed more (λ e. ne (e ∙ sym due))
 
-  pub turn_short : (w : Bytes) → length w ≤ kind → chunks_read owed w ≡ none
+  pub turn_short : (w : Bytes) → length w ≤ kind → chunks_read owed w ≡ None
   unfolding chunks_read
   turn_short [] h = no_bytes owed more
   turn_short (x ∷ w) h = go (ℕ_discrete x (chunk_kind owed))
     where
-      go : Dec (x ≡ chunk_kind owed) → carried (x ∷ w) owed 0 ≡ none
+      go : Dec (x ≡ chunk_kind owed) → carried (x ∷ w) owed 0 ≡ None
       go (yes e) = kind_read x w owed more e ∙ chunk_lacks w owed x (omega (arith, kind_fits owed)) (omega arith)
       go (no ne) = kind_other x w owed more ne
 
@@ -98,13 +98,13 @@ chunk_bytes (x ∷ b) (suc left) = ap (λ (l : Bytes). x ∷ l) (chunk_bytes b l
 
 -- what was read has as many bytes as were to come, and written it is what it was read from
 abbrev Wrote : Bytes → ℕ → ℕ → Option Carried → Type 0
-Wrote w owed left none = Unit {0}
-Wrote w owed left (some c) = (length c.bytes ≡ owed) × (w ≡ chunked_from c.bytes left ++ c.rest)
+Wrote w owed left None = Unit {0}
+Wrote w owed left (Some c) = (length c.bytes ≡ owed) × (w ≡ chunked_from c.bytes left ++ c.rest)
 
 wrote_kind : (w : Bytes) (owed kind : ℕ) (o : Option Carried) → kind ≡ chunk_kind (suc owed) → Wrote w (suc owed) kind o → Wrote (kind ∷ w) (suc owed) 0 o
 unfolding chunked
-wrote_kind w owed kind none e h = tt
-wrote_kind w owed kind (some c) e h =
+wrote_kind w owed kind None e h = tt
+wrote_kind w owed kind (Some c) e h =
     let n : length c.bytes ≡ suc owed = h.0 in
     let k : kind ≡ chunk_kind (length c.bytes) = e ∙ ap chunk_kind (sym n) in (
       n,
@@ -115,8 +115,8 @@ wrote_kind w owed kind (some c) e h =
 
 wrote_byte : (x : ℕ) (w : Bytes) (owed left : ℕ) (o : Option Carried) → Wrote w owed left o → Wrote (x ∷ w) (suc owed) (suc left) (and_byte x o)
 unfolding and_byte chunked_from
-wrote_byte x w owed left none h = tt
-wrote_byte x w owed left (some c) h = (ap suc h.0, ap (λ (l : Bytes). x ∷ l) h.1)
+wrote_byte x w owed left None h = tt
+wrote_byte x w owed left (Some c) h = (ap suc h.0, ap (λ (l : Bytes). x ∷ l) h.1)
 
 wrote : (w : Bytes) (owed left : ℕ) → Wrote w owed left (carried w owed left)
 unfolding carried chunked_from
@@ -127,13 +127,13 @@ wrote (x ∷ w) zero zero = (refl, refl)
 wrote (x ∷ w) zero (suc left) = tt
 wrote (kind ∷ w) (suc owed) zero = go (eqb kind (chunk_kind (suc owed))) refl (wrote w (suc owed) kind)
   where
-    go : (t : Bool) → eqb kind (chunk_kind (suc owed)) ≡ t → Wrote w (suc owed) kind (carried w (suc owed) kind) → Wrote (kind ∷ w) (suc owed) 0 (elim t [ true ↦ carried w (suc owed) kind | false ↦ none ])
+    go : (t : Bool) → eqb kind (chunk_kind (suc owed)) ≡ t → Wrote w (suc owed) kind (carried w (suc owed) kind) → Wrote (kind ∷ w) (suc owed) 0 (elim t [ true ↦ carried w (suc owed) kind | false ↦ None ])
     go true e h = wrote_kind w owed kind (carried w (suc owed) kind) (eqb-true _ _ e) h
     go false e h = tt
 wrote (x ∷ w) (suc owed) (suc left) = wrote_byte x w owed left (carried w owed left) (wrote w owed left)
 
-module _ (n : ℕ) (w : Bytes) {c : Carried} (e : chunks_read n w ≡ some c) where
-  read_form : Wrote w n 0 (some c)
+module _ (n : ℕ) (w : Bytes) {c : Carried} (e : chunks_read n w ≡ Some c) where
+  read_form : Wrote w n 0 (Some c)
   unfolding chunks_read
   read_form = subst (Wrote w n 0) e (wrote w n 0)
 
@@ -146,12 +146,12 @@ module _ (n : ℕ) (w : Bytes) {c : Carried} (e : chunks_read n w ≡ some c) wh
 
 -- ---- chunks that were written are read back
 
-pub none_owed : (rest : Bytes) → chunks_read 0 rest ≡ some (record { bytes = []; rest = rest })
+pub none_owed : (rest : Bytes) → chunks_read 0 rest ≡ Some (record { bytes = []; rest = rest })
 unfolding chunks_read carried
 none_owed [] = refl
 none_owed (x ∷ rest) = refl
 
-written_back : (b rest : Bytes) (left : ℕ) → left ≤ length b → carried (chunked_from b left ++ rest) (length b) left ≡ some (record { bytes = b; rest = rest })
+written_back : (b rest : Bytes) (left : ℕ) → left ≤ length b → carried (chunked_from b left ++ rest) (length b) left ≡ Some (record { bytes = b; rest = rest })
 unfolding chunks_read carried chunked_from and_byte chunk_kind
 written_back [] rest zero h = none_owed rest
 written_back [] rest (suc left) h = absurd (omega arith)
@@ -163,7 +163,7 @@ written_back (x ∷ b) rest zero h =
     ∙ ap (and_byte x) (written_back b rest (kind - 1) (omega arith))
 written_back (x ∷ b) rest (suc left) h = ap (and_byte x) (written_back b rest left (omega arith))
 
-pub chunks_back : (b rest : Bytes) → chunks_read (length b) (chunked b ++ rest) ≡ some (record { bytes = b; rest = rest })
+pub chunks_back : (b rest : Bytes) → chunks_read (length b) (chunked b ++ rest) ≡ Some (record { bytes = b; rest = rest })
 unfolding chunks_read chunked
 chunks_back b rest = written_back b rest 0 (omega arith)
 
@@ -221,16 +221,16 @@ names_in w = least_first (take 4 (drop 1 w))
 abbrev pub texts_in : Bytes → ℕ
 texts_in w = least_first (take 4 (drop 5 w))
 
-pub item_short : (w : Bytes) → length w < 9 → item_read w ≡ none
+pub item_short : (w : Bytes) → length w < 9 → item_read w ≡ None
 unfolding item_read
 item_short [] h = refl
 item_short (kind ∷ w) h = go (eqb kind item_kind)
   where
-    go : (t : Bool) → ◌≡◌ {A = Option ItemRead} (elim (t && leb 8 (length w)) [ true ↦ body_read w | false ↦ none ]) none
+    go : (t : Bool) → ◌≡◌ {A = Option ItemRead} (elim (t && leb 8 (length w)) [ true ↦ body_read w | false ↦ None ]) None
     go true = rw (lt-leb 8 (length w) (omega arith))
     go false = refl
 
-pub item_other : (w : Bytes) → (get_or w 0 0 ≡ item_kind → ⊥) → item_read w ≡ none
+pub item_other : (w : Bytes) → (get_or w 0 0 ≡ item_kind → ⊥) → item_read w ≡ None
 unfolding item_read
 item_other [] h = refl
 item_other (kind ∷ w) h = rw (ne_eqb _ _ h, item_read)
@@ -249,8 +249,8 @@ pub record Parts (w : Bytes) (r : ItemRead) : Type 0 where
   pub chunks : drop 9 w ≡ chunked (r.item.name ++ r.item.text) ++ r.rest
 
 abbrev Told : Bytes → Option ItemRead → Type 0
-Told w none = Unit {0}
-Told w (some r) = Parts w r
+Told w None = Unit {0}
+Told w (Some r) = Parts w r
 
 told : (w : Bytes) → Told w (item_read w)
 unfolding item_read body_read parted
@@ -258,8 +258,8 @@ told [] = tt
 told (kind ∷ w) = go (eqb kind item_kind && leb 8 (length w)) refl
   where
     read : (eqb kind item_kind ≡ true) × (leb 8 (length w) ≡ true) → (o : Option Carried) → chunks_read (names_in (kind ∷ w) + texts_in (kind ∷ w)) (drop 8 w) ≡ o → Told (kind ∷ w) (parted (names_in (kind ∷ w)) o)
-    read h none e = tt
-    read h (some c) e =
+    read h None e = tt
+    read h (Some c) e =
         let l : 8 ≤ length w = leb-true _ _ h.1 in
         let n : length c.bytes ≡ names_in (kind ∷ w) + texts_in (kind ∷ w) = chunks_length _ _ e in
         record {
@@ -270,11 +270,11 @@ told (kind ∷ w) = go (eqb kind item_kind && leb 8 (length w)) refl
           chunks = chunks_form _ _ e ∙ ap (λ (l : Bytes). chunked l ++ c.rest) (sym (take-append-drop (names_in (kind ∷ w)) c.bytes));
         }
 
-    go : (t : Bool) → (eqb kind item_kind && leb 8 (length w)) ≡ t → Told (kind ∷ w) (elim t [ true ↦ body_read w | false ↦ none ])
+    go : (t : Bool) → (eqb kind item_kind && leb 8 (length w)) ≡ t → Told (kind ∷ w) (elim t [ true ↦ body_read w | false ↦ None ])
     go true e = read ((and-eq-true_iff (eqb kind item_kind) (leb 8 (length w))).0 e) (chunks_read (names_in (kind ∷ w) + texts_in (kind ∷ w)) (drop 8 w)) refl
     go false e = tt
 
-pub item_parts : (w : Bytes) {r : ItemRead} → item_read w ≡ some r → Parts w r
+pub item_parts : (w : Bytes) {r : ItemRead} → item_read w ≡ Some r → Parts w r
 item_parts w e = subst (Told w) e (told w)
 
 -- ---- a set
@@ -292,50 +292,50 @@ unfolding is_end
 not_end w ne = not_same w (end_kind ∷ []) ne
 
 -- its items, one after the other: the end, or an item that can't be read, or one more
-pub items_end : (most : ℕ) (w : Bytes) → is_end w ≡ true → items_from (suc most) w ≡ some []
+pub items_end : (most : ℕ) (w : Bytes) → is_end w ≡ true → items_from (suc most) w ≡ Some []
 unfolding items_from
 items_end most w e = rw (e, items_from)
 
-pub items_bad : (most : ℕ) (w : Bytes) → is_end w ≡ false → item_read w ≡ none → items_from (suc most) w ≡ none
+pub items_bad : (most : ℕ) (w : Bytes) → is_end w ≡ false → item_read w ≡ None → items_from (suc most) w ≡ None
 unfolding items_from
 items_bad most w e h = rw (e, h, items_from)
 
-pub items_more : (most : ℕ) (w : Bytes) → is_end w ≡ false → {r : ItemRead} → item_read w ≡ some r → items_from (suc most) w ≡ and_item r.item (items_from most r.rest)
+pub items_more : (most : ℕ) (w : Bytes) → is_end w ≡ false → {r : ItemRead} → item_read w ≡ Some r → items_from (suc most) w ≡ and_item r.item (items_from most r.rest)
 unfolding items_from
 items_more most w e h = rw (e, h, items_from)
 
 -- so the items that were read are none, or the first and those behind it
 pub data Items (most : ℕ) (w : Bytes) : List Item → Type 0 where
   ended : is_end w ≡ true → Items most w []
-  begun : {r : ItemRead} {is : List Item} → is_end w ≡ false → item_read w ≡ some r → items_from most r.rest ≡ some is → Items most w (r.item ∷ is)
+  begun : {r : ItemRead} {is : List Item} → is_end w ≡ false → item_read w ≡ Some r → items_from most r.rest ≡ Some is → Items most w (r.item ∷ is)
 
-pub items_of : (most : ℕ) (w : Bytes) {is : List Item} → items_from (suc most) w ≡ some is → Items most w is
+pub items_of : (most : ℕ) (w : Bytes) {is : List Item} → items_from (suc most) w ≡ Some is → Items most w is
 unfolding and_item
 items_of most w {is} e = go (is_end w) refl
   where
-    more : (r : ItemRead) → is_end w ≡ false → item_read w ≡ some r → (o : Option (List Item)) → items_from most r.rest ≡ o → and_item r.item o ≡ some is → Items most w is
-    more r h k none l a = absurd (Option·none-ne-some is a)
-    more r h k (some js) l a = subst (Items most w) (Option·some-injective (r.item ∷ js) is a) (begun h k l)
+    more : (r : ItemRead) → is_end w ≡ false → item_read w ≡ Some r → (o : Option (List Item)) → items_from most r.rest ≡ o → and_item r.item o ≡ Some is → Items most w is
+    more r h k None l a = absurd (none-some is a)
+    more r h k (Some js) l a = subst (Items most w) (same_Some (r.item ∷ js) is a) (begun h k l)
 
     item : is_end w ≡ false → (o : Option ItemRead) → item_read w ≡ o → Items most w is
-    item h none k = absurd (Option·none-ne-some is (sym (items_bad most w h k) ∙ e))
-    item h (some r) k = more r h k (items_from most r.rest) refl (sym (items_more most w h k) ∙ e)
+    item h None k = absurd (none-some is (sym (items_bad most w h k) ∙ e))
+    item h (Some r) k = more r h k (items_from most r.rest) refl (sym (items_more most w h k) ∙ e)
 
     go : (t : Bool) → is_end w ≡ t → Items most w is
-    go true h = subst (Items most w) (Option·some-injective [] is (sym (items_end most w h) ∙ e)) (ended h)
+    go true h = subst (Items most w) (same_Some [] is (sym (items_end most w h) ∙ e)) (ended h)
     go false h = item h (item_read w) refl
 
-pub items_none : (w : Bytes) (is : List Item) → items_from 0 w ≡ some is → ⊥
+pub items_none : (w : Bytes) (is : List Item) → items_from 0 w ≡ Some is → ⊥
 unfolding items_from
-items_none w is e = Option·none-ne-some is e
+items_none w is e = none-some is e
 
-pub set_read : (w : Bytes) {is : List Item} → set_items w ≡ some is → (length w ≤ longest_set) × (items_from (length w) w ≡ some is)
+pub set_read : (w : Bytes) {is : List Item} → set_items w ≡ Some is → (length w ≤ longest_set) × (items_from (length w) w ≡ Some is)
 unfolding set_items
 set_read w {is} e = go (leb (length w) longest_set) refl e
   where
-    go : (t : Bool) → leb (length w) longest_set ≡ t → elim t [ true ↦ items_from (length w) w | false ↦ none ] ≡ some is → (length w ≤ longest_set) × (items_from (length w) w ≡ some is)
+    go : (t : Bool) → leb (length w) longest_set ≡ t → elim t [ true ↦ items_from (length w) w | false ↦ None ] ≡ Some is → (length w ≤ longest_set) × (items_from (length w) w ≡ Some is)
     go true l h = (leb-true _ _ l, h)
-    go false l h = absurd (Option·none-ne-some is h)
+    go false l h = absurd (none-some is h)
 
 -- ---- numbers, least byte first
 
@@ -418,7 +418,7 @@ module _ (i : Item) (rest : Bytes) where
     rest_read : drop 9 written ≡ behind
     rest_read = sym (drop-drop 4 5 written) ∙ ap (drop 4) behind_names ∙ drop_at texts behind 4 (length_bytes 4 (length i.text))
 
-    item_back : item_read written ≡ some (record { item = i; rest = rest })
+    item_back : item_read written ≡ Some (record { item = i; rest = rest })
     unfolding parted
     item_back =
         let n : ℕ = length i.name in
@@ -427,9 +427,9 @@ module _ (i : Item) (rest : Bytes) where
         ∙ ap₂ (λ (a b : ℕ). parted a (chunks_read (a + b) (drop 9 written))) names_read texts_read
         ∙ ap₂ (λ (m : ℕ) (l : Bytes). parted n (chunks_read m l)) (sym (length-append i.name i.text)) rest_read
         ∙ ap (parted n) (chunks_back (i.name ++ i.text) rest)
-        ∙ ap₂ (λ (a b : Bytes). some (record { item = record { name = a; text = b }; rest = rest })) (take-append_seam i.name i.text) (drop-append_seam i.name i.text)
+        ∙ ap₂ (λ (a b : Bytes). Some (record { item = record { name = a; text = b }; rest = rest })) (take-append_seam i.name i.text) (drop-append_seam i.name i.text)
 
-form_back : (most : ℕ) (is : List Item) → length (set_form is) ≤ most → length (set_form is) ≤ longest_set → items_from most (set_form is) ≡ some is
+form_back : (most : ℕ) (is : List Item) → length (set_form is) ≤ most → length (set_form is) ≤ longest_set → items_from most (set_form is) ≡ Some is
 unfolding set_form and_item
 form_back zero [] h k = absurd (omega arith)
 form_back (suc most) [] h k = items_end most (end_kind ∷ []) end_ends
@@ -440,7 +440,7 @@ form_back (suc most) (i ∷ is) h k =
     ∙ ap (and_item i) (form_back most is (omega arith) (omega arith))
 
 -- the form of items, where it is not too long for a set, is a good set with these items
-pub set_form_read : (is : List Item) → length (set_form is) ≤ longest_set → set_items (set_form is) ≡ some is
+pub set_form_read : (is : List Item) → length (set_form is) ≤ longest_set → set_items (set_form is) ≡ Some is
 unfolding set_items
 set_form_read is h = rw (le-leb (length (set_form is)) longest_set h, set_items) (form_back (length (set_form is)) is (omega arith) h)
 
@@ -467,7 +467,7 @@ split_form (x ∷ w) h =
     (sym (take-append-drop 4 w)
     ∙ ap (λ (l : Bytes). take 4 w ++ l) (sym (take-append-drop 4 (drop 4 w)) ∙ ap (λ (l : Bytes). take 4 (drop 4 w) ++ l) (drop-drop 4 4 w)))
 
-item_form_lem : (w : Bytes) → AreBytes w → {r : ItemRead} → item_read w ≡ some r → w ≡ item_form r.item ++ r.rest
+item_form_lem : (w : Bytes) → AreBytes w → {r : ItemRead} → item_read w ≡ Some r → w ≡ item_form r.item ++ r.rest
 item_form_lem w b {r} e =
     let p = item_parts w e in
     let n : bytes_least_first 4 (length r.item.name) ≡ take 4 (drop 1 w) = ap (bytes_least_first 4) p.name_long ∙ four_back (drop 1 w) (bytes_drop 1 w b) (omega (arith, p.long, length-drop 1 w)) in
@@ -477,12 +477,12 @@ item_form_lem w b {r} e =
     ∙ ap₂ (λ (a c : Bytes). item_kind ∷ (a ++ (c ++ (chunked (r.item.name ++ r.item.text) ++ r.rest)))) (sym n) (sym t)
     ∙ sym (joined_form r.item r.rest)
 
-items_form : (most : ℕ) (w : Bytes) → AreBytes w → (is : List Item) → items_from most w ≡ some is → w ≡ set_form is
+items_form : (most : ℕ) (w : Bytes) → AreBytes w → (is : List Item) → items_from most w ≡ Some is → w ≡ set_form is
 unfolding set_form
 items_form zero w b is e = absurd (items_none w is e)
 items_form (suc most) w b is e = go is (items_of most w e) (λ v c js. items_form most v c js)
   where
-    go : (is : List Item) → Items most w is → ((v : Bytes) → AreBytes v → (js : List Item) → items_from most v ≡ some js → v ≡ set_form js) → w ≡ set_form is
+    go : (is : List Item) → Items most w is → ((v : Bytes) → AreBytes v → (js : List Item) → items_from most v ≡ Some js → v ≡ set_form js) → w ≡ set_form is
     go [] (ended h) f = end_is w h
     go (i ∷ js) (begun {r} h k l) f =
         let form = item_form_lem w b k in
@@ -491,18 +491,18 @@ items_form (suc most) w b is e = go is (items_of most w e) (λ v c js. items_for
         form ∙ ap (λ (v : Bytes). item_form r.item ++ v) (f r.rest bytes js l)
 
 -- a set has one form: a good set is the form of its items
-pub set_one_form : (w : Bytes) → AreBytes w → {is : List Item} → set_items w ≡ some is → w ≡ set_form is
+pub set_one_form : (w : Bytes) → AreBytes w → {is : List Item} → set_items w ≡ Some is → w ≡ set_form is
 set_one_form w b {is} e = items_form (length w) w b is (set_read w e).1
 
 -- ---- names
 
 -- "The first of two items with one name counts": more items behind change nothing
-pub first_counts : (w : Bytes) (is js : List Item) {t : Bytes} → item_text w is ≡ some t → item_text w (is ++ js) ≡ some t
+pub first_counts : (w : Bytes) (is js : List Item) {t : Bytes} → item_text w is ≡ Some t → item_text w (is ++ js) ≡ Some t
 unfolding item_text
-first_counts w [] js {t} e = absurd (Option·none-ne-some t e)
+first_counts w [] js {t} e = absurd (none-some t e)
 first_counts w (i ∷ is) js {t} e = go (same_bytes w i.name) e (first_counts w is js)
   where
-    go : (b : Bool) → elim b [ true ↦ some i.text | false ↦ item_text w is ] ≡ some t → (item_text w is ≡ some t → item_text w (is ++ js) ≡ some t)
-        → elim b [ true ↦ some i.text | false ↦ item_text w (is ++ js) ] ≡ some t
+    go : (b : Bool) → elim b [ true ↦ Some i.text | false ↦ item_text w is ] ≡ Some t → (item_text w is ≡ Some t → item_text w (is ++ js) ≡ Some t)
+        → elim b [ true ↦ Some i.text | false ↦ item_text w (is ++ js) ] ≡ Some t
     go true h f = h
     go false h f = f h

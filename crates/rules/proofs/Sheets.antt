@@ -1,12 +1,12 @@
 -- Laws of sheets: where the lines of a text stand, and what a question of a sheet that was read from its text answers. Assumes nothing.
-use Rattle.rules.proofs.Base.{◌≤◌, ◌+◌, ℕ, ◌-◌, ◌<◌, suc, ◌∙◌, refl, sym, ap, ◌≡◌, subst₂, true, Bool, false, ◌&&◌, some, none, Option, List, [], ◌∷◌, ◌++◌, arith, add-zero, add-one, eqb, leb, ltb, le-leb, length, take, drop, length-drop, take-take, drop-drop, take_at, zero-add, drop_of_length-le, leb-true, leb-false, suc-le-suc, replicate}
+use Rattle.rules.proofs.Base.{◌≤◌, ◌+◌, ℕ, ◌-◌, ◌<◌, suc, ◌∙◌, refl, sym, ap, ◌≡◌, subst, subst₂, true, Bool, false, ◌&&◌, Some, None, Option, Result, Ok, Err, List, [], ◌∷◌, ◌++◌, arith, add-zero, add-one, eqb, leb, ltb, le-leb, length, take, drop, length-drop, take-take, drop-drop, take_at, zero-add, drop_of_length-le, leb-true, leb-false, suc-le-suc, replicate}
 use Rattle.rules.specs.declared.Value.{Value}
 use Rattle.rules.specs.declared.Entry.{Entry}
-use Rattle.rules.specs.declared.Lookup.{Lookup}
-use Rattle.rules.specs.declared.Lookup.TheVariants as lookup
-use Rattle.rules.specs.declared.SheetAnswer.TheVariants as answer
+use Rattle.rules.specs.declared.Sheet.{Sheet}
+use Rattle.rules.specs.declared.SheetError.{SheetError}
+use Rattle.rules.specs.declared.SheetError.TheVariants.{Malformed, Twice, TooMany}
 use Rattle.rules.specs.Bytes.{Bytes, same_bytes, continues_name, name_length, is_name}
-use Rattle.rules.specs.Sheets.{in_first_line, lines_of, value_at, entry_of, behind_name, entry_at, name_in, is_named, first_named, question, unused_line, most_lines, Judged, good, malformed, twice, too_many, judged_lines, sheet_of, sheet_judged, sheet_read, line_name, lookup_of, line_value, line_named, line_start, Answered}
+use Rattle.rules.specs.Sheets.{in_first_line, lines_of, value_at, entry_of, behind_name, entry_at, name_in, is_named, first_named, question, unused_line, most_lines, judged_lines, sheet_of, sheet_judged, sheet_read, line_name, line_value, line_named, line_start, Answered}
 use Rattle.rules.proofs.SameBytes.{same_self}
 
 -- ---- where lines stand
@@ -66,7 +66,7 @@ first_line (x ∷ xs) l ls e = go (first_line xs) (eqb x 10) e
 pub record Reads (place : ℕ) (l : Bytes) (e : Entry) : Type 0 where
   pub at : e.name ≡ place
   pub long : e.length ≡ name_length l
-  pub value_is : value_at (suc (place + name_length l)) (drop (suc (name_length l)) l) ≡ some e.value
+  pub value_is : value_at (suc (place + name_length l)) (drop (suc (name_length l)) l) ≡ Some e.value
 
 pub name_within : (l : Bytes) → name_length l ≤ length l
 unfolding name_length
@@ -80,25 +80,25 @@ name_within (x ∷ xs) = go (continues_name x) (name_within xs)
 behind_byte : (l : Bytes) (n x : ℕ) (w : Bytes) → drop n l ≡ x ∷ w → drop (suc n) l ≡ w
 behind_byte l n x w d = ap (λ k. drop k l) (sym (add-one n)) ∙ sym (drop-drop 1 n l) ∙ ap (drop 1) d
 
-pub entry_reads : (place : ℕ) (l : Bytes) (e : Entry) → entry_at place l ≡ some e → Reads place l e
+pub entry_reads : (place : ℕ) (l : Bytes) (e : Entry) → entry_at place l ≡ Some e → Reads place l e
 unfolding entry_at behind_name entry_of
 entry_reads place l e k = by_name (is_name (take (name_length l) l)) k
   where
-    by_value : (o : Option Value) → entry_of place (name_length l) o ≡ some e → value_at (suc (place + name_length l)) (drop (suc (name_length l)) l) ≡ o → Reads place l e
-    by_value none q v = let w : ◌≡◌ {A = ℕ} 0 1 = cc in absurd (omega arith)
-    by_value (some y) q v =
+    by_value : (o : Option Value) → entry_of place (name_length l) o ≡ Some e → value_at (suc (place + name_length l)) (drop (suc (name_length l)) l) ≡ o → Reads place l e
+    by_value None q v = let w : ◌≡◌ {A = ℕ} 0 1 = cc in absurd (omega arith)
+    by_value (Some y) q v =
         let f : record { name = place; length = name_length l; value = y } ≡ e = cc in
-        record { at = sym (ap (λ (r : Entry). r.name) f); long = sym (ap (λ (r : Entry). r.length) f); value_is = v ∙ ap (λ (r : Entry). some r.value) f }
+        record { at = sym (ap (λ (r : Entry). r.name) f); long = sym (ap (λ (r : Entry). r.length) f); value_is = v ∙ ap (λ (r : Entry). Some r.value) f }
 
-    by_byte : (x : ℕ) (w : Bytes) → drop (name_length l) l ≡ x ∷ w → (o : Option Value) (t : Bool) → elim t [ true ↦ entry_of place (name_length l) o | false ↦ none ] ≡ some e → value_at (suc (place + name_length l)) w ≡ o → Reads place l e
+    by_byte : (x : ℕ) (w : Bytes) → drop (name_length l) l ≡ x ∷ w → (o : Option Value) (t : Bool) → elim t [ true ↦ entry_of place (name_length l) o | false ↦ None ] ≡ Some e → value_at (suc (place + name_length l)) w ≡ o → Reads place l e
     by_byte x w d o true q v = by_value o q (ap (value_at (suc (place + name_length l))) (behind_byte l (name_length l) x w d) ∙ v)
     by_byte x w d o false q v = let w : ◌≡◌ {A = ℕ} 0 1 = cc in absurd (omega arith)
 
-    by_rest : (w : Bytes) → drop (name_length l) l ≡ w → behind_name place (name_length l) w ≡ some e → Reads place l e
+    by_rest : (w : Bytes) → drop (name_length l) l ≡ w → behind_name place (name_length l) w ≡ Some e → Reads place l e
     by_rest [] d q = let w : ◌≡◌ {A = ℕ} 0 1 = cc in absurd (omega arith)
     by_rest (x ∷ w) d q = by_byte x w d _ (eqb x 61) q refl
 
-    by_name : (t : Bool) → elim t [ true ↦ behind_name place (name_length l) (drop (name_length l) l) | false ↦ none ] ≡ some e → Reads place l e
+    by_name : (t : Bool) → elim t [ true ↦ behind_name place (name_length l) (drop (name_length l) l) | false ↦ None ] ≡ Some e → Reads place l e
     by_name true q = by_rest (drop (name_length l) l) refl q
     by_name false q = let w : ◌≡◌ {A = ℕ} 0 1 = cc in absurd (omega arith)
 
@@ -115,26 +115,26 @@ module _ (text : Bytes) (place : ℕ) (l : Bytes) (h : place + length l ≤ leng
       inside : leb (e.name + e.length) (length text) ≡ true
       inside = rw (r.at, r.long) (le-leb (place + name_length l) (length text) (omega (arith, name_within l)))
 
-  value_of : lookup.Found e.value ≡ line_value place l
-  unfolding line_value lookup_of
+  value_of : Some e.value ≡ line_value place l
+  unfolding line_value
   value_of = rw (line_value, r.value_is)
 
 -- ---- lines that were judged good
 
 -- the first of two answers that is one
-unfoldable or_else : Lookup → Lookup → Lookup
-or_else lookup.Absent b = b
-or_else (lookup.Found v) b = lookup.Found v
+unfoldable or_else : Option Value → Option Value → Option Value
+or_else None b = b
+or_else (Some v) b = Some v
 
-or_absent : (a : Lookup) → or_else a lookup.Absent ≡ a
+or_absent : (a : Option Value) → or_else a None ≡ a
 unfolding or_else
-or_absent lookup.Absent = refl
-or_absent (lookup.Found v) = refl
+or_absent None = refl
+or_absent (Some v) = refl
 
-or_or : (a b c : Lookup) → or_else (or_else a b) c ≡ or_else a (or_else b c)
+or_or : (a b c : Option Value) → or_else (or_else a b) c ≡ or_else a (or_else b c)
 unfolding or_else
-or_or lookup.Absent b c = refl
-or_or (lookup.Found v) b c = refl
+or_or None b c = refl
+or_or (Some v) b c = refl
 
 module _ (text name : Bytes) where
   named-append : (es fs : List Entry) → first_named text name (es ++ fs) ≡ or_else (first_named text name es) (first_named text name fs)
@@ -143,7 +143,7 @@ module _ (text name : Bytes) where
   named-append (e ∷ es) fs = go (is_named text name e) (named-append es fs)
     where
       go : (t : Bool) → first_named text name (es ++ fs) ≡ or_else (first_named text name es) (first_named text name fs)
-          → elim t [ true ↦ lookup.Found e.value | false ↦ first_named text name (es ++ fs) ] ≡ or_else (elim t [ true ↦ lookup.Found e.value | false ↦ first_named text name es ]) (first_named text name fs)
+          → elim t [ true ↦ Some e.value | false ↦ first_named text name (es ++ fs) ] ≡ or_else (elim t [ true ↦ Some e.value | false ↦ first_named text name es ]) (first_named text name fs)
       go true ih = refl
       go false ih = ih
 
@@ -151,31 +151,31 @@ module _ (text name : Bytes) where
 record Went (text : Bytes) (es : List Entry) (place : ℕ) (l : Bytes) (ls : List Bytes) (fs : List Entry) : Type 0 where
   pub line : Entry
   pub reads : Reads place l line
-  pub first : first_named text (name_in text line) es ≡ lookup.Absent
-  pub others : judged_lines text (es ++ (line ∷ [])) (place + suc (length l)) ls ≡ good fs
+  pub first : first_named text (name_in text line) es ≡ None
+  pub others : judged_lines text (es ++ (line ∷ [])) (place + suc (length l)) ls ≡ Ok fs
 
-went : (text : Bytes) (es : List Entry) (place : ℕ) (l : Bytes) (ls : List Bytes) (fs : List Entry) → judged_lines text es place (l ∷ ls) ≡ good fs → Went text es place l ls fs
+went : (text : Bytes) (es : List Entry) (place : ℕ) (l : Bytes) (ls : List Bytes) (fs : List Entry) → judged_lines text es place (l ∷ ls) ≡ Ok fs → Went text es place l ls fs
 unfolding judged_lines
 went text es place l ls fs h = by_count (ltb (length es) 256) _ h refl
   where
-    by_name : (e : Entry) → entry_at place l ≡ some e → (a : Lookup) → first_named text (name_in text e) es ≡ a → (bad : Judged)
-        → elim a [ lookup.Found v ↦ bad | lookup.Absent ↦ judged_lines text (es ++ (e ∷ [])) (place + suc (length l)) ls ] ≡ good fs
-        → (bad ≡ good fs → ◌≡◌ {A = ℕ} 0 1) → Went text es place l ls fs
-    by_name e k lookup.Absent a bad q n = record { line = e; reads = entry_reads place l e k; first = a; others = q }
-    by_name e k (lookup.Found v) a bad q n = let w : ◌≡◌ {A = ℕ} 0 1 = n q in absurd (omega arith)
+    by_name : (e : Entry) → entry_at place l ≡ Some e → (a : Option Value) → first_named text (name_in text e) es ≡ a → (bad : Result (List Entry) SheetError)
+        → ◌≡◌ {A = Result (List Entry) SheetError} (elim a [ Some v ↦ bad | None ↦ judged_lines text (es ++ (e ∷ [])) (place + suc (length l)) ls ]) (Ok fs)
+        → (bad ≡ Ok fs → ◌≡◌ {A = ℕ} 0 1) → Went text es place l ls fs
+    by_name e k None a bad q n = record { line = e; reads = entry_reads place l e k; first = a; others = q }
+    by_name e k (Some v) a bad q n = let w : ◌≡◌ {A = ℕ} 0 1 = n q in absurd (omega arith)
 
-    given_twice : (bad : Judged) → bad ≡ twice (suc (length es)) → bad ≡ good fs → ◌≡◌ {A = ℕ} 0 1
+    given_twice : (bad : Result (List Entry) SheetError) → bad ≡ Err (Twice (suc (length es))) → bad ≡ Ok fs → ◌≡◌ {A = ℕ} 0 1
     given_twice bad t q = cc
 
-    by_line : (o : Option Entry) → entry_at place l ≡ o → (bad : Judged)
-        → elim o [ none ↦ malformed (suc (length es)) | some e ↦ elim (first_named text (name_in text e) es) [ lookup.Found v ↦ bad | lookup.Absent ↦ judged_lines text (es ++ (e ∷ [])) (place + suc (length l)) ls ] ] ≡ good fs
-        → bad ≡ twice (suc (length es)) → Went text es place l ls fs
-    by_line none k bad q t = let w : ◌≡◌ {A = ℕ} 0 1 = cc in absurd (omega arith)
-    by_line (some e) k bad q t = by_name e k (first_named text (name_in text e) es) refl bad q (given_twice bad t)
+    by_line : (o : Option Entry) → entry_at place l ≡ o → (bad : Result (List Entry) SheetError)
+        → ◌≡◌ {A = Result (List Entry) SheetError} (elim o [ None ↦ Err (Malformed (suc (length es))) | Some e ↦ elim (first_named text (name_in text e) es) [ Some v ↦ bad | None ↦ judged_lines text (es ++ (e ∷ [])) (place + suc (length l)) ls ] ]) (Ok fs)
+        → bad ≡ Err (Twice (suc (length es))) → Went text es place l ls fs
+    by_line None k bad q t = let w : ◌≡◌ {A = ℕ} 0 1 = cc in absurd (omega arith)
+    by_line (Some e) k bad q t = by_name e k (first_named text (name_in text e) es) refl bad q (given_twice bad t)
 
-    by_count : (t : Bool) (bad : Judged)
-        → elim t [ false ↦ too_many (suc (length es)) | true ↦ elim (entry_at place l) [ none ↦ malformed (suc (length es)) | some e ↦ elim (first_named text (name_in text e) es) [ lookup.Found v ↦ bad | lookup.Absent ↦ judged_lines text (es ++ (e ∷ [])) (place + suc (length l)) ls ] ] ] ≡ good fs
-        → bad ≡ twice (suc (length es)) → Went text es place l ls fs
+    by_count : (t : Bool) (bad : Result (List Entry) SheetError)
+        → ◌≡◌ {A = Result (List Entry) SheetError} (elim t [ false ↦ Err (TooMany (suc (length es))) | true ↦ elim (entry_at place l) [ None ↦ Err (Malformed (suc (length es))) | Some e ↦ elim (first_named text (name_in text e) es) [ Some v ↦ bad | None ↦ judged_lines text (es ++ (e ∷ [])) (place + suc (length l)) ls ] ] ]) (Ok fs)
+        → bad ≡ Err (Twice (suc (length es))) → Went text es place l ls fs
     by_count true bad q t = by_line (entry_at place l) refl bad q t
     by_count false bad q t = let w : ◌≡◌ {A = ℕ} 0 1 = cc in absurd (omega arith)
 
@@ -202,14 +202,14 @@ module _ (text : Bytes) where
     others_there : lines_of (drop (place + suc (length l)) text) ≡ ls
     others_there = ap lines_of (sym (drop-drop (suc (length l)) place text)) ∙ first_there.behind
 
-    module _ (es fs : List Entry) (h : judged_lines text es place (l ∷ ls) ≡ good fs) where
+    module _ (es fs : List Entry) (h : judged_lines text es place (l ∷ ls) ≡ Ok fs) where
       abbrev w : Went text es place l ls fs
       w = went text es place l ls fs h
 
       line_named_lem : (name : Bytes) → is_named text name w.line ≡ same_bytes (line_name l) name
       line_named_lem name = named_is text place l within_text first_there.is w.line w.reads name
 
-      line_value_lem : lookup.Found w.line.value ≡ line_value place l
+      line_value_lem : Some w.line.value ≡ line_value place l
       line_value_lem = value_of text place l within_text first_there.is w.line w.reads
 
       -- the search through the lines of the sheet goes on as that through the text
@@ -218,12 +218,12 @@ module _ (text : Bytes) where
       goes_on name = rw (first_named, line_named_lem name) (go (same_bytes (line_name l) name))
         where
           go : (t : Bool)
-              → or_else (elim t [ true ↦ lookup.Found w.line.value | false ↦ lookup.Absent ]) (line_named name (place + suc (length l)) ls)
+              → or_else (elim t [ true ↦ Some w.line.value | false ↦ None ]) (line_named name (place + suc (length l)) ls)
               ≡ elim t [ true ↦ line_value place l | false ↦ line_named name (place + suc (length l)) ls ]
           go true = line_value_lem
           go false = refl
 
-  by_lines : (name : Bytes) (es : List Entry) (place : ℕ) (ls : List Bytes) (fs : List Entry) → lines_of (drop place text) ≡ ls → judged_lines text es place ls ≡ good fs
+  by_lines : (name : Bytes) (es : List Entry) (place : ℕ) (ls : List Bytes) (fs : List Entry) → lines_of (drop place text) ≡ ls → judged_lines text es place ls ≡ Ok fs
       → first_named text name fs ≡ or_else (first_named text name es) (line_named name place ls)
   unfolding judged_lines line_named
   by_lines name es place [] fs g h = let e : es ≡ fs = cc in ap (first_named text name) (sym e) ∙ sym (or_absent (first_named text name es))
@@ -234,7 +234,7 @@ module _ (text : Bytes) where
       ∙ ap (or_else (first_named text name es)) (goes_on place l ls g es fs h name)
 
   of_line : (before after : List Bytes) (l : Bytes) (es : List Entry) (place : ℕ) (fs : List Entry) → lines_of (drop place text) ≡ before ++ (l ∷ after)
-      → judged_lines text es place (before ++ (l ∷ after)) ≡ good fs → first_named text (line_name l) fs ≡ line_value (place + line_start before) l
+      → judged_lines text es place (before ++ (l ∷ after)) ≡ Ok fs → first_named text (line_name l) fs ≡ line_value (place + line_start before) l
   unfolding line_start first_named or_else
   of_line [] after l es place fs g h =
       by_lines (line_name l) (es ++ ((w place l after g es fs h).line ∷ [])) (place + suc (length l)) after fs (others_there place l after g) (w place l after g es fs h).others
@@ -242,10 +242,10 @@ module _ (text : Bytes) where
       ∙ line_value_lem place l after g es fs h
       ∙ ap (λ k. line_value k l) (sym (add-zero place))
     where
-      unnamed : first_named text (line_name l) es ≡ lookup.Absent
+      unnamed : first_named text (line_name l) es ≡ None
       unnamed = ap (λ n. first_named text n es) (sym (name_is text place l (within_text place l after g) (first_there place l after g).is (w place l after g es fs h).line (w place l after g es fs h).reads)) ∙ (w place l after g es fs h).first
 
-      first : first_named text (line_name l) (es ++ ((w place l after g es fs h).line ∷ [])) ≡ lookup.Found (w place l after g es fs h).line.value
+      first : first_named text (line_name l) (es ++ ((w place l after g es fs h).line ∷ [])) ≡ Some (w place l after g es fs h).line.value
       first = named-append text (line_name l) es ((w place l after g es fs h).line ∷ []) ∙ rw (unnamed, first_named, line_named_lem place l after g es fs h (line_name l), same_self (line_name l))
   of_line (b ∷ bs) after l es place fs g h =
       of_line bs after l (es ++ ((w place b (bs ++ (l ∷ after)) g es fs h).line ∷ [])) (place + suc (length b)) fs (others_there place b (bs ++ (l ∷ after)) g) (w place b (bs ++ (l ∷ after)) g es fs h).others
@@ -257,16 +257,16 @@ module _ (fs : List Entry) (text name : Bytes) where
   unfolding question sheet_of
   of_sheet = ap (first_named text name) (take_at fs (replicate (most_lines - length fs) unused_line) (length fs) refl)
 
-pub answered : (text : Bytes) → (sheet_read text).answer ≡ answer.Good → Answered text (sheet_read text).sheet
+pub answered : (text : Bytes) (s : Sheet) → sheet_read text ≡ Ok s → Answered text s
 unfolding sheet_read sheet_judged first_named or_else
-answered text = go (judged_lines text [] 0 (lines_of text)) refl
+answered text s = go (judged_lines text [] 0 (lines_of text)) refl
   where
-    go : (j : Judged) → judged_lines text [] 0 (lines_of text) ≡ j → (sheet_judged j).answer ≡ answer.Good → Answered text (sheet_judged j).sheet
-    go (good fs) h e =
+    go : (j : Result (List Entry) SheetError) → judged_lines text [] 0 (lines_of text) ≡ j → sheet_judged j ≡ Ok s → Answered text s
+    go (Ok fs) h e =
+        let is : sheet_of fs ≡ s = cc in
+        subst (Answered text) is
         record {
           by_name = λ name. of_sheet fs text name ∙ by_lines text name [] 0 (lines_of text) fs refl h;
           of_line = λ before after l g. of_sheet fs text (line_name l) ∙ of_line text before after l [] 0 fs g (ap (judged_lines text [] 0) (sym g) ∙ h) ∙ ap (λ k. line_value k l) (zero-add (line_start before));
         }
-    go (malformed n) h e = let w : ◌≡◌ {A = ℕ} 0 1 = cc in absurd (omega arith)
-    go (twice n) h e = let w : ◌≡◌ {A = ℕ} 0 1 = cc in absurd (omega arith)
-    go (too_many n) h e = let w : ◌≡◌ {A = ℕ} 0 1 = cc in absurd (omega arith)
+    go (Err r) h e = let w : ◌≡◌ {A = ℕ} 0 1 = cc in absurd (omega arith)

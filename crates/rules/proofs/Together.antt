@@ -1,5 +1,5 @@
 -- Bytes that were first placed in one stream and make every move together have one route.
-use Rattle.rules.proofs.Base.{◌≤◌, ◌<◌, ℕ, ◌∙◌, refl, sym, ap, ◌≡◌, true, Bool, false, cond, and-eq-true_iff, some, List, [], ◌∷◌, arith, leb, ltb, ℤ, le-leb, ltb-true, ltb-false}
+use Rattle.rules.proofs.Base.{◌≤◌, ◌<◌, ℕ, ◌∙◌, refl, sym, ap, ◌≡◌, true, Bool, false, cond, and-eq-true_iff, Some, List, [], ◌∷◌, arith, leb, ltb, ℤ, le-leb, ltb-true, ltb-false}
 use Rattle.rules.specs.Streams.{Change}
 use Rattle.rules.specs.History.{Tally, tallied, first_tally, takes, target, gives, route_after, route_from, route_of, first_stream, is_taken, moves_from, moves_of, Together}
 use Rattle.rules.proofs.Routes.{first_route, no_route, route_left}
@@ -58,7 +58,7 @@ module _ (j k : ℕ) where
 
       go : (b : Bool) → gives k x t ≡ b → Meet xs (tallied x t) (p ∷ []) [] → route_from j (tallied x t) (route_after j x t (p ∷ [])) xs ≡ route_from k (tallied x t) (route_after k x t []) xs
       go true e on =
-          let firsts : some p ≡ some t.current = sym (firsts_kept xs j (tallied x t) p []) ∙ (rw (stays, first_route k x t e) at f) ∙ firsts_kept xs k (tallied x t) t.current [] in
+          let firsts : Some p ≡ Some t.current = sym (firsts_kept xs j (tallied x t) p []) ∙ (rw (stays, first_route k x t e) at f) ∙ firsts_kept xs k (tallied x t) t.current [] in
           let same : p ≡ t.current = cc in
           rw (stays, first_route k x t e) (ap (λ (z : ℤ). route_from j (tallied x t) (z ∷ []) xs) same ∙ same_way xs j k (tallied x t) t.current [])
       go false e on = rw (stays, no_route k x t e) (on (rw (stays, no_route k x t e) at tails) (rw (stays, no_route k x t e) at f))

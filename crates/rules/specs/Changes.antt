@@ -1,6 +1,5 @@
 -- The call that a step makes and how it changes the streams, read off the state before it.
-use Rattle.std.specs.Prelude.{ℕ, zero, suc, ◌-◌, ◌≡◌, Bool, true, false, ◌&&◌, List, [], ◌∷◌, ◌++◌, map, eqb, pos, take, drop, get_or}
-use Rattle.std.proofs.Math.Option.{Option, none, some}
+use Rattle.std.specs.Prelude.{ℕ, zero, suc, ◌-◌, ◌≡◌, Bool, true, false, ◌&&◌, List, [], ◌∷◌, ◌++◌, map, eqb, pos, take, drop, get_or, Option, None, Some}
 use Rattle.rules.specs.declared.Token.{Token}
 use Rattle.rules.specs.declared.Token.TheVariants as token
 use Rattle.rules.specs.declared.Reading.{Reading}
@@ -26,28 +25,28 @@ pub record Calling : Type 0 where
 
 -- a name's: 01 "it is called at once without arguments"
 unfoldable pub bare_call : NameUse → Bytes → ℕ → State → Option Calling
-bare_call plain name end s = none
-bare_call opening name end s = none
-bare_call (bare m) name end s = some (record { meaning = m; name = name; arguments = []; from = taking end s })
+bare_call plain name end s = None
+bare_call opening name end s = None
+bare_call (bare m) name end s = Some (record { meaning = m; name = name; arguments = []; from = taking end s })
 
 -- the one that closes: 01 "The definition used is the one in force at closing"
 unfoldable pub closed_call : Call → List Call → Option Meaning → State → Option Calling
-closed_call c cs none s = none
-closed_call c cs (some m) s = some (record { meaning = m; name = c.name; arguments = c.finished ++ (c.current ∷ []); from = with_calls cs s })
+closed_call c cs None s = None
+closed_call c cs (Some m) s = Some (record { meaning = m; name = c.name; arguments = c.finished ++ (c.current ∷ []); from = with_calls cs s })
 
 -- 01 "the right parenthesis at depth zero closes"
 unfoldable pub right_call : ℕ → Call → List Call → State → Option Calling
 right_call zero c cs s = closed_call c cs (meaning_of c.name s.table) s
-right_call (suc d) c cs s = none
+right_call (suc d) c cs s = None
 
 unfoldable pub byte_call : ℕ → List Call → State → Option Calling
-byte_call x [] s = none
-byte_call x (c ∷ cs) s = elim (eqb x right_parenthesis) [ true ↦ right_call c.depth c cs s | false ↦ none ]
+byte_call x [] s = None
+byte_call x (c ∷ cs) s = elim (eqb x right_parenthesis) [ true ↦ right_call c.depth c cs s | false ↦ None ]
 
 unfoldable pub token_call : Token → State → Option Calling
-token_call token.End s = none
-token_call (token.Comment end) s = none
-token_call (token.Quoted begins ends end) s = none
+token_call token.End s = None
+token_call (token.Comment end) s = None
+token_call (token.Quoted begins ends end) s = None
 token_call (token.Name end) s =
     let name = take end (ahead s.source) in
     bare_call (name_use name end s) name end s
@@ -55,8 +54,8 @@ token_call (token.Byte x) s = byte_call x s.calls (taking 1 s)
 
 unfoldable pub read_call : Reading → State → Option Calling
 read_call (Is t) s = token_call t s
-read_call (OpenQuote n) s = none
-read_call OpenComment s = none
+read_call (OpenQuote n) s = None
+read_call OpenComment s = None
 
 -- the call that the step from a state makes, if it makes one
 unfoldable pub call_of : State → Option Calling
@@ -65,13 +64,13 @@ call_of s = read_call (read_token s.marks (ahead s.source)) s
 -- ---- the changes of a call: of one that is refused none
 
 unfoldable pub divert_changes : List Bytes → List Change
-divert_changes args = elim (number_or (pos 0) 1 args) [ none ↦ [] | some n ↦ diverts n ∷ [] ]
+divert_changes args = elim (number_or (pos 0) 1 args) [ None ↦ [] | Some n ↦ diverts n ∷ [] ]
 
 unfoldable pub exit_changes : List Bytes → List Change
-exit_changes args = elim (bounded 0 255 (number_or (pos 0) 1 args)) [ none ↦ [] | some code ↦ drops ∷ [] ]
+exit_changes args = elim (bounded 0 255 (number_or (pos 0) 1 args)) [ None ↦ [] | Some code ↦ drops ∷ [] ]
 
 unfoldable pub undivert_changes : List Bytes → List Change
-undivert_changes args = elim (undivert_numbers args) [ none ↦ [] | some ns ↦ map moves ns ]
+undivert_changes args = elim (undivert_numbers args) [ None ↦ [] | Some ns ↦ map moves ns ]
 
 unfoldable pub no_changes : List Bytes → List Change
 no_changes args = []
@@ -149,8 +148,8 @@ read_changes OpenComment s = []
 
 -- those of the call, if there is one
 unfoldable pub call_or : Option Calling → List Change → List Change
-call_or none cs = cs
-call_or (some c) cs = call_changes c.meaning c.arguments
+call_or None cs = cs
+call_or (Some c) cs = call_changes c.meaning c.arguments
 
 -- the changes that the step from a state makes of the streams, in turn
 unfoldable pub changes_of : State → List Change

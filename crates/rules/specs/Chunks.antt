@@ -1,6 +1,5 @@
 -- The form in which named texts are stored, 02's "house form": "one byte of kind, then a body whose length the kind fixes".
-use Rattle.std.specs.Prelude.{ℕ, zero, suc, ◌+◌, ◌-◌, ◌*◌, ◌/◌, ◌%◌, min, true, false, [], ◌∷◌, eqb, length}
-use Rattle.std.proofs.Math.Option.{Option, none, some}
+use Rattle.std.specs.Prelude.{ℕ, zero, suc, ◌+◌, ◌-◌, ◌*◌, ◌/◌, ◌%◌, min, true, false, [], ◌∷◌, eqb, length, Option, None, Some}
 use Rattle.rules.specs.Bytes.{Bytes}
 
 -- 02, request 1 "32-bit, least byte first": the number that bytes stand for, and so many bytes of a number
@@ -25,17 +24,17 @@ pub record Carried : Type 0 where
   pub rest : Bytes
 
 unfoldable pub and_byte : ℕ → Option Carried → Option Carried
-and_byte x none = none
-and_byte x (some c) = some (record { bytes = x ∷ c.bytes; rest = c.rest })
+and_byte x None = None
+and_byte x (Some c) = Some (record { bytes = x ∷ c.bytes; rest = c.rest })
 
 -- `owed` bytes are still to come, `left` of them in the chunk that has begun; where none is left, the next byte is a kind
 unfoldable pub carried : Bytes → ℕ → ℕ → Option Carried
-carried [] zero zero = some (record { bytes = []; rest = [] })
-carried [] zero (suc left) = none
-carried [] (suc owed) left = none
-carried (x ∷ w) zero zero = some (record { bytes = []; rest = x ∷ w })
-carried (x ∷ w) zero (suc left) = none
-carried (kind ∷ w) (suc owed) zero = elim (eqb kind (chunk_kind (suc owed))) [ true ↦ carried w (suc owed) kind | false ↦ none ]
+carried [] zero zero = Some (record { bytes = []; rest = [] })
+carried [] zero (suc left) = None
+carried [] (suc owed) left = None
+carried (x ∷ w) zero zero = Some (record { bytes = []; rest = x ∷ w })
+carried (x ∷ w) zero (suc left) = None
+carried (kind ∷ w) (suc owed) zero = elim (eqb kind (chunk_kind (suc owed))) [ true ↦ carried w (suc owed) kind | false ↦ None ]
 carried (x ∷ w) (suc owed) (suc left) = and_byte x (carried w owed left)
 
 -- so many bytes in chunks

@@ -1,6 +1,5 @@
 -- Every byte once (02, request 8): the history of a run, the numbers that bytes get along it, and what holds of the numbers in the output.
-use Rattle.std.specs.Prelude.{ℕ, zero, suc, ◌+◌, ◌≤◌, ◌<◌, ◌≡◌, Bool, true, false, ◌&&◌, not, cond, List, [], ◌∷◌, ◌++◌, map, eqb, leb, ltb, ℤ, pos, negsuc, length, get_or}
-use Rattle.std.proofs.Math.Option.{Option, none, some}
+use Rattle.std.specs.Prelude.{ℕ, zero, suc, ◌+◌, ◌≤◌, ◌<◌, ◌≡◌, Bool, true, false, ◌&&◌, not, cond, List, [], ◌∷◌, ◌++◌, map, eqb, leb, ltb, ℤ, pos, negsuc, length, get_or, Option, None, Some}
 use Rattle.rules.specs.Bytes.{Bytes}
 use Rattle.rules.specs.Sets.{Item, set_items}
 use Rattle.rules.specs.Streams.{empty_streams, discards, is_current, Change, places, moves, finishes, drops, diverts, changed_in_turn}
@@ -24,8 +23,8 @@ states_from (suc n) s = s ∷ following (λ t. states_from n t) (step s)
 
 -- a bad set has no items; no step is made with it
 unfoldable pub items_or : Option (List Item) → List Item
-items_or none = []
-items_or (some is) = is
+items_or None = []
+items_or (Some is) = is
 
 -- the states from which the completed steps of a run are made
 unfoldable pub states_of : Start → Setting → List State
@@ -147,8 +146,8 @@ route_of k h = route_from k first_tally [] h
 
 -- the stream in which it was first placed
 unfoldable pub first_stream : List ℤ → Option ℤ
-first_stream [] = none
-first_stream (p ∷ []) = some p
+first_stream [] = None
+first_stream (p ∷ []) = Some p
 first_stream (p ∷ q ∷ ps) = first_stream (q ∷ ps)
 
 -- 02 "the numbers that an undivert moved while a discarding stream was current": such a one stands in no stream 0 to 9

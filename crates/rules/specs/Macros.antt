@@ -1,6 +1,5 @@
 -- The predefined macros: what a call of each with its arguments makes of the state, from which the call is already taken.
-use Rattle.std.specs.Prelude.{ℕ, zero, suc, true, false, ◌&&◌, List, [], ◌∷◌, ◌++◌, map, eqb, pos, get_or}
-use Rattle.std.proofs.Math.Option.{Option, none, some}
+use Rattle.std.specs.Prelude.{ℕ, zero, suc, true, false, ◌&&◌, List, [], ◌∷◌, ◌++◌, map, eqb, pos, get_or, Option, None, Some}
 use Rattle.rules.specs.Bytes.{Bytes, is_name}
 use Rattle.rules.specs.Answers.{exit, no_name, no_number, bad_mark, gone, no_definition}
 use Rattle.rules.specs.Marks.{MarkTexts, newline_mark, default_marks, is_mark, is_end_mark, with_quotes, with_comments}
@@ -48,7 +47,7 @@ unfoldable pub call_defn : List Bytes → State → Outcome
 call_defn args s = giving (defn_result s.marks s.table args) s
 
 unfoldable pub call_divert : List Bytes → State → Outcome
-call_divert args s = elim (number_or (pos 0) 1 args) [ none ↦ refused no_number | some n ↦ next (changing (diverts n ∷ []) s) ]
+call_divert args s = elim (number_or (pos 0) 1 args) [ None ↦ refused no_number | Some n ↦ next (changing (diverts n ∷ []) s) ]
 
 unfoldable pub call_divnum : List Bytes → State → Outcome
 call_divnum args s = giving (divnum_result s.streams.current) s
@@ -87,8 +86,8 @@ call_len args s = giving (len_result args) s
 unfoldable pub call_m4exit : List Bytes → State → Outcome
 call_m4exit args s =
     elim (bounded 0 255 (number_or (pos 0) 1 args)) [
-      | none ↦ refused no_number
-      | some code ↦ stop (exit code) (with_wrap [] (changing (drops ∷ []) s))
+      | None ↦ refused no_number
+      | Some code ↦ stop (exit code) (with_wrap [] (changing (drops ∷ []) s))
     ]
 
 -- 004: the first argument waits for the end
@@ -114,23 +113,23 @@ unfoldable pub call_undefine : List Bytes → State → Outcome
 call_undefine args s = next (with_table (in_turn undefined args s.table) s)
 
 unfoldable pub also_stream : Option ℕ → Option (List ℕ) → Option (List ℕ)
-also_stream none ns = none
-also_stream (some n) none = none
-also_stream (some n) (some ns) = some (n ∷ ns)
+also_stream None ns = None
+also_stream (Some n) None = None
+also_stream (Some n) (Some ns) = Some (n ∷ ns)
 
 -- the streams that arguments name: 01 "undivert outside 1 to 9" is refused 7
 unfoldable pub stream_numbers : List Bytes → Option (List ℕ)
-stream_numbers [] = some []
+stream_numbers [] = Some []
 stream_numbers (a ∷ more) = also_stream (bounded 1 9 (number a)) (stream_numbers more)
 
 -- 01 "only when absent: .. undivert all nine"
 unfoldable pub undivert_numbers : List Bytes → Option (List ℕ)
-undivert_numbers [] = some (1 ∷ 2 ∷ 3 ∷ 4 ∷ 5 ∷ 6 ∷ 7 ∷ 8 ∷ 9 ∷ [])
+undivert_numbers [] = Some (1 ∷ 2 ∷ 3 ∷ 4 ∷ 5 ∷ 6 ∷ 7 ∷ 8 ∷ 9 ∷ [])
 undivert_numbers (a ∷ more) = stream_numbers (a ∷ more)
 
 unfoldable pub call_undivert : List Bytes → State → Outcome
 call_undivert args s =
-    elim (undivert_numbers args) [ none ↦ refused no_number | some ns ↦ next (changing (map moves ns) s) ]
+    elim (undivert_numbers args) [ None ↦ refused no_number | Some ns ↦ next (changing (map moves ns) s) ]
 
 -- 02, request 1 "The contents become pending text and count there"
 unfoldable pub call_include : List Bytes → State → Outcome
@@ -141,8 +140,8 @@ call_sinclude args s = giving (sinclude_result s.set args) s
 
 -- 02, request 7: a name gets a meaning "as define would set it"; refusal 16: there is none, since "the first argument has no definition"
 unfoldable pub copying : Option Meaning → Bytes → State → Outcome
-copying none w s = refused no_definition
-copying (some m) w s = next (with_table (defined w m s.table) s)
+copying None w s = refused no_definition
+copying (Some m) w s = next (with_table (defined w m s.table) s)
 
 -- "the second argument gets the meaning of the first, predefined or text"; "the new name is judged first (6), then 16"
 unfoldable pub call_copydef : List Bytes → State → Outcome
@@ -196,5 +195,5 @@ performed (predefined k) name args s = perform k args s
 
 -- refusal 12: the name has no definition
 unfoldable pub called : Option Meaning → Bytes → List Bytes → State → Outcome
-called none name args s = refused gone
-called (some m) name args s = performed m name args s
+called None name args s = refused gone
+called (Some m) name args s = performed m name args s

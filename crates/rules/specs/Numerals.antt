@@ -1,40 +1,39 @@
 -- Numbers in texts: how they are read and how they are written.
-use Rattle.std.specs.Prelude.{ℕ, zero, suc, ◌+◌, ◌-◌, ◌*◌, ◌/◌, ◌%◌, true, false, cond, [], ◌∷◌, ◌++◌, leb, ltb, eqb, ℤ, pos, negsuc, neg_ℤ, length, replicate}
-use Rattle.std.proofs.Math.Option.{Option, none, some}
+use Rattle.std.specs.Prelude.{ℕ, zero, suc, ◌+◌, ◌-◌, ◌*◌, ◌/◌, ◌%◌, true, false, cond, [], ◌∷◌, ◌++◌, leb, ltb, eqb, ℤ, pos, negsuc, neg_ℤ, length, replicate, Option, None, Some}
 use Rattle.rules.specs.Bytes.{Bytes, is_digit, is_lower, is_upper}
 use Rattle.rules.specs.Words.{largest}
 
 -- what a digit is worth: 0 to 9, then 10 to 35 for the letters. Another byte is no digit, whatever the radix
 unfoldable pub digit_worth : ℕ → Option ℕ
-digit_worth x = cond (is_digit x) (some (x - 48)) (cond (is_lower x) (some (x - 87)) (cond (is_upper x) (some (x - 55)) none))
+digit_worth x = cond (is_digit x) (Some (x - 48)) (cond (is_lower x) (Some (x - 87)) (cond (is_upper x) (Some (x - 55)) None))
 
 -- the number that digits write behind the digits of v, if each of them is worth less than the radix. So radix 0 has no digit, radix 1 only 0, and a
 -- radix above 36 none beyond z
 unfoldable pub natural_from : ℕ → ℕ → Bytes → Option ℕ
-natural_from radix v [] = some v
+natural_from radix v [] = Some v
 natural_from radix v (x ∷ xs) =
     elim (digit_worth x) [
-      | none ↦ none
-      | some d ↦ elim (ltb d radix) [ true ↦ natural_from radix (v * radix + d) xs | false ↦ none ]
+      | None ↦ None
+      | Some d ↦ elim (ltb d radix) [ true ↦ natural_from radix (v * radix + d) xs | false ↦ None ]
     ]
 
 -- one or more digits of a radix
 unfoldable pub natural : ℕ → Bytes → Option ℕ
-natural radix [] = none
+natural radix [] = None
 natural radix (x ∷ xs) = natural_from radix 0 (x ∷ xs)
 
 -- a number that is at most a limit
 unfoldable pub up_to : ℕ → Option ℕ → Option ℕ
-up_to limit none = none
-up_to limit (some n) = elim (leb n limit) [ true ↦ some n | false ↦ none ]
+up_to limit None = None
+up_to limit (Some n) = elim (leb n limit) [ true ↦ Some n | false ↦ None ]
 
 unfoldable pub as_signed : (ℕ → ℤ) → Option ℕ → Option ℤ
-as_signed f none = none
-as_signed f (some n) = some (f n)
+as_signed f None = None
+as_signed f (Some n) = Some (f n)
 
 -- 01 "an optional minus and one or more decimal digits, within -2147483648 to 2147483647"
 unfoldable pub number : Bytes → Option ℤ
-number [] = none
+number [] = None
 number (x ∷ xs) =
     elim (eqb x 45) [
       | true ↦ as_signed (λ n. neg_ℤ (pos n)) (up_to (largest + 1) (natural 10 xs))

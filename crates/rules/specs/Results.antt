@@ -1,15 +1,15 @@
 -- The macros that only give a result: the text that goes in front of the text ahead, or why the call is refused.
-use Rattle.std.specs.Prelude.{ℕ, Bool, true, false, cond, ◌&&◌, List, [], ◌∷◌, ◌++◌, eqb, ℤ, pos, negsuc, length, take, drop}
-use Rattle.std.proofs.Math.Option.{Option, none, some}
+use Rattle.std.specs.Prelude.{ℕ, Bool, true, false, cond, ◌&&◌, List, [], ◌∷◌, ◌++◌, eqb, ℤ, pos, negsuc, length, take, drop, Option, None, Some, Ok, Err}
+use Rattle.std.specs.Prelude as std
 use Rattle.std.proofs.Math.IntN.{suc_ℤ, pred_ℤ}
 use Rattle.std.specs.Int.Signed.{le_z}
-use Rattle.rules.specs.declared.Evaluated.{Evaluated}
-use Rattle.rules.specs.declared.Evaluated.TheVariants as evaluated
+use Rattle.rules.specs.declared.EvalError.{EvalError}
+use Rattle.rules.specs.declared.EvalError.TheVariants as eval_error
 use Rattle.rules.specs.Bytes.{Bytes, same_bytes}
 use Rattle.rules.specs.Answers.{Fault, no_number, no_expression, divisor, no_text, no_item}
 use Rattle.rules.specs.Marks.{MarkTexts, quoted}
 use Rattle.rules.specs.Tokens.{first_place}
-use Rattle.rules.specs.Words.{largest, signed_value}
+use Rattle.rules.specs.Words.{largest}
 use Rattle.rules.specs.Numerals.{number, decimal, written_in}
 use Rattle.rules.specs.Expression.{evaluation}
 use Rattle.rules.specs.Sets.{Item, item_text}
@@ -22,8 +22,8 @@ pub data Result : Type 0 where
 
 -- a number is needed: refusal 7 where there is none
 unfoldable pub needing : Option ℕ → (ℕ → Result) → Result
-needing none f = fails no_number
-needing (some n) f = f n
+needing None f = fails no_number
+needing (Some n) f = f n
 
 -- 01 "within -2147483648 to 2147483647"
 unfoldable pub is_number : ℤ → Bool
@@ -31,8 +31,8 @@ is_number z = le_z (negsuc largest) z && le_z z (pos largest)
 
 -- 01 "Also 7: an incr or decr result outside that range"
 unfoldable pub changed_number : (ℤ → ℤ) → Option ℤ → Result
-changed_number f none = fails no_number
-changed_number f (some z) = elim (is_number (f z)) [ true ↦ yields (decimal (f z)) | false ↦ fails no_number ]
+changed_number f None = fails no_number
+changed_number f (Some z) = elim (is_number (f z)) [ true ↦ yields (decimal (f z)) | false ↦ fails no_number ]
 
 unfoldable pub decr_result : List Bytes → Result
 decr_result args = changed_number pred_ℤ (number (arg 1 args))
@@ -49,9 +49,9 @@ unfoldable pub defn_result : MarkTexts → Table → List Bytes → Result
 defn_result m t [] = yields []
 defn_result m t (w ∷ ws) =
     elim (meaning_of w t) [
-      | none ↦ defn_result m t ws
-      | some (text x) ↦ in_front (quoted m x) (defn_result m t ws)
-      | some (predefined k) ↦ fails no_text
+      | None ↦ defn_result m t ws
+      | Some (text x) ↦ in_front (quoted m x) (defn_result m t ws)
+      | Some (predefined k) ↦ fails no_text
     ]
 
 -- 004: the number of the current stream
@@ -59,15 +59,15 @@ unfoldable pub divnum_result : ℤ → Result
 divnum_result current = yields (decimal current)
 
 -- a value in a radix with a least count of digits
-unfoldable pub shown_result : Evaluated → ℕ → ℕ → Result
-shown_result evaluated.Unreadable radix least = fails no_expression
-shown_result evaluated.Divisor radix least = fails divisor
-shown_result (evaluated.Number x) radix least = yields (written_in radix least (signed_value x))
+unfoldable pub shown_result : std.Result ℤ EvalError → ℕ → ℕ → Result
+shown_result (Err eval_error.Unreadable) radix least = fails no_expression
+shown_result (Err eval_error.Divisor) radix least = fails divisor
+shown_result (Ok x) radix least = yields (written_in radix least x)
 
-unfoldable pub is_unreadable : Evaluated → Bool
-is_unreadable evaluated.Unreadable = true
-is_unreadable evaluated.Divisor = false
-is_unreadable (evaluated.Number x) = false
+unfoldable pub is_unreadable : std.Result ℤ EvalError → Bool
+is_unreadable (Err eval_error.Unreadable) = true
+is_unreadable (Err eval_error.Divisor) = false
+is_unreadable (Ok x) = false
 
 -- 01 "eval in the order 8, radix, digits, 9"; "radix outside 2 to 36; negative minimum digits" are refused 7
 unfoldable pub eval_result : List Bytes → Result
@@ -99,12 +99,12 @@ ifelse_result args = yields (chosen args)
 
 -- 004: the place, from 0, or -1
 unfoldable pub place_or : Option ℕ → ℤ
-place_or none = negsuc 0
-place_or (some n) = pos n
+place_or None = negsuc 0
+place_or (Some n) = pos n
 
 -- 02, request 1: the contents of the item that the first argument names, or what an unknown name gives
 unfoldable pub contents_or : Result → List Item → List Bytes → Result
-contents_or unknown is args = elim (item_text (arg 1 args) is) [ none ↦ unknown | some w ↦ yields w ]
+contents_or unknown is args = elim (item_text (arg 1 args) is) [ None ↦ unknown | Some w ↦ yields w ]
 
 -- "15 unknown include"
 unfoldable pub include_result : List Item → List Bytes → Result

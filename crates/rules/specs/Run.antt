@@ -1,6 +1,5 @@
 -- A run: steps under a setting, room judged on the state after each, and how it ends.
-use Rattle.std.specs.Prelude.{ℕ, zero, suc, ◌+◌, Bool, true, false, List, [], ◌∷◌, leb, length}
-use Rattle.std.proofs.Math.Option.{Option, none, some}
+use Rattle.std.specs.Prelude.{ℕ, zero, suc, ◌+◌, Bool, true, false, List, [], ◌∷◌, leb, length, Option, None, Some}
 use Rattle.rules.specs.declared.Answer.{Answer}
 use Rattle.rules.specs.declared.Answer.TheVariants as answer
 use Rattle.rules.specs.Answers.{ending_answer, fault_answer}
@@ -45,9 +44,9 @@ held s =
 
 -- the place, from 0, of the first buffer that would hold more than its length: 01 "of several full buffers the lowest number is named"
 unfoldable pub overfull : List ℕ → List ℕ → Option ℕ
-overfull [] ls = none
-overfull (h ∷ hs) [] = none
-overfull (h ∷ hs) (l ∷ ls) = elim (leb h l) [ true ↦ plus_one (overfull hs ls) | false ↦ some 0 ]
+overfull [] ls = None
+overfull (h ∷ hs) [] = None
+overfull (h ∷ hs) (l ∷ ls) = elim (leb h l) [ true ↦ plus_one (overfull hs ls) | false ↦ Some 0 ]
 
 -- how a run ended: the answer, the completed steps and the standing state, which on a refusal is that before the refused step
 pub record Ended : Type 0 where
@@ -61,8 +60,8 @@ ended_with a steps s = record { answer = a; steps = steps; state = s }
 -- room is judged on the state t that a step from s, after `count` completed ones, led to, by the first buffer that t overfills. `go` says how the run
 -- goes on from a state: where nothing is overfull that is asked of t; else the step is refused, and the run ends in s with the steps before it
 unfoldable pub judged : (State → Ended) → ℕ → State → State → Option ℕ → Ended
-judged go count s t none = go t
-judged go count s t (some b) = ended_with (answer.Room (suc b)) count s
+judged go count s t None = go t
+judged go count s t (Some b) = ended_with (answer.Room (suc b)) count s
 
 -- what follows from the outcome of a step from s, to which `count` completed steps led. Here `go` is the rest of the run, from the state after the
 -- step; a step that ends the run has no rest, and its `go` is that end itself. 01 "a refused step is not counted, the one that
@@ -88,8 +87,8 @@ all_lendable (l ∷ ls) = elim (leb l most_lent) [ true ↦ all_lendable ls | fa
 
 -- 02, request 1 "is judged whole before the first step"; "14 bad or overlong set, right after 2"
 unfoldable pub started : Option (List Item) → Start → Setting → Ended
-started none b a = ended_with answer.BadSet 0 (start_state [] b)
-started (some is) b a = run_from (lengths a) a.budget 0 (start_state is b)
+started None b a = ended_with answer.BadSet 0 (start_state [] b)
+started (Some is) b a = run_from (lengths a) a.budget 0 (start_state is b)
 
 unfoldable pub admitted : Bool → Start → Setting → Ended
 admitted false b a = ended_with answer.Lend 0 (start_state [] b)

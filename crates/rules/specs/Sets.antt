@@ -1,6 +1,5 @@
 -- Sets of named texts for `include`: 02, request 1.
-use Rattle.std.specs.Prelude.{ℕ, zero, suc, ◌+◌, Bool, true, false, ◌&&◌, List, [], ◌∷◌, ◌++◌, leb, eqb, length, take, drop}
-use Rattle.std.proofs.Math.Option.{Option, none, some}
+use Rattle.std.specs.Prelude.{ℕ, zero, suc, ◌+◌, Bool, true, false, ◌&&◌, List, [], ◌∷◌, ◌++◌, leb, eqb, length, take, drop, Option, None, Some}
 use Rattle.rules.specs.Bytes.{Bytes, same_bytes}
 use Rattle.rules.specs.Chunks.{least_first, bytes_least_first, Carried, chunks_read, chunked}
 
@@ -29,8 +28,8 @@ pub record ItemRead : Type 0 where
 
 -- "name and text, joined": the first n bytes are the name
 unfoldable pub parted : ℕ → Option Carried → Option ItemRead
-parted n none = none
-parted n (some c) = some (record { item = record { name = take n c.bytes; text = drop n c.bytes }; rest = c.rest })
+parted n None = None
+parted n (Some c) = Some (record { item = record { name = take n c.bytes; text = drop n c.bytes }; rest = c.rest })
 
 -- "its 8-byte body holds name length and text length, 32-bit, least byte first; name and text, joined, follow in chunks"
 unfoldable pub body_read : Bytes → Option ItemRead
@@ -41,34 +40,34 @@ body_read w =
 
 -- the item at the front
 unfoldable pub item_read : Bytes → Option ItemRead
-item_read [] = none
-item_read (kind ∷ w) = elim (eqb kind item_kind && leb 8 (length w)) [ true ↦ body_read w | false ↦ none ]
+item_read [] = None
+item_read (kind ∷ w) = elim (eqb kind item_kind && leb 8 (length w)) [ true ↦ body_read w | false ↦ None ]
 
 -- "Kind 0 ends the set, with nothing after it"
 unfoldable pub is_end : Bytes → Bool
 is_end w = same_bytes w (end_kind ∷ [])
 
 unfoldable pub and_item : Item → Option (List Item) → Option (List Item)
-and_item i none = none
-and_item i (some is) = some (i ∷ is)
+and_item i None = None
+and_item i (Some is) = Some (i ∷ is)
 
 -- the items up to the end, fewer than `most` of them
 unfoldable pub items_from : ℕ → Bytes → Option (List Item)
-items_from zero w = none
+items_from zero w = None
 items_from (suc most) w =
     elim (is_end w) [
-      | true ↦ some []
-      | false ↦ elim (item_read w) [ none ↦ none | some r ↦ and_item r.item (items_from most r.rest) ]
+      | true ↦ Some []
+      | false ↦ elim (item_read w) [ None ↦ None | Some r ↦ and_item r.item (items_from most r.rest) ]
     ]
 
 -- the items of a set, which has a byte for each at least, and one for its end; none: 02 "14 bad or overlong set"
 unfoldable pub set_items : Bytes → Option (List Item)
-set_items w = elim (leb (length w) longest_set) [ true ↦ items_from (length w) w | false ↦ none ]
+set_items w = elim (leb (length w) longest_set) [ true ↦ items_from (length w) w | false ↦ None ]
 
 -- "The first of two items with one name counts": its text
 unfoldable pub item_text : Bytes → List Item → Option Bytes
-item_text w [] = none
-item_text w (i ∷ is) = elim (same_bytes w i.name) [ true ↦ some i.text | false ↦ item_text w is ]
+item_text w [] = None
+item_text w (i ∷ is) = elim (same_bytes w i.name) [ true ↦ Some i.text | false ↦ item_text w is ]
 
 -- ---- writing one: the only set with these items
 

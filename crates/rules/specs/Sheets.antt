@@ -1,19 +1,15 @@
 -- The sheet: 02, request 4 "The sheet itself". What a text says when it is read as a sheet, what expanding and reading promises, and what a question by
 -- name answers.
-use Rattle.std.specs.Prelude.{ℕ, suc, ◌+◌, ◌-◌, ◌^◌, ◌≡◌, Bool, true, false, ◌&&◌, List, [], ◌∷◌, ◌++◌, leb, ltb, eqb, Float, pos, length, take, drop, replicate}
+use Rattle.std.specs.Prelude.{ℕ, suc, ◌+◌, ◌-◌, ◌^◌, ◌≡◌, Bool, true, false, ◌&&◌, List, [], ◌∷◌, ◌++◌, leb, ltb, eqb, Float, pos, length, take, drop, replicate, Option, None, Some, Result, Ok, Err}
 use Prim.Native.Char.{code}
-use Rattle.std.proofs.Math.Option.{Option, none, some}
 use Rattle.std.specs.Float.{binary64}
 use Rattle.std.specs.Float.Ieee.{of_int, div, neg}
 use Rattle.rules.specs.declared.Value.{Value}
 use Rattle.rules.specs.declared.Value.TheVariants as value
 use Rattle.rules.specs.declared.Entry.{Entry}
 use Rattle.rules.specs.declared.Sheet.{Sheet}
-use Rattle.rules.specs.declared.Lookup.{Lookup}
-use Rattle.rules.specs.declared.Lookup.TheVariants as lookup
-use Rattle.rules.specs.declared.SheetAnswer.{SheetAnswer}
-use Rattle.rules.specs.declared.SheetAnswer.TheVariants as answer
-use Rattle.rules.specs.declared.SheetRead.{SheetRead}
+use Rattle.rules.specs.declared.SheetError.{SheetError}
+use Rattle.rules.specs.declared.SheetError.TheVariants.{Malformed, Twice, TooMany, NotDone}
 use Rattle.rules.specs.declared.SheetReport.{SheetReport}
 use Rattle.rules.specs.Bytes.{Bytes, same_bytes, is_digit, name_length, is_name}
 use Rattle.rules.specs.Answers.{answer_number, answer_detail}
@@ -45,15 +41,15 @@ unfoldable pub quotient : ℕ → ℕ → Float
 quotient digits places = div binary64 (of_int binary64 (pos digits)) (of_int binary64 (pos (10 ^ places)))
 
 unfoldable pub quotient_of : ℕ → Option ℕ → Option Float
-quotient_of places none = none
-quotient_of places (some digits) = some (quotient digits places)
+quotient_of places None = None
+quotient_of places (Some digits) = Some (quotient digits places)
 
 -- "one or more digits, a point, one or more digits, at most 15 digits in all": those before the point and those behind it
 unfoldable pub fraction : Bytes → Bytes → Option Float
-fraction [] part = none
-fraction (x ∷ xs) [] = none
+fraction [] part = None
+fraction (x ∷ xs) [] = None
 fraction (x ∷ xs) (y ∷ ys) =
-    elim (leb (length ((x ∷ xs) ++ (y ∷ ys))) 15) [ true ↦ quotient_of (length (y ∷ ys)) (natural 10 ((x ∷ xs) ++ (y ∷ ys))) | false ↦ none ]
+    elim (leb (length ((x ∷ xs) ++ (y ∷ ys))) 15) [ true ↦ quotient_of (length (y ∷ ys)) (natural 10 ((x ∷ xs) ++ (y ∷ ys))) | false ↦ None ]
 
 -- how many digits stand at the front
 unfoldable pub digit_count : Bytes → ℕ
@@ -61,48 +57,48 @@ digit_count w = front_length is_digit w
 
 -- what stands behind the digits: the point, and more
 unfoldable pub pointed : Bytes → Bytes → Option Float
-pointed whole [] = none
-pointed whole (x ∷ part) = elim (eqb x (code ".")) [ true ↦ fraction whole part | false ↦ none ]
+pointed whole [] = None
+pointed whole (x ∷ part) = elim (eqb x (code ".")) [ true ↦ fraction whole part | false ↦ None ]
 
 unfoldable pub unsigned_decimal : Bytes → Option Float
 unsigned_decimal w = pointed (take (digit_count w) w) (drop (digit_count w) w)
 
 unfoldable pub negated : Option Float → Option Float
-negated none = none
-negated (some x) = some (neg x)
+negated None = None
+negated (Some x) = Some (neg x)
 
 -- "A decimal has an optional minus"; "then negated if there was a minus": so -0.0 has its sign
 unfoldable pub decimal_value : Bytes → Option Float
-decimal_value [] = none
+decimal_value [] = None
 decimal_value (x ∷ xs) = elim (eqb x (code "-")) [ true ↦ negated (unsigned_decimal xs) | false ↦ unsigned_decimal (x ∷ xs) ]
 
 -- ---- readings
 
 -- "or a word shaped like a name", of a word at a place
 unfoldable pub word_value : ℕ → Bytes → Option Value
-word_value place w = elim (is_name w) [ true ↦ some (value.Word place (length w)) | false ↦ none ]
+word_value place w = elim (is_name w) [ true ↦ Some (value.Word place (length w)) | false ↦ None ]
 
 unfoldable pub decimal_or : Option Value → Option Float → Option Value
-decimal_or other none = other
-decimal_or other (some x) = some (value.Decimal x)
+decimal_or other None = other
+decimal_or other (Some x) = Some (value.Decimal x)
 
 -- "A reading is a number as 01 has it, a decimal length or gain, or a word shaped like a name": the bytes w, which stand at a place of the text
 unfoldable pub value_at : ℕ → Bytes → Option Value
-value_at place w = elim (number w) [ none ↦ decimal_or (word_value place w) (decimal_value w) | some z ↦ some (value.Number z) ]
+value_at place w = elim (number w) [ None ↦ decimal_or (word_value place w) (decimal_value w) | Some z ↦ Some (value.Number z) ]
 
 -- the line of a name of n bytes at a place, with its reading
 unfoldable pub entry_of : ℕ → ℕ → Option Value → Option Entry
-entry_of place n none = none
-entry_of place n (some v) = some (record { name = place; length = n; value = v })
+entry_of place n None = None
+entry_of place n (Some v) = Some (record { name = place; length = n; value = v })
 
 -- what stands behind a name of n bytes: `=` and the reading
 unfoldable pub behind_name : ℕ → ℕ → Bytes → Option Entry
-behind_name place n [] = none
-behind_name place n (x ∷ w) = elim (eqb x (code "=")) [ true ↦ entry_of place n (value_at (suc (place + n)) w) | false ↦ none ]
+behind_name place n [] = None
+behind_name place n (x ∷ w) = elim (eqb x (code "=")) [ true ↦ entry_of place n (value_at (suc (place + n)) w) | false ↦ None ]
 
 -- "a name, `=`, a reading": the line l, which stands at a place of the text
 unfoldable pub entry_at : ℕ → Bytes → Option Entry
-entry_at place l = elim (is_name (take (name_length l) l)) [ true ↦ behind_name place (name_length l) (drop (name_length l) l) | false ↦ none ]
+entry_at place l = elim (is_name (take (name_length l) l)) [ true ↦ behind_name place (name_length l) (drop (name_length l) l) | false ↦ None ]
 
 -- ---- a question by name
 
@@ -115,12 +111,12 @@ unfoldable pub is_named : Bytes → Bytes → Entry → Bool
 is_named text name e = leb (e.name + e.length) (length text) && same_bytes (name_in text e) name
 
 -- the reading of the first line with a name
-unfoldable pub first_named : Bytes → Bytes → List Entry → Lookup
-first_named text name [] = lookup.Absent
-first_named text name (e ∷ es) = elim (is_named text name e) [ true ↦ lookup.Found e.value | false ↦ first_named text name es ]
+unfoldable pub first_named : Bytes → Bytes → List Entry → Option Value
+first_named text name [] = None
+first_named text name (e ∷ es) = elim (is_named text name e) [ true ↦ Some e.value | false ↦ first_named text name es ]
 
 -- "A question by name, of a sheet and its written text, returns its reading or `absent`": of any sheet and any text, by the lines below its count
-unfoldable pub question : Sheet → Bytes → Bytes → Lookup
+unfoldable pub question : Sheet → Bytes → Bytes → Option Value
 question s text name = first_named text name (take s.count s.lines)
 
 -- ---- the lines of a text, judged
@@ -128,23 +124,18 @@ question s text name = first_named text name (take s.count s.lines)
 abbrev pub most_lines : ℕ
 most_lines = 256
 
--- what a text is: a sheet of lines, or bad at a line
-pub data Judged : Type 0 where
-  good : List Entry → Judged
-  malformed twice too_many : ℕ → Judged
-
 -- the lines ls of a text, the first of them at a place, behind those that gave es: "the first bad line counts, judged 22, 20, 21", "with the line number
 -- as detail"
-unfoldable pub judged_lines : Bytes → List Entry → ℕ → List Bytes → Judged
-judged_lines text es place [] = good es
+unfoldable pub judged_lines : Bytes → List Entry → ℕ → List Bytes → Result (List Entry) SheetError
+judged_lines text es place [] = Ok es
 judged_lines text es place (l ∷ ls) =
     elim (ltb (length es) most_lines) [
-      | false ↦ too_many (suc (length es))
+      | false ↦ Err (TooMany (suc (length es)))
       | true ↦ elim (entry_at place l) [
-        | none ↦ malformed (suc (length es))
-        | some e ↦ elim (first_named text (name_in text e) es) [
-          | lookup.Found v ↦ twice (suc (length es))
-          | lookup.Absent ↦ judged_lines text (es ++ (e ∷ [])) (place + suc (length l)) ls
+        | None ↦ Err (Malformed (suc (length es)))
+        | Some e ↦ elim (first_named text (name_in text e) es) [
+          | Some v ↦ Err (Twice (suc (length es)))
+          | None ↦ judged_lines text (es ++ (e ∷ [])) (place + suc (length l)) ls
         ]
       ]
     ]
@@ -159,51 +150,52 @@ unused_line = record { name = 0; length = 0; value = value.Number (pos 0) }
 unfoldable pub sheet_of : List Entry → Sheet
 sheet_of es = record { lines = es ++ replicate (most_lines - length es) unused_line; count = length es }
 
--- a refusal has no line
-unfoldable pub sheet_judged : Judged → SheetRead
-sheet_judged (good es) = record { answer = answer.Good; sheet = sheet_of es }
-sheet_judged (malformed line) = record { answer = answer.Malformed line; sheet = sheet_of [] }
-sheet_judged (twice line) = record { answer = answer.Twice line; sheet = sheet_of [] }
-sheet_judged (too_many line) = record { answer = answer.TooMany line; sheet = sheet_of [] }
+-- the lines that were judged good are a sheet
+unfoldable pub sheet_judged : Result (List Entry) SheetError → Result Sheet SheetError
+sheet_judged (Ok es) = Ok (sheet_of es)
+sheet_judged (Err e) = Err e
 
 -- a text, read as a sheet
-unfoldable pub sheet_read : Bytes → SheetRead
+unfoldable pub sheet_read : Bytes → Result Sheet SheetError
 sheet_read text = sheet_judged (judged_lines text [] 0 (lines_of text))
+
+-- a refusal has no line
+unfoldable pub sheet_in : Result Sheet SheetError → Sheet
+sheet_in (Ok s) = s
+sheet_in (Err e) = sheet_of []
 
 -- ---- the numbers of an answer
 
 -- "20 malformed line, 21 name given twice, 22 a 257th line"
-unfoldable pub sheet_number : SheetAnswer → ℕ
-sheet_number answer.Good = 0
-sheet_number (answer.Malformed line) = 20
-sheet_number (answer.Twice line) = 21
-sheet_number (answer.TooMany line) = 22
-sheet_number (answer.NotDone a) = answer_number a
+unfoldable pub sheet_number : {T : Type 0} → Result T SheetError → ℕ
+sheet_number (Ok s) = 0
+sheet_number (Err (Malformed line)) = 20
+sheet_number (Err (Twice line)) = 21
+sheet_number (Err (TooMany line)) = 22
+sheet_number (Err (NotDone a)) = answer_number a
 
-unfoldable pub sheet_detail : SheetAnswer → ℕ
-sheet_detail answer.Good = 0
-sheet_detail (answer.Malformed line) = line
-sheet_detail (answer.Twice line) = line
-sheet_detail (answer.TooMany line) = line
-sheet_detail (answer.NotDone a) = answer_detail a
+unfoldable pub sheet_detail : {T : Type 0} → Result T SheetError → ℕ
+sheet_detail (Ok s) = 0
+sheet_detail (Err (Malformed line)) = line
+sheet_detail (Err (Twice line)) = line
+sheet_detail (Err (TooMany line)) = line
+sheet_detail (Err (NotDone a)) = answer_detail a
 
 -- ---- expanding and reading
 
 -- "A run that did not end done gives no sheet at all, only its answer"
-unfoldable pub sheet_after : Ended → SheetRead
-sheet_after e =
-    elim (eqb (answer_number e.answer) 0) [ true ↦ sheet_read (output_of e) | false ↦ record { answer = answer.NotDone e.answer; sheet = sheet_of [] } ]
+unfoldable pub sheet_after : Ended → Result Sheet SheetError
+sheet_after e = elim (eqb (answer_number e.answer) 0) [ true ↦ sheet_read (output_of e) | false ↦ Err (NotDone e.answer) ]
 
 -- "all else .. as after done": steps, place and the two counts are those of the run
 unfoldable pub sheet_report_of : Ended → SheetReport
 sheet_report_of e =
     record {
-      answer = (sheet_after e).answer;
+      answer = sheet_after e;
       steps = (report_of e).steps;
       place = (report_of e).place;
       output = (report_of e).output;
       errors = (report_of e).errors;
-      sheet = (sheet_after e).sheet;
     }
 
 -- a text is expanded, with a set, and what is written is read as a sheet: r is the report, `after` what the buffers then hold, "the written text too, as
@@ -218,17 +210,13 @@ pub record SheetExpanded (text set : Bytes) (budget : ℕ) (before after : Buffe
 unfoldable pub line_name : Bytes → Bytes
 line_name l = take (name_length l) l
 
-unfoldable pub lookup_of : Option Value → Lookup
-lookup_of none = lookup.Absent
-lookup_of (some v) = lookup.Found v
-
 -- the reading of a line that stands at a place of the text: what is behind the name and `=`
-unfoldable pub line_value : ℕ → Bytes → Lookup
-line_value place l = lookup_of (value_at (suc (place + name_length l)) (drop (suc (name_length l)) l))
+unfoldable pub line_value : ℕ → Bytes → Option Value
+line_value place l = value_at (suc (place + name_length l)) (drop (suc (name_length l)) l)
 
 -- the reading of the line with a name, of lines from a place on
-unfoldable pub line_named : Bytes → ℕ → List Bytes → Lookup
-line_named name place [] = lookup.Absent
+unfoldable pub line_named : Bytes → ℕ → List Bytes → Option Value
+line_named name place [] = None
 line_named name place (l ∷ ls) = elim (same_bytes (line_name l) name) [ true ↦ line_value place l | false ↦ line_named name (place + suc (length l)) ls ]
 
 -- the place behind lines and their newlines

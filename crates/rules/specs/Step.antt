@@ -1,6 +1,5 @@
 -- One step: 01 "A step takes one token, and all its consequences belong to that step". Nothing here knows of room.
-use Rattle.std.specs.Prelude.{ℕ, zero, suc, ◌+◌, ◌-◌, Bool, true, false, cond, ◌||◌, List, [], ◌∷◌, ◌++◌, leb, eqb, length, take, drop, get_or}
-use Rattle.std.proofs.Math.Option.{Option, none, some}
+use Rattle.std.specs.Prelude.{ℕ, zero, suc, ◌+◌, ◌-◌, Bool, true, false, cond, ◌||◌, List, [], ◌∷◌, ◌++◌, leb, eqb, length, take, drop, get_or, Option, None, Some}
 use Rattle.rules.specs.declared.Token.{Token}
 use Rattle.rules.specs.declared.Token.TheVariants as token
 use Rattle.rules.specs.declared.Reading.{Reading}
@@ -68,9 +67,9 @@ unopened (predefined k) = cond (needs_parenthesis k) plain (bare (predefined k))
 
 -- the use of a name, by its meaning and by whether `(` directly follows: 01 "A defined name directly followed by `(` opens a call"
 unfoldable pub used_with : Option Meaning → Bool → NameUse
-used_with none follows = plain
-used_with (some m) true = opening
-used_with (some m) false = unopened m
+used_with None follows = plain
+used_with (Some m) true = opening
+used_with (Some m) false = unopened m
 
 -- the use of the name that ends at `end` in the text ahead
 unfoldable pub name_use : Bytes → ℕ → State → NameUse
@@ -81,7 +80,7 @@ name_use name end s = used_with (meaning_of name s.table) (eqb (get_or (ahead s.
 unfoldable pub named : NameUse → Bytes → ℕ → State → Outcome
 named plain name end s = next (delivered name s.calls (taking end s))
 named opening name end s = opened name (taking (suc end) s)
-named (bare m) name end s = called (some m) name [] (taking end s)
+named (bare m) name end s = called (Some m) name [] (taking end s)
 
 -- 01 "The definition used is the one in force at closing"
 unfoldable pub closed : Call → List Call → State → Outcome

@@ -1,6 +1,5 @@
 -- The definitions in force: those made by the text, in order of arrival, and the predefined names that keep their own meaning.
-use Rattle.std.specs.Prelude.{ℕ, zero, suc, ◌+◌, ◌-◌, ◌/◌, ◌%◌, ◌^◌, Bool, true, false, cond, ◌||◌, List, [], ◌∷◌, ◌++◌, eqb, length, take, drop, get_or, set}
-use Rattle.std.proofs.Math.Option.{Option, none, some}
+use Rattle.std.specs.Prelude.{ℕ, zero, suc, ◌+◌, ◌-◌, ◌/◌, ◌%◌, ◌^◌, Bool, true, false, cond, ◌||◌, List, [], ◌∷◌, ◌++◌, eqb, length, take, drop, get_or, set, Option, None, Some}
 use Rattle.rules.specs.Bytes.{Bytes, bytes_of, same_bytes}
 
 -- 01 "These 24 macros are predefined": in its order they have the numbers 1 to 24; then those that 02 adds, in order of arrival
@@ -90,8 +89,8 @@ fresh_table = record { definitions = []; own = 2 ^ length predefined_names - 1 }
 
 -- the number of a name in a list of names, from k
 unfoldable pub number_from : ℕ → Bytes → List Bytes → Option ℕ
-number_from k w [] = none
-number_from k w (n ∷ ns) = elim (same_bytes w n) [ true ↦ some k | false ↦ number_from (suc k) w ns ]
+number_from k w [] = None
+number_from k w (n ∷ ns) = elim (same_bytes w n) [ true ↦ Some k | false ↦ number_from (suc k) w ns ]
 
 unfoldable pub predefined_number : Bytes → Option ℕ
 predefined_number w = number_from 1 w predefined_names
@@ -102,29 +101,29 @@ keeps_own zero own = false
 keeps_own (suc i) own = eqb (own / 2 ^ i % 2) 1
 
 unfoldable pub own_meaning : Bytes → ℕ → Option Meaning
-own_meaning w own = elim (predefined_number w) [ none ↦ none | some k ↦ elim (keeps_own k own) [ true ↦ some (predefined k) | false ↦ none ] ]
+own_meaning w own = elim (predefined_number w) [ None ↦ None | Some k ↦ elim (keeps_own k own) [ true ↦ Some (predefined k) | false ↦ None ] ]
 
 -- the name's own meaning is gone
 unfoldable pub own_lost : Bytes → ℕ → ℕ
-own_lost w own = elim (predefined_number w) [ none ↦ own | some k ↦ cond (keeps_own k own) (own - 2 ^ (k - 1)) own ]
+own_lost w own = elim (predefined_number w) [ None ↦ own | Some k ↦ cond (keeps_own k own) (own - 2 ^ (k - 1)) own ]
 
 -- the place of a name's newest definition
 unfoldable pub newest_place : Bytes → List Definition → Option ℕ
-newest_place w [] = none
+newest_place w [] = None
 newest_place w (d ∷ ds) =
-    elim (newest_place w ds) [ some i ↦ some (suc i) | none ↦ elim (same_bytes w d.name) [ true ↦ some 0 | false ↦ none ] ]
+    elim (newest_place w ds) [ Some i ↦ Some (suc i) | None ↦ elim (same_bytes w d.name) [ true ↦ Some 0 | false ↦ None ] ]
 
 unfoldable pub meaning_at : ℕ → List Definition → Option Meaning
-meaning_at i [] = none
-meaning_at zero (d ∷ ds) = some d.meaning
+meaning_at i [] = None
+meaning_at zero (d ∷ ds) = Some d.meaning
 meaning_at (suc i) (d ∷ ds) = meaning_at i ds
 
 -- the meaning in force: the newest definition's, else the name's own; none: the name is not defined
 unfoldable pub meaning_of : Bytes → Table → Option Meaning
-meaning_of w t = elim (newest_place w t.definitions) [ some i ↦ meaning_at i t.definitions | none ↦ own_meaning w t.own ]
+meaning_of w t = elim (newest_place w t.definitions) [ Some i ↦ meaning_at i t.definitions | None ↦ own_meaning w t.own ]
 
 unfoldable pub is_defined : Bytes → Table → Bool
-is_defined w t = elim (meaning_of w t) [ none ↦ false | some m ↦ true ]
+is_defined w t = elim (meaning_of w t) [ None ↦ false | Some m ↦ true ]
 
 -- 01 "pushdef keeps it": the new definition arrives last
 unfoldable pub pushed : Bytes → Meaning → Table → Table
@@ -134,16 +133,16 @@ pushed w m t = record { definitions = t.definitions ++ (record { name = w; meani
 unfoldable pub defined : Bytes → Meaning → Table → Table
 defined w m t =
     elim (newest_place w t.definitions) [
-      | some i ↦ record { definitions = set t.definitions i (record { name = w; meaning = m }); own = t.own }
-      | none ↦ pushed w m (record { definitions = t.definitions; own = own_lost w t.own })
+      | Some i ↦ record { definitions = set t.definitions i (record { name = w; meaning = m }); own = t.own }
+      | None ↦ pushed w m (record { definitions = t.definitions; own = own_lost w t.own })
     ]
 
 -- 01 "popdef uncovers it": without the newest definition, else without the name's own meaning
 unfoldable pub popped : Bytes → Table → Table
 popped w t =
     elim (newest_place w t.definitions) [
-      | some i ↦ record { definitions = take i t.definitions ++ drop (suc i) t.definitions; own = t.own }
-      | none ↦ record { definitions = t.definitions; own = own_lost w t.own }
+      | Some i ↦ record { definitions = take i t.definitions ++ drop (suc i) t.definitions; own = t.own }
+      | None ↦ record { definitions = t.definitions; own = own_lost w t.own }
     ]
 
 unfoldable pub without : Bytes → List Definition → List Definition

@@ -1,6 +1,5 @@
 -- Reading a token off the text ahead: 01 "five kinds of token, tried in this order".
-use Rattle.std.specs.Prelude.{ℕ, zero, suc, pred, ◌+◌, Bool, true, false, [], ◌∷◌, eqb, length, drop}
-use Rattle.std.proofs.Math.Option.{Option, none, some}
+use Rattle.std.specs.Prelude.{ℕ, zero, suc, pred, ◌+◌, Bool, true, false, [], ◌∷◌, eqb, length, drop, Option, None, Some}
 use Rattle.rules.specs.declared.Token.TheVariants as token
 use Rattle.rules.specs.declared.Reading.{Reading}
 use Rattle.rules.specs.declared.Reading.TheVariants.{Is, OpenQuote, OpenComment}
@@ -21,8 +20,8 @@ at_mark (m ∷ ms) xs = begins_with (m ∷ ms) xs
 
 -- where a text first stands
 unfoldable pub first_place : Bytes → Bytes → Option ℕ
-first_place m [] = elim (begins_with m []) [ true ↦ some 0 | false ↦ none ]
-first_place m (x ∷ xs) = elim (begins_with m (x ∷ xs)) [ true ↦ some 0 | false ↦ plus_one (first_place m xs) ]
+first_place m [] = elim (begins_with m []) [ true ↦ Some 0 | false ↦ None ]
+first_place m (x ∷ xs) = elim (begins_with m (x ∷ xs)) [ true ↦ Some 0 | false ↦ plus_one (first_place m xs) ]
 
 -- where a quote closes, or how many quotes are open at the end
 pub data QuoteEnd : Type 0 where
@@ -56,8 +55,8 @@ comment_to_end end ahead = elim (same_bytes end newline_mark) [ true ↦ Is (tok
 
 -- 2: from the begin-comment mark through the next end-comment mark, both kept; the end mark is sought from the place `i` on
 unfoldable pub comment_read : Bytes → ℕ → ℕ → Option ℕ → Reading
-comment_read end ahead i none = comment_to_end end ahead
-comment_read end ahead i (some n) = Is (token.Comment (i + (n + length end)))
+comment_read end ahead i None = comment_to_end end ahead
+comment_read end ahead i (Some n) = Is (token.Comment (i + (n + length end)))
 
 unfoldable pub read_comment : MarkTexts → Bytes → Reading
 read_comment m text =

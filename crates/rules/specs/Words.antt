@@ -1,4 +1,4 @@
--- 32-bit signed numbers, kept as their bits: a number below 2 ^ 32.
+-- 32-bit signed numbers, and their bits: a number below 2 ^ 32.
 use Rattle.std.specs.Prelude.{ℕ, ◌+◌, ◌-◌, ◌%◌, ◌^◌, Bool, true, false, cond, ltb, ℤ, pos, negsuc}
 
 -- the largest number, and the largest bits, those of -1
@@ -17,6 +17,10 @@ unfoldable pub wrapped : ℤ → ℕ
 wrapped (pos n) = n % 2 ^ 32
 wrapped (negsuc n) = largest_bits - n % 2 ^ 32
 
-unfoldable pub truth : Bool → ℕ
-truth true = 1
-truth false = 0
+-- the number that is left of one in 32 bits
+unfoldable pub wrapped_number : ℤ → ℤ
+wrapped_number z = signed_value (wrapped z)
+
+unfoldable pub truth : Bool → ℤ
+truth true = pos 1
+truth false = pos 0

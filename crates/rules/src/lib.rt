@@ -57,26 +57,19 @@ pub enum Reading {
     OpenComment,
 }
 
-// What a part of an expression of eval comes to: the bits of a 32-bit number, or a zero divisor or a shift count outside 0 to 31.
+// A part of an expression of eval that was read: what it comes to, None for a zero divisor or a shift count outside 0 to 31, and the
+// place behind it.
 #[derive(Clone, Copy)]
-pub enum Worked {
-    Number(u32),
-    Divisor,
+pub struct Part {
+    pub value: Option<i32>,
+    pub end: usize,
 }
 
-// A part of an expression that was read, with the place behind it, or one that can't be read.
-#[derive(Clone, Copy)]
-pub enum Parsed {
-    Value(Worked, usize),
+// Why a whole expression has no value: it can't be read, or a zero divisor or a shift count outside 0 to 31 is worked out.
+#[derive(Clone, Copy, PartialEq)]
+pub enum EvalError {
     Unreadable,
-}
-
-// A whole expression.
-#[derive(Clone, Copy)]
-pub enum Evaluated {
-    Number(u32),
     Divisor,
-    Unreadable,
 }
 
 // - + ! ~
@@ -94,7 +87,6 @@ pub enum Leading {
     Literal(usize),
     Parenthesis(usize),
     Sign(Unary, usize),
-    Wrong,
 }
 
 // The binary operators that work out both sides.
@@ -126,7 +118,7 @@ pub enum Binary {
     Strict(Strict),
 }
 
-// A binary operator, how closely it binds (10 closest; 0: there is none) and the place behind it.
+// A binary operator, how closely it binds (1 to 10, the closest) and the place behind it.
 #[derive(Clone, Copy)]
 pub struct Operator {
     pub op: Binary,
@@ -166,13 +158,9 @@ pub struct Report {
     pub errors: u32,
 }
 
-// 02, request 6: what the index of lines answers.
+// 02, request 6: what the index of lines refuses.
 #[derive(Clone, Copy)]
-pub enum IndexAnswer {
-    // The words and totals of the text stand.
-    Built,
-    Line(u64),
-    Start(usize),
+pub enum IndexError {
     TooLong,
     Beyond,
     NoLine,
@@ -196,24 +184,16 @@ pub struct Entry {
     pub value: Value,
 }
 
-// 02 "A sheet is lines": the first `count` of them; at most 256, "22 a 257th line".
-#[derive(Clone, Copy)]
+// 02 "A sheet is lines": the first `count` of them; at most 256, "22 a 257th line". It is 10 KB, so it is lent, and not copied.
+#[derive(Drop)]
 pub struct Sheet {
     pub lines: [Entry; 256],
     pub count: usize,
 }
 
-// 02 "returns its reading or `absent`".
+// Why a text gives no sheet; a refusal of a line has the line's number.
 #[derive(Clone, Copy)]
-pub enum Lookup {
-    Found(Value),
-    Absent,
-}
-
-// How reading a sheet ends; a refusal has the number of its line.
-#[derive(Clone, Copy)]
-pub enum SheetAnswer {
-    Good,
+pub enum SheetError {
     Malformed(u32),
     Twice(u32),
     TooMany(u32),
@@ -221,20 +201,12 @@ pub enum SheetAnswer {
     NotDone(Answer),
 }
 
-// What reading a text as a sheet returns.
-#[derive(Clone, Copy)]
-pub struct SheetRead {
-    pub answer: SheetAnswer,
-    pub sheet: Sheet,
-}
-
 // What expanding and reading returns: the six numbers of 01, by the answer's number and detail, and the sheet.
-#[derive(Clone, Copy)]
+#[derive(Drop)]
 pub struct SheetReport {
-    pub answer: SheetAnswer,
+    pub answer: Result<Sheet, SheetError>,
     pub steps: u32,
     pub place: u32,
     pub output: u32,
     pub errors: u32,
-    pub sheet: Sheet,
 }

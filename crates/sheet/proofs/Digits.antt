@@ -1,5 +1,5 @@
 -- Laws of digits that are read one behind the other. Assumes nothing.
-use Rattle.rules.proofs.Base.{◌≤◌, ◌+◌, ℕ, ◌-◌, ◌<◌, suc, ◌*◌, ◌^◌, ◌∙◌, refl, ap, ◌≡◌, true, Bool, false, some, none, Option, Option·none-ne-some, Option·some-injective, [], ◌∷◌, ◌++◌, le_trans, mul-le-mul_left, add-one, arith, ltb, pow-suc, length, take, get_or, take-suc, le-ltb, lt-ltb, lit<, lt_of_lt_of_le, le_of_suc-le-suc}
+use Rattle.rules.proofs.Base.{◌≤◌, ◌+◌, ℕ, ◌-◌, ◌<◌, suc, ◌*◌, ◌^◌, ◌∙◌, refl, ap, ◌≡◌, true, Bool, false, Some, None, Option, none-some, same_Some, [], ◌∷◌, ◌++◌, le_trans, mul-le-mul_left, add-one, arith, ltb, pow-suc, length, take, get_or, take-suc, le-ltb, lt-ltb, lit<, lt_of_lt_of_le, le_of_suc-le-suc}
 use native.Mathlib.Nat.{pow-le-pow_right, mul_assoc}
 use Rattle.rules.specs.Bytes.{Bytes, is_digit, is_lower, is_upper}
 use Rattle.rules.specs.Numerals.{digit_worth, natural_from}
@@ -7,20 +7,20 @@ use Rattle.rules.specs.Sheets.{front_length}
 use Rattle.rules.proofs.Classes.{digit_bounds, upper_bounds, lower_bounds}
 
 -- digits behind digits
-module _ (radix v n : ℕ) (xs ys : Bytes) (ih : (w : ℕ) → natural_from radix w xs ≡ some n → natural_from radix w (xs ++ ys) ≡ natural_from radix n ys) where
-  by_size : (d : ℕ) (t : Bool) → elim t [ true ↦ natural_from radix (v * radix + d) xs | false ↦ none ] ≡ some n
-      → elim t [ true ↦ natural_from radix (v * radix + d) (xs ++ ys) | false ↦ none ] ≡ natural_from radix n ys
+module _ (radix v n : ℕ) (xs ys : Bytes) (ih : (w : ℕ) → natural_from radix w xs ≡ Some n → natural_from radix w (xs ++ ys) ≡ natural_from radix n ys) where
+  by_size : (d : ℕ) (t : Bool) → elim t [ true ↦ natural_from radix (v * radix + d) xs | false ↦ None ] ≡ Some n
+      → elim t [ true ↦ natural_from radix (v * radix + d) (xs ++ ys) | false ↦ None ] ≡ natural_from radix n ys
   by_size d true f = ih (v * radix + d) f
-  by_size d false f = absurd (Option·none-ne-some n f)
+  by_size d false f = absurd (none-some n f)
 
-  by_worth : (o : Option ℕ) → elim o [ none ↦ none | some d ↦ elim (ltb d radix) [ true ↦ natural_from radix (v * radix + d) xs | false ↦ none ] ] ≡ some n
-      → elim o [ none ↦ none | some d ↦ elim (ltb d radix) [ true ↦ natural_from radix (v * radix + d) (xs ++ ys) | false ↦ none ] ] ≡ natural_from radix n ys
-  by_worth none f = absurd (Option·none-ne-some n f)
-  by_worth (some d) f = by_size d (ltb d radix) f
+  by_worth : (o : Option ℕ) → elim o [ None ↦ None | Some d ↦ elim (ltb d radix) [ true ↦ natural_from radix (v * radix + d) xs | false ↦ None ] ] ≡ Some n
+      → elim o [ None ↦ None | Some d ↦ elim (ltb d radix) [ true ↦ natural_from radix (v * radix + d) (xs ++ ys) | false ↦ None ] ] ≡ natural_from radix n ys
+  by_worth None f = absurd (none-some n f)
+  by_worth (Some d) f = by_size d (ltb d radix) f
 
-pub from_append : (radix v n : ℕ) (xs ys : Bytes) → natural_from radix v xs ≡ some n → natural_from radix v (xs ++ ys) ≡ natural_from radix n ys
+pub from_append : (radix v n : ℕ) (xs ys : Bytes) → natural_from radix v xs ≡ Some n → natural_from radix v (xs ++ ys) ≡ natural_from radix n ys
 unfolding natural_from
-from_append radix v n [] ys e = ap (λ m. natural_from radix m ys) (Option·some-injective v n e)
+from_append radix v n [] ys e = ap (λ m. natural_from radix m ys) (same_Some v n e)
 from_append radix v n (x ∷ xs) ys e = by_worth radix v n xs ys (λ w. from_append radix w n xs ys) (digit_worth x) e
 
 -- a digit, and what is none in radix 10
@@ -29,21 +29,21 @@ module _ (v x : ℕ) (xs : Bytes) where
   unfolding natural_from digit_worth
   digit_on e = let h = (digit_bounds x e).1 in rw (natural_from, digit_worth, e, lt-ltb (x - 48) 10 (omega arith))
 
-  digit_off : is_digit x ≡ false → natural_from 10 v (x ∷ xs) ≡ none
+  digit_off : is_digit x ≡ false → natural_from 10 v (x ∷ xs) ≡ None
   unfolding natural_from digit_worth
   digit_off e = by_lower (is_lower x) refl
     where
-      by_upper : is_lower x ≡ false → (t : Bool) → is_upper x ≡ t → natural_from 10 v (x ∷ xs) ≡ none
+      by_upper : is_lower x ≡ false → (t : Bool) → is_upper x ≡ t → natural_from 10 v (x ∷ xs) ≡ None
       by_upper l true u = let h = (upper_bounds x u).0 in rw (natural_from, digit_worth, e, l, u, le-ltb (x - 55) 10 (omega arith))
       by_upper l false u = rw (natural_from, digit_worth, e, l, u)
 
-      by_lower : (t : Bool) → is_lower x ≡ t → natural_from 10 v (x ∷ xs) ≡ none
+      by_lower : (t : Bool) → is_lower x ≡ t → natural_from 10 v (x ∷ xs) ≡ None
       by_lower true l = let h = (lower_bounds x l).0 in rw (natural_from, digit_worth, e, l, le-ltb (x - 87) 10 (omega arith))
       by_lower false l = by_upper l (is_upper x) refl
 
 -- the number of the first i digits, with a bound
 pub record Read (s : Bytes) (v i n : ℕ) : Type 0 where
-  pub number : natural_from 10 v (take i s) ≡ some n
+  pub number : natural_from 10 v (take i s) ≡ Some n
   pub bounded : n < suc v * 10 ^ i
 
 module _ (s : Bytes) (v : ℕ) where
@@ -68,13 +68,13 @@ module _ (s : Bytes) (v : ℕ) where
         h' = omega arith
 
 -- what has a byte that is no digit is no number
-pub no_natural : (v : ℕ) (s : Bytes) → front_length is_digit s < length s → natural_from 10 v s ≡ none
+pub no_natural : (v : ℕ) (s : Bytes) → front_length is_digit s < length s → natural_from 10 v s ≡ None
 unfolding front_length
 no_natural v [] h = absurd (omega arith)
 no_natural v (x ∷ xs) h = go (is_digit x) refl h (λ w. no_natural w xs)
   where
-    go : (t : Bool) → is_digit x ≡ t → elim t [ true ↦ suc (front_length is_digit xs) | false ↦ 0 ] < suc (length xs) → ((w : ℕ) → front_length is_digit xs < length xs → natural_from 10 w xs ≡ none)
-        → natural_from 10 v (x ∷ xs) ≡ none
+    go : (t : Bool) → is_digit x ≡ t → elim t [ true ↦ suc (front_length is_digit xs) | false ↦ 0 ] < suc (length xs) → ((w : ℕ) → front_length is_digit xs < length xs → natural_from 10 w xs ≡ None)
+        → natural_from 10 v (x ∷ xs) ≡ None
     go true e k ih = digit_on v x xs e ∙ ih (v * 10 + (x - 48)) (le_of_suc-le-suc k)
     go false e k ih = digit_off v x xs e
 

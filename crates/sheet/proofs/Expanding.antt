@@ -1,20 +1,21 @@
 -- Laws of a run that is read as a sheet. Assumes nothing.
-use Rattle.rules.proofs.Base.{ℕ, ◌≤◌, ◌∙◌, refl, sym, ap, ap₂, ◌≡◌, true, false, Bool, [], arith, eqb, length, take, drop, length-append, take_at}
+use Rattle.rules.proofs.Base.{ℕ, ◌≤◌, ◌∙◌, refl, sym, ap, ap₂, ◌≡◌, true, false, Bool, Result, Err, arith, eqb, length, take, drop, length-append, take_at}
 use Rattle.rules.specs.declared.Answer.{Answer}
 use Rattle.rules.specs.declared.Answer.TheVariants as answer
 use Rattle.rules.specs.declared.Report.{Report}
-use Rattle.rules.specs.declared.SheetAnswer.TheVariants as sheet_answer
-use Rattle.rules.specs.declared.SheetRead.{SheetRead}
+use Rattle.rules.specs.declared.Sheet.{Sheet}
+use Rattle.rules.specs.declared.SheetError.{SheetError}
+use Rattle.rules.specs.declared.SheetError.TheVariants.{NotDone}
 use Rattle.rules.specs.declared.SheetReport.{SheetReport}
 use Rattle.rules.specs.Bytes.{Bytes}
 use Rattle.rules.specs.Answers.{answer_number}
 use Rattle.rules.specs.Run.{Ended}
 use Rattle.rules.specs.Contract.{Buffers, output_of, report_of, fronted, left_by, run_in, Expanded}
-use Rattle.rules.specs.Sheets.{sheet_of, sheet_read, sheet_after, sheet_report_of, SheetExpanded}
+use Rattle.rules.specs.Sheets.{sheet_read, sheet_after, sheet_report_of, SheetExpanded}
 
 -- the report of a run with what was read of it
-unfoldable pub with_sheet : Report → SheetRead → SheetReport
-with_sheet r t = record { answer = t.answer; steps = r.steps; place = r.place; output = r.output; errors = r.errors; sheet = t.sheet }
+unfoldable pub with_sheet : Report → Result Sheet SheetError → SheetReport
+with_sheet r t = record { answer = t; steps = r.steps; place = r.place; output = r.output; errors = r.errors }
 
 module _ (text set : Bytes) (budget : ℕ) (before after : Buffers) (r : Report) (x : Expanded text set budget before after r) where
   abbrev run : Ended
@@ -33,7 +34,7 @@ module _ (text set : Bytes) (budget : ℕ) (before after : Buffers) (r : Report)
       omega
       (arith, ap (λ (t : Report). t.output) x.report, ap (λ (b : Buffers). length b.output) x.buffers, length-append (output_of run) (drop (length (output_of run)) before.output))
 
-  reported : (t : SheetRead) {s : SheetReport} → s ≡ with_sheet r t → t ≡ sheet_after run → s ≡ sheet_report_of run
+  reported : (t : Result Sheet SheetError) {s : SheetReport} → s ≡ with_sheet r t → t ≡ sheet_after run → s ≡ sheet_report_of run
   unfolding sheet_report_of with_sheet
   reported t e f = e ∙ ap₂ with_sheet x.report f
 
@@ -42,20 +43,20 @@ module _ (text set : Bytes) (budget : ℕ) (before after : Buffers) (r : Report)
   answer_is = ap (λ (t : Report). t.answer) x.report
 
   -- a run that ended done is read
-  pub done_read : r.answer ≡ answer.Done → (t : SheetRead) → t ≡ sheet_read (take r.output after.output) → {s : SheetReport} → s ≡ with_sheet r t → SheetExpanded text set budget before after s
+  pub done_read : r.answer ≡ answer.Done → (t : Result Sheet SheetError) → t ≡ sheet_read (take r.output after.output) → {s : SheetReport} → s ≡ with_sheet r t → SheetExpanded text set budget before after s
   unfolding sheet_after answer_number
   done_read d t e f =
       record {
-        report = reported t f (e ∙ ap sheet_read written_front ∙ sym (ap (λ (b : Bool). elim b [ true ↦ sheet_read (output_of run) | false ↦ record { answer = sheet_answer.NotDone run.answer; sheet = sheet_of [] } ]) (ap (λ a. eqb (answer_number a) 0) (sym answer_is ∙ d))));
+        report = reported t f (e ∙ ap sheet_read written_front ∙ sym (ap (λ (b : Bool). elim b [ true ↦ sheet_read (output_of run) | false ↦ Err (NotDone run.answer) ]) (ap (λ a. eqb (answer_number a) 0) (sym answer_is ∙ d))));
         buffers = x.buffers;
       }
 
   -- any other is not
-  pub not_done : eqb (answer_number r.answer) 0 ≡ false → (t : SheetRead) → t ≡ record { answer = sheet_answer.NotDone r.answer; sheet = sheet_of [] } → {s : SheetReport} → s ≡ with_sheet r t → SheetExpanded text set budget before after s
+  pub not_done : eqb (answer_number r.answer) 0 ≡ false → (t : Result Sheet SheetError) → t ≡ Err (NotDone r.answer) → {s : SheetReport} → s ≡ with_sheet r t → SheetExpanded text set budget before after s
   unfolding sheet_after
   not_done n t e f =
       record {
-        report = reported t f (e ∙ ap (λ a. record { answer = sheet_answer.NotDone a; sheet = sheet_of [] }) answer_is ∙ sym (ap (λ (b : Bool). elim b [ true ↦ sheet_read (output_of run) | false ↦ record { answer = sheet_answer.NotDone run.answer; sheet = sheet_of [] } ]) (ap (λ a. eqb (answer_number a) 0) (sym answer_is) ∙ n)));
+        report = reported t f (e ∙ ap (λ (a : Answer). Err (NotDone a)) answer_is ∙ sym (ap (λ (b : Bool). elim b [ true ↦ sheet_read (output_of run) | false ↦ Err (NotDone run.answer) ]) (ap (λ a. eqb (answer_number a) 0) (sym answer_is) ∙ n)));
         buffers = x.buffers;
       }
 

@@ -1,9 +1,9 @@
 -- Laws of a question by name. Assumes nothing.
-use Rattle.rules.proofs.Base.{◌≤◌, ◌+◌, ℕ, ◌-◌, ◌<◌, ◌∙◌, refl, sym, ◌≡◌, true, false, List, ◌∷◌, arith, add-one, le-leb, lt-leb, length, take, drop, get_or, length-take, drop_of_length-le, drop-cons, get_or-take}
+use Rattle.rules.proofs.Base.{◌≤◌, ◌+◌, ℕ, ◌-◌, ◌<◌, refl, ◌≡◌, true, false, Bool, cond, Some, List, [], ◌∷◌, arith, le-leb, lt-leb, length, take, drop}
 use Rattle.rules.specs.declared.Value.{Value}
 use Rattle.rules.specs.declared.Entry.{Entry}
-use Rattle.rules.specs.declared.Lookup.{Lookup}
-use Rattle.rules.specs.declared.Lookup.TheVariants as lookup
+use Rattle.std.specs.List.{find}
+use Rattle.std.specs.Option.{option_map}
 use Rattle.rules.specs.Bytes.{Bytes, same_bytes}
 use Rattle.rules.specs.Sheets.{unused_line, name_in, is_named, first_named}
 
@@ -25,30 +25,13 @@ pub named_by_place : (text name : Bytes) (e : Entry) → is_named text name e �
 unfolding is_named name_in
 named_by_place text name e = refl
 
--- the search among the lines below the count, from the i-th on
-module _ (text name : Bytes) (es : List Entry) (count : ℕ) where
-  abbrev sought : Lookup
-  sought = first_named text name (take count es)
-
-  module _ (i : ℕ) (s : first_named text name (drop i (take count es)) ≡ sought) where
-    nothing : length (take count es) ≤ i → lookup.Absent ≡ sought
-    unfolding first_named
-    nothing h = rw (← s, drop_of_length-le (take count es) h)
-
-    pub none_below : count ≤ i → lookup.Absent ≡ sought
-    none_below h = nothing (rw (length-take count es) (omega arith))
-
-    pub none_left : length es ≤ i → lookup.Absent ≡ sought
-    none_left h = nothing (rw (length-take count es) (omega arith))
-
-    module _ (d : Entry) (h : i < count) (k : i < length es) where
-      first : drop i (take count es) ≡ get_or es i d ∷ drop (i + 1) (take count es)
-      first = drop-cons (take count es) i d (rw (length-take count es) (omega arith)) ∙ rw (get_or-take count es i d h, add-one i)
-
-      pub found : is_named text name (get_or es i d) ≡ true → lookup.Found (get_or es i d).value ≡ sought
-      unfolding first_named
-      found e = rw (← s, first, first_named, e)
-
-      pub passed : is_named text name (get_or es i d) ≡ false → first_named text name (drop (i + 1) (take count es)) ≡ sought
-      unfolding first_named
-      passed e = sym (rw (first, first_named, e)) ∙ s
+-- the first line that has the name, among any lines, with its reading
+pub found_first : (text name : Bytes) (es : List Entry) → option_map (λ (e : Entry). e.value) (find (λ (e : Entry). is_named text name (there text name e.name e.length unused_line.value)) es) ≡ first_named text name es
+unfolding first_named is_named name_in
+found_first text name [] = refl
+found_first text name (e ∷ es) = go (is_named text name e) refl (found_first text name es)
+  where
+    go : (t : Bool) → is_named text name e ≡ t → option_map (λ (d : Entry). d.value) (find (λ (d : Entry). is_named text name (there text name d.name d.length unused_line.value)) es) ≡ first_named text name es
+        → option_map (λ (d : Entry). d.value) (cond t (Some e) (find (λ (d : Entry). is_named text name (there text name d.name d.length unused_line.value)) es)) ≡ elim t [ true ↦ Some e.value | false ↦ first_named text name es ]
+    go true q r = refl
+    go false q r = r

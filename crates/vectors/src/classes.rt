@@ -1,81 +1,75 @@
 // Byte classes, names and slices: a line for each byte with its class, then names, comparisons and copies.
-use crate::writing::{write, write_number};
 use rules::Class;
 use std::io;
 use std::io::Print;
 
-fn flag(printer: &impl Print, is: bool, letter: &[u8]) -> io::Result<()> {
-    if is {
-        write(printer, letter)
-    } else {
-        write(printer, b".")
-    }
-}
-
 fn write_class(printer: &impl Print, c: Class) -> io::Result<()> {
-    match c {
-        Class::Letter => write(printer, b" letter "),
-        Class::Digit => write(printer, b" digit "),
-        Class::Underscore => write(printer, b" underscore "),
-        Class::Blank => write(printer, b" blank "),
-        Class::Other => write(printer, b" other "),
-    }
+    let name = match c {
+        Class::Letter => "letter",
+        Class::Digit => "digit",
+        Class::Underscore => "underscore",
+        Class::Blank => "blank",
+        Class::Other => "other",
+    };
+    print!(printer; " {name} ")
 }
 
 // The byte's number, its class, and a letter for each test that it passes: upper, lower, letter, digit, underscore, blank, begins and continues a name.
 fn class_line(printer: &impl Print, x: u8) -> io::Result<()> {
-    write_number(printer, x as u64)?;
+    print!(printer; "{x}")?;
     write_class(printer, ascii::class_of(x))?;
-    flag(printer, ascii::is_upper(x), b"U")?;
-    flag(printer, ascii::is_lower(x), b"l")?;
-    flag(printer, ascii::is_letter(x), b"L")?;
-    flag(printer, ascii::is_digit(x), b"D")?;
-    flag(printer, ascii::is_underscore(x), b"_")?;
-    flag(printer, ascii::is_blank(x), b"B")?;
-    flag(printer, ascii::begins_name(x), b"b")?;
-    flag(printer, ascii::continues_name(x), b"c")?;
-    write(printer, b"\n")
+    let tests = [
+        (ascii::is_upper(x), 'U'),
+        (ascii::is_lower(x), 'l'),
+        (ascii::is_letter(x), 'L'),
+        (ascii::is_digit(x), 'D'),
+        (ascii::is_underscore(x), '_'),
+        (ascii::is_blank(x), 'B'),
+        (ascii::begins_name(x), 'b'),
+        (ascii::continues_name(x), 'c'),
+    ];
+    for (passes, letter) in tests {
+        let shown = if passes { letter } else { '.' };
+        print!(printer; "{shown}")?;
+    }
+    println!(printer)
 }
 
 fn every_byte(printer: &impl Print) -> io::Result<()> {
-    let mut x: u16 = 0;
-    while x < 256 {
-        class_line(printer, (x % 256) as u8)?;
-        x += 1;
+    for x in 0..=u8::MAX {
+        class_line(printer, x)?;
     }
     Ok(())
 }
 
 fn name_line(printer: &impl Print, s: &[u8]) -> io::Result<()> {
-    write(printer, s)?;
-    write(printer, b": ")?;
-    write_number(printer, ascii::name_length(s) as u64)?;
+    printer.write_all(s)?;
+    let n = ascii::name_length(s);
+    print!(printer; ": {n}")?;
     if ascii::is_name(s) {
-        write(printer, b", a name")?;
+        print!(printer; ", a name")?;
     }
-    write(printer, b"\n")
+    println!(printer)
 }
 
 fn same_line(printer: &impl Print, a: &[u8], b: &[u8]) -> io::Result<()> {
-    write(printer, a)?;
-    if ascii::same(a, b) {
-        write(printer, b" is ")?;
-    } else {
-        write(printer, b" is not ")?;
-    }
-    write(printer, b)?;
-    write(printer, b"\n")
+    printer.write_all(a)?;
+    let said = if ascii::same(a, b) { "is" } else { "is not" };
+    print!(printer; " {said} ")?;
+    printer.write_all(b)?;
+    println!(printer)
 }
 
 fn copy_line(printer: &impl Print, from: &[u8]) -> io::Result<()> {
     let mut into = [b'o', b'l', b'd'];
-    if ascii::copy(from, &mut into) {
-        write(printer, b"copied: ")?;
+    let said = if ascii::copy(from, &mut into) {
+        "copied"
     } else {
-        write(printer, b"refused: ")?;
-    }
-    write(printer, &into)?;
-    write(printer, b"\n")
+        "refused"
+    };
+    print!(printer; "{said}: ")?;
+    printer.write_all(&into)?;
+    println!(printer)
 }
 
 pub(crate) fn run(printer: &impl Print) -> io::Result<()> {

@@ -1,60 +1,37 @@
 // eval: a line for each expression, with what it comes to. A line of `stdin` is an expression, or stands for one: `@`, a count, and a
 // front, a middle and a back with tabs between them, the middle between so many fronts and backs. Expressions with a newline, or with a
 // byte that is no text, stand here. A line that begins with `#` has a text whose bucket is asked for (names.rt).
-ghost use Rattle.std.specs.Prelude.{◌≡◌, ◌≤◌, length};
+ghost use Rattle.std.specs.Prelude.{◌≤◌, length};
 
 use crate::names;
-use crate::writing::{write, write_number};
-use rules::Evaluated;
+use rules::EvalError;
 use std::io;
 use std::io::Print;
-
-fn write_hex(printer: &impl Print, b: u8) -> io::Result<()> {
-    print!(printer; "\\x{b:02x}")
-}
-
-fn write_one(printer: &impl Print, b: u8) -> io::Result<()> {
-    let one = [b];
-    write(printer, &one)
-}
+use std::iter::{once, repeat_n};
 
 // The bytes of these vectors that do not print have an escape.
 fn write_byte(printer: &impl Print, b: u8) -> io::Result<()> {
     match b {
-        9 => write(printer, b"\\t"),
-        10 => write(printer, b"\\n"),
-        0 | 11 | 12 | 13 | 128 | 160 => write_hex(printer, b),
-        _ => write_one(printer, b),
+        b'\t' => print!(printer; "\\t"),
+        b'\n' => print!(printer; "\\n"),
+        0 | 11..=13 | 128 | 160 => print!(printer; "\\x{b:02x}"),
+        _ => printer.write_all(&[b]),
     }
 }
 
 fn write_shown(printer: &impl Print, text: &[u8]) -> io::Result<()> {
-    let mut i = 0;
-    while i < text.len() {
-        write_byte(printer, text[i])?;
-        i += 1;
+    for b in text {
+        write_byte(printer, *b)?;
     }
     Ok(())
 }
 
-fn write_signed(printer: &impl Print, x: u32) -> io::Result<()> {
-    let bits = x as u64;
-    if x < 2147483648 {
-        write_number(printer, bits)
-    } else {
-        write(printer, b"-")?;
-        write_number(printer, 4294967296 - bits)
-    }
-}
-
 fn write_value(printer: &impl Print, s: &[u8]) -> io::Result<()> {
-    write(printer, b" is ")?;
     match expression::evaluate(s) {
-        Evaluated::Number(x) => write_signed(printer, x)?,
-        Evaluated::Divisor => write(printer, b"refused 9")?,
-        Evaluated::Unreadable => write(printer, b"refused 8")?,
+        Ok(x) => println!(printer; " is {x}"),
+        Err(EvalError::Divisor) => println!(printer; " is refused 9"),
+        Err(EvalError::Unreadable) => println!(printer; " is refused 8"),
     }
-    write(printer, b"\n")
 }
 
 fn show(printer: &impl Print, s: &[u8]) -> io::Result<()> {
@@ -62,131 +39,58 @@ fn show(printer: &impl Print, s: &[u8]) -> io::Result<()> {
     write_value(printer, s)
 }
 
-// The place of a byte from a place on, or the end.
-fn find(text: &[u8], at: usize, byte: u8) -> usize
-    requires { at ≤ length text.now }
-    ensures { (at ≤ result) × (result ≤ length text.now) }
-{
-    let mut i = at;
-    while i < text.len() {
-        if text[i] == byte {
-            return i;
-        }
-        i += 1;
+fn count_of(s: &[u8]) -> usize {
+    match expression::evaluate(s) {
+        Ok(count) => usize::try_from(count).unwrap_or(0),
+        Err(_) => 0,
     }
-    i
 }
 
-fn behind(text: &[u8], at: usize) -> usize
-    requires { at ≤ length text.now }
-    ensures { result ≤ length text.now }
-{
-    if at < text.len() { at + 1 } else { at }
-}
-
-// Puts a piece behind a place, as far as there is room.
+// Puts a piece behind the first `at` bytes, as far as there is room: so many bytes stand there then.
 fn append(text: &mut [u8], at: usize, piece: &[u8]) -> usize
     requires { at ≤ length text.old }
     ensures { result ≤ length text.new }
 {
-    let mut to = at;
-    let mut i = 0;
-    while i < piece.len() {
-        if text.len() <= to {
-            return to;
-        }
-        text[to] = piece[i];
-        to += 1;
-        i += 1;
-    }
-    to
-}
-
-fn repeat(text: &mut [u8], at: usize, piece: &[u8], count: usize) -> usize
-    requires { at ≤ length text.old }
-    ensures { result ≤ length text.new }
-{
-    let mut to = at;
-    let mut i = 0;
-    while i < count {
-        to = append(text, to, piece);
-        i += 1;
-    }
-    to
-}
-
-fn fill(text: &mut [u8], count: usize, front: &[u8], middle: &[u8], back: &[u8]) -> usize
-    ensures { result ≤ length text.new }
-{
-    let a = repeat(text, 0, front, count);
-    let b = append(text, a, middle);
-    repeat(text, b, back, count)
-}
-
-fn large_buffer() -> [u8; 65536]
-    ensures { 65536 ≡ length result }
-{
-    [0; 65536]
-}
-
-fn show_filled(
-    printer: &impl Print,
-    count: usize,
-    front: &[u8],
-    middle: &[u8],
-    back: &[u8],
-) -> io::Result<()> {
-    let mut text = large_buffer();
-    let end = fill(&mut text, count, front, middle, back);
-    write_value(printer, &text[..end])
-}
-
-fn count_of(s: &[u8]) -> usize {
-    match expression::evaluate(s) {
-        Evaluated::Number(x) => x as usize,
-        Evaluated::Divisor => 0,
-        Evaluated::Unreadable => 0,
-    }
+    let n = piece.len().min(text.len() - at);
+    text[at..at + n].copy_from_slice(&piece[..n]);
+    at + n
 }
 
 // Count, front, middle and back, with tabs between them.
 fn show_repeated(printer: &impl Print, fields: &[u8]) -> io::Result<()> {
-    let a = find(fields, 0, 9);
-    let front = behind(fields, a);
-    let b = find(fields, front, 9);
-    let middle = behind(fields, b);
-    let c = find(fields, middle, 9);
-    let back = behind(fields, c);
-    let count = count_of(&fields[..a]);
-    show_filled(
-        printer,
-        count,
-        &fields[front..b],
-        &fields[middle..c],
-        &fields[back..],
-    )
+    let mut fields = fields.splitn(4, |x| *x == b'\t');
+    let count = count_of(fields.next().unwrap_or(&[]));
+    let front = fields.next().unwrap_or(&[]);
+    let middle = fields.next().unwrap_or(&[]);
+    let back = fields.next().unwrap_or(&[]);
+    let mut text = [0; 65536];
+    let mut end = 0;
+    for piece in repeat_n(front, count)
+        .chain(once(middle))
+        .chain(repeat_n(back, count))
+    {
+        end = append(&mut text, end, piece);
+    }
+    write_value(printer, &text[..end])
 }
 
 fn show_line(printer: &impl Print, line: &[u8]) -> io::Result<()> {
-    if line.len() == 0 {
-        show(printer, line)
-    } else if line[0] == 64 {
-        write_shown(printer, line)?;
-        show_repeated(printer, &line[1..])
-    } else if line[0] == 35 {
-        write_shown(printer, line)?;
-        names::show(printer, &line[1..])
-    } else {
-        show(printer, line)
+    match line {
+        [b'@', fields @ ..] => {
+            write_shown(printer, line)?;
+            show_repeated(printer, fields)
+        }
+        [b'#', text @ ..] => {
+            write_shown(printer, line)?;
+            names::show(printer, text)
+        }
+        _ => show(printer, line),
     }
 }
 
 fn show_lines(printer: &impl Print, text: &[u8]) -> io::Result<()> {
-    let mut at = 0;
-    while at < text.len() {
-        let end = find(text, at, 10);
-        show_line(printer, &text[at..end])?;
-        at = end + 1;
+    for line in text.split_inclusive(|x| *x == b'\n') {
+        show_line(printer, line.strip_suffix(b"\n").unwrap_or(line))?;
     }
     Ok(())
 }

@@ -6,7 +6,6 @@ mod expressions;
 mod names;
 mod numbers;
 mod places;
-mod writing;
 
 ghost use Rattle.std.specs.Prelude.{◌≤◌, length, IfOk};
 
@@ -16,14 +15,14 @@ use std::io::{Read, Stdin};
 // So many bytes of standard input are read at most.
 const MOST_READ: usize = 65536;
 
-// Reads standard input to its end, or until the buffer is full: so many bytes.
+// Reads standard input to its end, or until the buffer is full: so many bytes. (A loop, since std reads to the end only into the heap, which no program here takes from.)
 fn read_text(mut stdin: Stdin, buffer: &mut [u8]) -> io::Result<usize>
     ensures { IfOk result (λ n. n ≤ length buffer.new) }
 {
     let mut done = 0;
     while done < buffer.len() {
         match stdin.read(&mut buffer[done..])? {
-            0 => return Ok(done),
+            0 => break,
             n => done += n,
         }
     }

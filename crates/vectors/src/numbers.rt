@@ -1,35 +1,27 @@
 // Numbers read, measured and written, one answer to a line.
-use crate::writing::{write, write_number};
-use numerals::{Decimal, Length, Natural};
 use std::io;
 use std::io::Print;
 
-fn put_decimal(printer: &impl Print, out: &mut [u8], x: u32) -> io::Result<()> {
-    if numerals::write_decimal(out, x) {
-        write(printer, out)?;
-    }
-    Ok(())
-}
-
-// A number in decimal, by its bits.
-fn put_number(printer: &impl Print, x: u32) -> io::Result<()> {
-    let mut buffer = [0u8; 11];
-    let n = numerals::decimal_length(x);
-    if n <= 11 {
-        put_decimal(printer, &mut buffer[..n], x)?;
+// A number in decimal.
+fn put_number(printer: &impl Print, x: i32) -> io::Result<()> {
+    let mut buffer = [0; 11];
+    if let Some(out) = buffer.get_mut(..numerals::decimal_length(x))
+        && numerals::write_decimal(out, x)
+    {
+        printer.write_all(out)?;
     }
     Ok(())
 }
 
 fn read_as(printer: &impl Print, label: &[u8], s: &[u8]) -> io::Result<()> {
-    write(printer, b"read ")?;
-    write(printer, label)?;
-    write(printer, b": ")?;
+    print!(printer; "read ")?;
+    printer.write_all(label)?;
+    print!(printer; ": ")?;
     match numerals::read_number(s) {
-        Decimal::Number(x) => put_number(printer, x)?,
-        Decimal::NoNumber => write(printer, b"no number")?,
+        Some(x) => put_number(printer, x)?,
+        None => print!(printer; "no number")?,
     }
-    write(printer, b"\n")
+    println!(printer)
 }
 
 fn read(printer: &impl Print, s: &[u8]) -> io::Result<()> {
@@ -37,111 +29,90 @@ fn read(printer: &impl Print, s: &[u8]) -> io::Result<()> {
 }
 
 fn natural(printer: &impl Print, s: &[u8], radix: u32) -> io::Result<()> {
-    write(printer, b"base ")?;
-    put_number(printer, radix)?;
-    write(printer, b", read ")?;
-    write(printer, s)?;
-    write(printer, b": ")?;
+    print!(printer; "base {radix}, read ")?;
+    printer.write_all(s)?;
     match numerals::read_natural(s, radix) {
-        Natural::Number(x) => write_number(printer, x as u64)?,
-        Natural::NoNumber => write(printer, b"no number")?,
+        Some(x) => println!(printer; ": {x}"),
+        None => println!(printer; ": no number"),
     }
-    write(printer, b"\n")
 }
 
 fn put_into(
     printer: &impl Print,
     out: &mut [u8],
-    x: u32,
+    x: i32,
     radix: u32,
     least: u32,
 ) -> io::Result<()> {
     if !numerals::write_number(out, x, radix, least) {
-        write(printer, b"refused ")?;
+        print!(printer; "refused ")?;
     }
-    write(printer, out)
+    printer.write_all(out)
 }
 
 // The text, or what is left of `room` dots where it is refused.
-fn put_text(printer: &impl Print, room: usize, x: u32, radix: u32, least: u32) -> io::Result<()> {
+fn put_text(printer: &impl Print, room: usize, x: i32, radix: u32, least: u32) -> io::Result<()> {
     let mut buffer = [b'.'; 64];
-    if room <= 64 {
-        put_into(printer, &mut buffer[..room], x, radix, least)?;
+    match buffer.get_mut(..room) {
+        Some(out) => put_into(printer, out, x, radix, least),
+        None => Ok(()),
     }
-    Ok(())
 }
 
-fn put_written(printer: &impl Print, x: u32, radix: u32, least: u32) -> io::Result<()> {
+fn put_written(printer: &impl Print, x: i32, radix: u32, least: u32) -> io::Result<()> {
     match numerals::written_length(x, radix, least) {
-        Length::Bytes(n) => put_text(printer, n, x, radix, least),
-        Length::BadRadix => write(printer, b"bad radix"),
+        Some(n) => put_text(printer, n, x, radix, least),
+        None => print!(printer; "bad radix"),
     }
 }
 
-fn put_case(printer: &impl Print, x: u32, radix: u32, least: u32) -> io::Result<()> {
-    write(printer, b"base ")?;
-    put_number(printer, radix)?;
-    write(printer, b", ")?;
+// Radix and number are told by the function under test, a radix by its bits.
+fn put_case(printer: &impl Print, x: i32, radix: u32, least: u32) -> io::Result<()> {
+    print!(printer; "base ")?;
+    put_number(printer, radix.cast_signed())?;
+    print!(printer; ", ")?;
     put_number(printer, x)?;
-    write(printer, b" in ")?;
-    put_number(printer, least)?;
-    write(printer, b": ")
+    print!(printer; " in {least}: ")
 }
 
-fn written(printer: &impl Print, x: u32, radix: u32, least: u32) -> io::Result<()> {
+fn written(printer: &impl Print, x: i32, radix: u32, least: u32) -> io::Result<()> {
     put_case(printer, x, radix, least)?;
     put_written(printer, x, radix, least)?;
-    write(printer, b"\n")
+    println!(printer)
 }
 
 // In each radix, with a least count of digits below the length and one above it.
-fn every_radix(printer: &impl Print, x: u32) -> io::Result<()> {
-    let mut radix = 2;
-    while radix <= 36 {
+fn every_radix(printer: &impl Print, x: i32) -> io::Result<()> {
+    for radix in 2..=36 {
         written(printer, x, radix, 1)?;
         written(printer, x, radix, 34)?;
-        radix += 1;
     }
     Ok(())
 }
 
-fn measured(printer: &impl Print, x: u32, radix: u32, least: u32) -> io::Result<()> {
+fn measured(printer: &impl Print, x: i32, radix: u32, least: u32) -> io::Result<()> {
     put_case(printer, x, radix, least)?;
     match numerals::written_length(x, radix, least) {
-        Length::Bytes(n) => {
-            write_number(printer, n as u64)?;
-            write(printer, b" bytes")?;
-        }
-        Length::BadRadix => write(printer, b"bad radix")?,
+        Some(n) => println!(printer; "{n} bytes"),
+        None => println!(printer; "bad radix"),
     }
-    write(printer, b"\n")
 }
 
-fn into(printer: &impl Print, room: usize, x: u32, radix: u32, least: u32) -> io::Result<()> {
+fn into(printer: &impl Print, room: usize, x: i32, radix: u32, least: u32) -> io::Result<()> {
     put_case(printer, x, radix, least)?;
     put_text(printer, room, x, radix, least)?;
-    write(printer, b"\n")
-}
-
-fn store(digits: &mut [u8], at: usize, byte: u8) {
-    if at < digits.len() {
-        digits[at] = byte;
-    }
-}
-
-fn read_long(printer: &impl Print, digits: &mut [u8]) -> io::Result<()> {
-    read_as(printer, b"65536 zeros", digits)?;
-    store(digits, 65535, b'7');
-    read_as(printer, b"65535 zeros and 7", digits)?;
-    store(digits, 0, b'-');
-    read_as(printer, b"-, 65534 zeros and 7", digits)?;
-    store(digits, 40000, b'x');
-    read_as(printer, b"-, 65533 zeros, x among them, and 7", digits)
+    println!(printer)
 }
 
 fn many_zeros(printer: &impl Print) -> io::Result<()> {
     let mut digits = [b'0'; 65536];
-    read_long(printer, &mut digits)
+    read_as(printer, b"65536 zeros", &digits)?;
+    digits[65535] = b'7';
+    read_as(printer, b"65535 zeros and 7", &digits)?;
+    digits[0] = b'-';
+    read_as(printer, b"-, 65534 zeros and 7", &digits)?;
+    digits[40000] = b'x';
+    read_as(printer, b"-, 65533 zeros, x among them, and 7", &digits)
 }
 
 fn reads_signs(printer: &impl Print) -> io::Result<()> {
@@ -224,13 +195,13 @@ fn naturals(printer: &impl Print) -> io::Result<()> {
 
 fn writes(printer: &impl Print) -> io::Result<()> {
     every_radix(printer, 0)?;
-    every_radix(printer, 2147483647)?;
-    every_radix(printer, 2147483648)?;
+    every_radix(printer, i32::MAX)?;
+    every_radix(printer, i32::MIN)?;
     written(printer, 1, 1, 0)?;
     written(printer, 1, 0, 0)?;
     written(printer, 1, 37, 0)?;
-    written(printer, 4294967295, 10, 0)?;
-    written(printer, 4294967295, 10, 5)?;
+    written(printer, -1, 10, 0)?;
+    written(printer, -1, 10, 5)?;
     written(printer, 255, 16, 2)?;
     written(printer, 255, 16, 3)?;
     written(printer, 0, 10, 0)
@@ -238,10 +209,10 @@ fn writes(printer: &impl Print) -> io::Result<()> {
 
 fn lengths(printer: &impl Print) -> io::Result<()> {
     measured(printer, 0, 10, 2147483647)?;
-    measured(printer, 4294967295, 10, 2147483647)?;
-    measured(printer, 2147483648, 2, 32)?;
-    measured(printer, 2147483648, 2, 33)?;
-    measured(printer, 5, 4294967295, 0)
+    measured(printer, -1, 10, 2147483647)?;
+    measured(printer, i32::MIN, 2, 32)?;
+    measured(printer, i32::MIN, 2, 33)?;
+    measured(printer, 5, u32::MAX, 0)
 }
 
 // Slices of the text's length and of others, and a radix outside.
@@ -251,8 +222,8 @@ fn refusals(printer: &impl Print) -> io::Result<()> {
     into(printer, 2, 123, 10, 0)?;
     into(printer, 0, 123, 10, 0)?;
     into(printer, 3, 123, 37, 0)?;
-    into(printer, 4, 4294967173, 10, 0)?;
-    into(printer, 6, 4294967173, 10, 5)
+    into(printer, 4, -123, 10, 0)?;
+    into(printer, 6, -123, 10, 5)
 }
 
 pub(crate) fn run(printer: &impl Print) -> io::Result<()> {

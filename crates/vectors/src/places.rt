@@ -1,27 +1,23 @@
 // Corners of `first_place` and of `translit`.
-use crate::writing::{write, write_number};
-use matching::Place;
+use matching::TooLong;
 use std::io;
 use std::io::Print;
 
 // A line: what is looked for where, and the answer.
 fn place(printer: &impl Print, label: &[u8], needle: &[u8], text: &[u8]) -> io::Result<()> {
-    write(printer, label)?;
-    write(printer, b": ")?;
+    printer.write_all(label)?;
+    print!(printer; ": ")?;
     match matching::first_place(needle, text) {
-        Place::At(n) => {
-            write_number(printer, n as u64)?;
-            write(printer, b"\n")
-        }
-        Place::Nowhere => write(printer, b"nowhere\n"),
-        Place::TooLong => write(printer, b"too long\n"),
+        Ok(Some(n)) => println!(printer; "{n}"),
+        Ok(None) => println!(printer; "nowhere"),
+        Err(TooLong) => println!(printer; "too long"),
     }
 }
 
 // A needle and a text that can be read.
 fn index(printer: &impl Print, needle: &[u8], text: &[u8]) -> io::Result<()> {
-    write(printer, needle)?;
-    write(printer, b" in ")?;
+    printer.write_all(needle)?;
+    print!(printer; " in ")?;
     place(printer, text, needle, text)
 }
 
@@ -103,13 +99,10 @@ fn write_replaced(
     s: &[u8],
     out: &mut [u8],
 ) -> io::Result<()> {
-    if matching::translit(table, s, &mut *out) {
-        write(printer, b" [")?;
-    } else {
-        write(printer, b" another length [")?;
-    }
-    write(printer, &*out)?;
-    write(printer, b"]\n")
+    let fits = matching::translit(table, s, &mut *out);
+    print!(printer; "{}", if fits { " [" } else { " another length [" })?;
+    printer.write_all(&*out)?;
+    println!(printer; "]")
 }
 
 // A line: the length of the replaced text, and that text.
@@ -122,11 +115,11 @@ fn replace_in(
 ) -> io::Result<()> {
     let table = matching::partners_of(from, to);
     let n = matching::translit_length(&table, s);
-    write_number(printer, n as u64)?;
-    if n <= room.len() {
-        write_replaced(printer, &table, s, &mut room[..n])?;
+    print!(printer; "{n}")?;
+    match room.get_mut(..n) {
+        Some(out) => write_replaced(printer, &table, s, out),
+        None => Ok(()),
     }
-    Ok(())
 }
 
 fn replace(printer: &impl Print, from: &[u8], to: &[u8], s: &[u8]) -> io::Result<()> {

@@ -8,6 +8,11 @@ use rules::Report;
 use std::io;
 use std::io::Print;
 
+// Ample room.
+const MOST_LENT: usize = 65536;
+
+const BUDGET: u32 = 16777216;
+
 // Number, detail, steps, place.
 fn write_report(printer: &impl Print, r: Report) -> io::Result<()> {
     let number = answers::number_of(r.answer);
@@ -17,10 +22,10 @@ fn write_report(printer: &impl Print, r: Report) -> io::Result<()> {
     println!(printer; "{number} {detail} {steps} {place}")
 }
 
-fn large_buffer() -> [u8; 65536]
+fn large_buffer() -> [u8; MOST_LENT]
     ensures { 65536 ≡ length result }
 {
-    [0; 65536]
+    [0; MOST_LENT]
 }
 
 // A text in given buffers, with nothing to include.
@@ -93,11 +98,6 @@ fn lent(
         budget,
     )
 }
-
-// Ample room.
-const MOST_LENT: usize = 65536;
-
-const BUDGET: u32 = 16777216;
 
 // The same in it.
 fn show(printer: &impl Print, text: &[u8]) -> io::Result<()> {

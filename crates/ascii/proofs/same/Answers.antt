@@ -1,5 +1,5 @@
 -- `ascii::same` meets its contract: the loop keeps that the rests are the same just where the wholes are. Assumes nothing.
-use Rattle.rules.proofs.Base.{◌∙◌, refl, sym, arith, rules}
+use Rattle.rules.proofs.Base.{◌∙◌, sym, arith}
 use Rattle.ascii.proofs.Laws.{same_lengths, same_not, same_on, same_end}
 use Rattle.ascii.proofs.same.Goals as goal
 
@@ -10,19 +10,16 @@ pub returns-then-a-i : goal.returns-then-a-i
 returns-then-a-i c =
     let a = c.args in
     let l = c.loop-i in
-    sym (same_not a.a.now a.b.now l.i (omega arith) (omega arith) (λ e. omega arith)) ∙ l.invariant.1
+    sym (same_not a.a.now a.b.now l.i (omega arith) (omega arith) (λ e. omega arith)) ∙ l.invariant
 
 pub loop-i-preserved : goal.loop-i-preserved
 loop-i-preserved c =
     let a = c.args in
     let l = c.loop-i in
-    (search rules, sym (same_on a.a.now a.b.now l.i (omega arith) (omega arith) (omega arith)) ∙ l.invariant.1)
+    sym (same_on a.a.now a.b.now l.i (omega arith) (omega arith) (omega arith)) ∙ l.invariant
 
 pub returns : goal.returns
 returns c =
     let a = c.args in
     let l = c.loop-i in
-    sym (same_end a.a.now a.b.now l.i (omega arith) (omega arith)) ∙ l.invariant.1
-
-pub loop-i-init : goal.loop-i-init
-loop-i-init c = (search rules, refl)
+    sym (same_end a.a.now a.b.now l.i (omega arith) (omega arith)) ∙ l.invariant

@@ -3,27 +3,20 @@ use Rattle.rules.proofs.Base.{◌∙◌, sym, arith, length-take-le}
 use Rattle.container.proofs.Items.{Stands, stands_at, joined_long}
 use Rattle.container.proofs.Copying.{not_copied, too_short, copied}
 use Rattle.container.proofs.copy_text.Goals as goal
-use Rattle.container.proofs.copy_text.Goals.{In-Is}
+use Rattle.container.proofs.copy_text.Goals.{In-Some}
 
 -- the item that was read
-item : (c : In-Is)
-    → Stands c.args.set.now c.args.place
-    c.in-Is.name c.in-Is.text c.in-Is.end
-item c = stands_at _ _ (sym c.in-Is.is ∙ c.item_at.ensures)
-
-pub returns-then-into-text : goal.returns-then-into-text
-returns-then-into-text c = too_short (item (goal.at.returns-then-into-text c).In-Is) c.args.into.now c.if-into-text.true
-
-pub returns-in-Bad : goal.returns-in-Bad
-returns-in-Bad c =
-    not_copied c.args.set.now c.args.place c.args.into.now (sym c.in-Bad.is ∙ c.item_at.ensures)
-
-pub returns-else-into-text : goal.returns-else-into-text
-returns-else-into-text c =
-    copied (item (goal.at.returns-else-into-text c).In-Is) c.args.into.now (omega (arith, c.if-into-text.false)) c.copy_behind.ensures
-
-pub slice_bounds-copy_behind-end-in-Is : goal.slice_bounds-copy_behind-end-in-Is
-slice_bounds-copy_behind-end-in-Is c = sym (length-take-le c.in-Is.text c.args.into.now (omega (arith, c.if-into-text.false)))
+item : (c : In-Some) → Stands c.args.set.now c.args.place c.in-Some.item
+item c = stands_at _ _ (sym c.in-Some.is ∙ c.item_at.ensures)
 
 pub copy_behind-requires : goal.copy_behind-requires
-copy_behind-requires c = omega (arith, joined_long (item (goal.at.copy_behind-requires c).In-Is), length-take-le c.in-Is.text c.args.into.now (omega (arith, c.if-into-text.false)))
+copy_behind-requires c = omega (arith, joined_long (item (goal.at.copy_behind-requires c).In-Some), length-take-le c.in-Some.item.text c.args.into.now (omega (arith, c.if-item-into.true)))
+
+pub returns-in-Some : goal.returns-in-Some
+returns-in-Some c = copied (item (goal.at.returns-in-Some c).In-Some) c.args.into.now (omega (arith, c.if-item-into.true)) c.copy_behind.ensures
+
+pub returns-in_default : goal.returns-in_default
+returns-in_default c = too_short (item (goal.at.returns-in_default c).In-Some) c.args.into.now c.if-item-into.false
+
+pub returns-in_default-2 : goal.returns-in_default-2
+returns-in_default-2 c = not_copied c.args.set.now c.args.place c.args.into.now (sym c.in_default.is ∙ c.item_at.ensures)

@@ -3,8 +3,8 @@ use Rattle.rules.proofs.Base.{◌-◌, length}
 use Rattle.container.proofs.Judging.{Judging}
 use Rattle.container.proofs.is_good.Given as goal
 
-abbrev pub invariant-loop-i : goal.invariant-loop-i
-invariant-loop-i l = Judging l.set l.i
+abbrev pub invariant-loop-item : goal.invariant-loop-item
+invariant-loop-item l = Judging l.set l.i
 
-abbrev pub decreases-loop-i : goal.decreases-loop-i
-decreases-loop-i l = length l.set - l.i
+abbrev pub decreases-loop-item : goal.decreases-loop-item
+decreases-loop-item l = length l.set - l.i

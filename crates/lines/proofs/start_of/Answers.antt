@@ -1,88 +1,108 @@
--- `lines::start_of` meets its contract: what it refuses, in its order, and else the loop keeps in which words the line's newline is still to be
--- sought. Assumes nothing.
-use Rattle.rules.proofs.Base.{◌-◌, arith}
-use Rattle.lines.proofs.Judged.{has, lacks}
-use Rattle.lines.proofs.Questions.{start_too_long, start_no_room, start_zero, start_one, seek_start, seek_none, seek_on, seek_place, seek_short, seek_found}
+-- `lines::start_of` meets its contract: what it refuses, in its order, and else the word and the bit of the line's newline. Assumes nothing.
+use Rattle.rules.proofs.Base.{◌+◌, ◌-◌, ◌/◌, ◌∙◌, ℕ, sym, ap, ◌≡◌, Some, Err, arith, get_or, length-take-le}
+use Rattle.rules.specs.Lines.{select}
+use Rattle.lines.proofs.Judged.{Admitted, admitted, passed}
+use Rattle.lines.proofs.Questions.{Sought, start_refused, start_zero, start_one, in_all, no_word, word_inside, no_bit_left, bit_found, place_inside, absent, present, no_line, newline_is}
 use Rattle.lines.proofs.start_of.Goals as goal
+use Rattle.lines.proofs.start_of.Goals.{In_ok-admit, After-last_below, In_ok-k, After-select}
 
-pub returns-then-length-gt-LONGEST : goal.returns-then-length-gt-LONGEST
-returns-then-length-gt-LONGEST c = start_too_long c.args.length c.args.words.now c.args.totals.now c.args.line c.if-length-gt-LONGEST.true
+admit : (c : In_ok-admit) → Admitted c.args.length c.args.words.now c.args.totals.now
+admit c = admitted c.args.length c.args.words.now c.args.totals.now c.in_ok-admit.ensures
 
-pub returns-then-not-has_room : goal.returns-then-not-has_room
-returns-then-not-has_room c = start_no_room c.args.length c.args.words.now c.args.totals.now c.args.line c.if-length-gt-LONGEST.false (lacks c.has_room.ensures c.if-not-has_room.true)
+-- the last of all totals below the newline's number
+last : (c : After-last_below) → Sought c.args.length c.args.words.now c.args.totals.now c.args.line c.in_ok-newline.newline c.last_below.result
+last c = in_all c.checked_sub.result (admitted c.args.length c.args.words.now c.args.totals.now c.in_ok-admit.ensures) c.checked_sub.ensures c.in_ok-newline.ensures.value c.if-newline-eq0.false c.last_below.ensures
 
-pub returns-then-line-eq0 : goal.returns-then-line-eq0
-returns-then-line-eq0 c =
-    start_zero
-    c.args.length c.args.words.now c.args.totals.now c.args.line
-    c.if-length-gt-LONGEST.false
-    (has c.has_room.ensures c.if-not-has_room.false)
-    c.if-line-eq0.true
+-- it is the k-th
+kth : (c : In_ok-k) → c.last_below.result ≡ Some c.in_ok-k.k
+kth c = present c.last_below.result _ c.in_ok-k.k c.in_ok-k.ensures.value
+
+-- the bit that is sought in its word
+bit : (c : After-select) → c.select.result ≡ select 64 (c.in_ok-newline.newline - get_or c.args.totals.now c.in_ok-k.k 0 - 1) (get_or c.args.words.now c.in_ok-k.k 0)
+bit c = c.select.ensures ∙ ap (λ (t : ℕ). select 64 (c.in_ok-newline.newline - t - 1) (get_or c.args.words.now c.in_ok-k.k 0)) c.from.ensures
+
+pub returns-in_err-admit : goal.returns-in_err-admit
+returns-in_err-admit c =
+    passed c.from_residual.result c.in_err-admit.field-0.0 c.from_residual.ensures.1
+    ∙ start_refused c.args.length c.args.words.now c.args.totals.now c.args.line c.in_err-admit.ensures
+
+pub returns-in_err-newline : goal.returns-in_err-newline
+returns-in_err-newline c =
+    let n = no_line c.checked_sub.result c.args.line c.in_err-newline.field-0.0 c.checked_sub.ensures c.in_err-newline.ensures.value in
+    passed c.from_residual-in_err-newline.result c.in_err-newline.field-0.0 c.from_residual-in_err-newline.ensures.1
+    ∙ ap Err n.1
+    ∙ start_zero c.args.length c.args.words.now c.args.totals.now c.args.line (admit (goal.at.returns-in_err-newline c).In_ok-admit) n.0
 
 pub returns-then-newline-eq0 : goal.returns-then-newline-eq0
 returns-then-newline-eq0 c =
-    start_one
-    c.args.length c.args.words.now c.args.totals.now c.args.line
-    c.if-length-gt-LONGEST.false
-    (has c.has_room.ensures c.if-not-has_room.false)
-    (omega (arith, c.if-newline-eq0.true, c.if-line-eq0.false))
+    let n = newline_is c.checked_sub.result c.args.line c.in_ok-newline.newline c.checked_sub.ensures c.in_ok-newline.ensures.value in
+    start_one c.args.length c.args.words.now c.args.totals.now c.args.line (admit (goal.at.returns-then-newline-eq0 c).In_ok-admit) (omega (arith, n, c.if-newline-eq0.true))
 
-pub loop-k-init : goal.loop-k-init
-loop-k-init c =
-    seek_start
-    c.args.length c.args.words.now c.args.totals.now c.args.line
-    c.if-length-gt-LONGEST.false
-    (has c.has_room.ensures c.if-not-has_room.false)
-    (omega (arith, c.if-newline-eq0.false, c.if-line-eq0.false))
+pub slice_bounds-last_below-end : goal.slice_bounds-last_below-end
+slice_bounds-last_below-end c =
+    let h = admit (goal.at.slice_bounds-last_below-end c).In_ok-admit in
+    sym (length-take-le (c.args.length / 64 + 1) c.args.totals.now (omega (arith, h.room.1)))
 
-pub bounds-words-k : goal.bounds-words-k
-bounds-words-k c = omega (arith, c.loop-k.invariant.below, c.loop-k.invariant.room.0)
-
-pub returns-then-i-eq-COUNT : goal.returns-then-i-eq-COUNT
-returns-then-i-eq-COUNT c =
-    seek_short c.loop-k.invariant
-    (omega (arith, c.loop-k-test.true))
-    c.if-total-newline.true
-    c.select-i.ensures
-    c.if-i-eq-COUNT.true
-
-pub overflow_mul-result : goal.overflow_mul-result
-overflow_mul-result c = omega (arith, c.loop-k.invariant.below, c.loop-k.invariant.short)
-
-pub overflow_add-result : goal.overflow_add-result
-overflow_add-result c = omega (arith, c.loop-k.invariant.below, c.loop-k.invariant.short, seek_place c.loop-k.invariant (omega (arith, c.loop-k-test.true)) c.if-total-newline.true c.select-i.ensures)
-
-pub overflow_add-result-then-total-newline : goal.overflow_add-result-then-total-newline
-overflow_add-result-then-total-newline c = omega (arith, c.loop-k.invariant.below, c.loop-k.invariant.short, seek_place c.loop-k.invariant (omega (arith, c.loop-k-test.true)) c.if-total-newline.true c.select-i.ensures)
-
-pub returns-then-total-newline : goal.returns-then-total-newline
-returns-then-total-newline c =
-    seek_found c.loop-k.invariant
-    (omega (arith, c.loop-k-test.true))
-    c.if-total-newline.true
-    c.select-i.ensures
-    c.if-i-eq-COUNT.false
-
-pub loop-k-preserved : goal.loop-k-preserved
-loop-k-preserved c = seek_on c.loop-k.invariant (omega (arith, c.loop-k-test.true)) c.if-total-newline.false
-
-pub returns : goal.returns
-returns c = seek_none c.loop-k.invariant c.loop-k-test.false
+pub returns-in_err-k : goal.returns-in_err-k
+returns-in_err-k c =
+    let n = absent c.last_below.result _ c.in_err-k.field-0.0 c.in_err-k.ensures.value in
+    passed c.from_residual-in_err-k.result c.in_err-k.field-0.0 c.from_residual-in_err-k.ensures.1
+    ∙ ap Err n.1
+    ∙ no_word (last (goal.at.returns-in_err-k c).After-last_below) n.0
 
 pub offset_bounds-totals-k : goal.offset_bounds-totals-k
-offset_bounds-totals-k c = omega (arith, c.loop-k.invariant.below, c.loop-k.invariant.short)
+offset_bounds-totals-k c =
+    let s = last (goal.at.offset_bounds-totals-k c).After-last_below in
+    omega (arith, s.admitted.short, (word_inside s (kth (goal.at.offset_bounds-totals-k c).In_ok-k)).0)
 
 pub bounds-totals-k : goal.bounds-totals-k
-bounds-totals-k c = omega (arith, c.loop-k.invariant.below, c.loop-k.invariant.room.1)
+bounds-totals-k c =
+    let s = last (goal.at.bounds-totals-k c).After-last_below in
+    omega (arith, s.admitted.room.1, (word_inside s (kth (goal.at.bounds-totals-k c).In_ok-k)).0)
 
-pub overflow_cast-total : goal.overflow_cast-total
-overflow_cast-total c = omega (arith, c.shared_slice_known-in-loop-k-1.given (c.loop-k.k - 1))
+pub overflow_sub-before : goal.overflow_sub-before
+overflow_sub-before c =
+    let s = last (goal.at.overflow_sub-before c).After-last_below in
+    omega (arith, c.from.ensures, (word_inside s (kth (goal.at.overflow_sub-before c).In_ok-k)).1)
+
+pub overflow_sub-before-2 : goal.overflow_sub-before-2
+overflow_sub-before-2 c =
+    let s = last (goal.at.overflow_sub-before-2 c).After-last_below in
+    omega (arith, c.from.ensures, (word_inside s (kth (goal.at.overflow_sub-before-2 c).In_ok-k)).1)
 
 pub offset_bounds-words-k : goal.offset_bounds-words-k
-offset_bounds-words-k c = omega (arith, c.loop-k.invariant.below, c.loop-k.invariant.short)
+offset_bounds-words-k c =
+    let s = last (goal.at.offset_bounds-words-k c).After-last_below in
+    omega (arith, s.admitted.short, (word_inside s (kth (goal.at.offset_bounds-words-k c).In_ok-k)).0)
 
-pub overflow_sub-newline-then-total-newline : goal.overflow_sub-newline-then-total-newline
-overflow_sub-newline-then-total-newline c = omega (arith, c.if-total-newline.true)
+pub bounds-words-k : goal.bounds-words-k
+bounds-words-k c =
+    let s = last (goal.at.bounds-words-k c).After-last_below in
+    omega (arith, s.admitted.room.0, (word_inside s (kth (goal.at.bounds-words-k c).In_ok-k)).0)
 
-pub overflow_sub-newline-then-total-newline-2 : goal.overflow_sub-newline-then-total-newline-2
-overflow_sub-newline-then-total-newline-2 c = omega (arith, c.if-total-newline.true)
+pub returns-in_err-bit : goal.returns-in_err-bit
+returns-in_err-bit c =
+    let n = absent c.select.result _ c.in_err-bit.field-0.0 c.in_err-bit.ensures.value in
+    passed c.from_residual-in_err-bit.result c.in_err-bit.field-0.0 c.from_residual-in_err-bit.ensures.1
+    ∙ ap Err n.1
+    ∙ no_bit_left (last (goal.at.returns-in_err-bit c).After-last_below) (kth (goal.at.returns-in_err-bit c).In_ok-k) (bit (goal.at.returns-in_err-bit c).After-select) n.0
+
+pub overflow_mul-result : goal.overflow_mul-result
+overflow_mul-result c =
+    let s = last (goal.at.overflow_mul-result c).After-last_below in
+    omega (arith, place_inside s (kth (goal.at.overflow_mul-result c).In_ok-k) (bit (goal.at.overflow_mul-result c).After-select) (present c.select.result _ c.in_ok-bit.bit c.in_ok-bit.ensures.value))
+
+pub overflow_add-result : goal.overflow_add-result
+overflow_add-result c =
+    let s = last (goal.at.overflow_add-result c).After-last_below in
+    omega (arith, place_inside s (kth (goal.at.overflow_add-result c).In_ok-k) (bit (goal.at.overflow_add-result c).After-select) (present c.select.result _ c.in_ok-bit.bit c.in_ok-bit.ensures.value))
+
+pub overflow_add-result-2 : goal.overflow_add-result-2
+overflow_add-result-2 c =
+    let s = last (goal.at.overflow_add-result-2 c).After-last_below in
+    omega (arith, place_inside s (kth (goal.at.overflow_add-result-2 c).In_ok-k) (bit (goal.at.overflow_add-result-2 c).After-select) (present c.select.result _ c.in_ok-bit.bit c.in_ok-bit.ensures.value))
+
+pub returns : goal.returns
+returns c =
+    bit_found (last (goal.at.returns c).After-last_below) (kth (goal.at.returns c).In_ok-k) (bit (goal.at.returns c).After-select)
+    (present c.select.result _ c.in_ok-bit.bit c.in_ok-bit.ensures.value)

@@ -1,5 +1,6 @@
 -- `matching::first_place` meets its contract: a law of the answer for each way out. Assumes nothing.
-use Rattle.rules.proofs.Base.{◌∙◌, arith}
+use Rattle.rules.proofs.Base.{◌∙◌, ap, arith}
+use Rattle.std.specs.Prelude.{Ok}
 use Rattle.matching.proofs.Places.{placed_nowhere, placed_empty, placed_first, placed_long}
 use Rattle.matching.proofs.first_place.Goals as goal
 
@@ -16,12 +17,12 @@ returns-then-needle-eq0 c =
 pub returns-then-needle-le-SHORT : goal.returns-then-needle-le-SHORT
 returns-then-needle-le-SHORT c =
     let a = c.args in
-    c.place_short.ensures ∙ placed_first a.needle.now a.text.now (omega arith) (omega arith)
+    ap Ok c.place.ensures ∙ placed_first a.needle.now a.text.now (omega arith) (omega arith)
 
 pub returns-then-needle-le-LONGEST : goal.returns-then-needle-le-LONGEST
 returns-then-needle-le-LONGEST c =
     let a = c.args in
-    c.place_long.ensures ∙ placed_first a.needle.now a.text.now (omega arith) (omega arith)
+    ap Ok c.place-then-needle-le-LONGEST.ensures ∙ placed_first a.needle.now a.text.now (omega arith) (omega arith)
 
 pub returns : goal.returns
 returns c =

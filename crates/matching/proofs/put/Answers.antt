@@ -1,10 +1,7 @@
 -- `matching::put` meets its contract: the entry is a byte, or it keeps the byte. Assumes nothing.
-use Rattle.rules.proofs.Base.{arith}
-use Rattle.matching.proofs.Partners.{entry_byte, entry_same}
+use Rattle.rules.proofs.Base.{◌∙◌, sym, ap, ◌∷◌, [], ℕ}
+use Rattle.matching.proofs.Partners.{entry_put}
 use Rattle.matching.proofs.put.Goals as goal
 
-pub returns-then-t-lt-STAYS : goal.returns-then-t-lt-STAYS
-returns-then-t-lt-STAYS c = entry_byte c.args.b c.args.t c.if-t-lt-STAYS.true
-
 pub returns : goal.returns
-returns c = entry_same c.args.b c.args.t (omega arith)
+returns c = entry_put c.args.b c.args.t c.try_from.result c.try_from.ensures c.requires ∙ ap (λ (n : ℕ). n ∷ []) (sym c.unwrap_or.ensures)

@@ -1,31 +1,28 @@
 -- `numerals::read_natural` meets its contract: the loop keeps that the whole is what the rest writes behind v. Assumes nothing.
-use Rattle.rules.proofs.Base.{rules}
+use Rattle.rules.proofs.Base.{◌∙◌, sym, eqb-true, eqb-false, rules}
 use Rattle.numerals.proofs.Reading.{reads_first, reads_none, reads_on, reads_off, reads_end}
 use Rattle.numerals.proofs.read_natural.Goals as goal
 
-pub returns-then-s-eq0 : goal.returns-then-s-eq0
-returns-then-s-eq0 c = reads_none c.args.radix c.args.s.now c.if-s-eq0.true
+pub returns-then-is_empty : goal.returns-then-is_empty
+returns-then-is_empty c = reads_none c.args.radix c.args.s.now (eqb-true _ _ (sym c.is_empty.ensures ∙ c.if-is_empty.true))
 
-pub loop-i-init : goal.loop-i-init
-loop-i-init c = (search rules, search rules, reads_first c.args.radix c.args.s.now c.if-s-eq0.false)
+pub loop-b-init : goal.loop-b-init
+loop-b-init c = record { small = search rules; reads = reads_first c.args.radix c.args.s.now (eqb-false _ _ (sym c.is_empty.ensures ∙ c.if-is_empty.false)) }
 
-pub returns-in_default : goal.returns-in_default
-returns-in_default c =
+pub returns-in_err-v : goal.returns-in_err-v
+returns-in_err-v c =
     let a = c.args in
-    let l = c.loop-i in
-    reads_off a.radix a.s.now l.v l.i l.invariant.2 c.loop-i-test.true c.one_more.ensures c.in_default.is
+    let l = c.loop-b in
+    c.from_residual.ensures ∙ reads_off a.radix a.s.now l.v l.b-index l.invariant.reads c.loop-b-test.true c.one_more.ensures c.in_err-v.was
 
-pub loop-i-preserved : goal.loop-i-preserved
-loop-i-preserved c =
+pub loop-b-preserved : goal.loop-b-preserved
+loop-b-preserved c =
     let a = c.args in
-    let l = c.loop-i in (
-      search rules,
-      search rules,
-      reads_on a.radix a.s.now l.v l.i l.invariant.2 c.loop-i-test.true c.one_more.ensures c.in-Number.is,
-    )
+    let l = c.loop-b in
+    record { small = search rules; reads = reads_on a.radix a.s.now l.v l.b-index l.invariant.reads c.loop-b-test.true c.one_more.ensures c.in_ok-v.was }
 
 pub returns : goal.returns
 returns c =
     let a = c.args in
-    let l = c.loop-i in
-    reads_end a.radix a.s.now l.v l.i l.invariant.2 c.loop-i-test.false l.invariant.1
+    let l = c.loop-b in
+    reads_end a.radix a.s.now l.v l.b-index l.invariant.reads (search rules) l.invariant.small

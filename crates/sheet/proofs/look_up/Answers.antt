@@ -1,42 +1,37 @@
--- `sheet::look_up` meets its contract: the loop keeps that the answer is sought from the line i on. Assumes nothing.
-use Rattle.rules.proofs.Base.{◌∙◌, refl, sym, ◌≡◌, length, arith, rules}
-use Rattle.rules.specs.Sheets.{unused_line, question}
-use Rattle.sheet.proofs.Questions.{none_below, none_left, found, passed, named_by_place}
+-- `sheet::look_up` meets its contract: the first of the lines that has the name. Assumes nothing.
+use Rattle.rules.proofs.Base.{◌∙◌, ◌≡◌, sym, ap, Bool, take}
+use Rattle.std.proofs.Common.{rules, tests}
+use denote.Ref.{Bor}
+use Rattle.std.specs.List.{find}
+use Rattle.std.specs.Option.{option_map}
+use Rattle.std.proofs.lemmas.Iterator.{YieldsList-from_slice, YieldsList-from_take}
+use Rattle.std.proofs.lemmas.Iterator.Search.{find_from_yields_List}
+use Rattle.rules.specs.declared.Entry.{Entry}
+use Rattle.rules.specs.Bytes.{Bytes}
+use Rattle.rules.specs.Sheets.{question, is_named, unused_line}
+use Rattle.sheet.proofs.Questions.{found_first}
 use Rattle.sheet.proofs.look_up.Goals as goal
-use Rattle.sheet.proofs.look_up.Goals.{Start}
+use Rattle.sheet.proofs.look_up.Goals.{After-find}
 
--- the sheet has all of its lines
-full : (c : Start) → length c.args.sheet.lines ≡ 256
-full c = c.well_formed.0.1.1.0.1.0.1
+-- whether a line has the name
+abbrev test : Bytes → Bytes → Entry → Bool
+test text name e = is_named text name (record { name = e.name; length = e.length; value = unused_line.value })
 
-pub returns-then-sheet-i : goal.returns-then-sheet-i
+found : (c : After-find) → option_map (λ (x : Bor Entry). x.now) c.find.result ≡ find (test c.args.text.now c.args.name.now) (take c.args.sheet.now.count c.args.sheet.now.lines)
+found c =
+    find_from_yields_List (test c.args.text.now c.args.name.now) _ _ c.find.result c.find.ensures.ran
+    (YieldsList-from_take c.args.sheet.now.count (YieldsList-from_slice c.args.sheet.now.lines cc) cc)
+    (λ x b q k. search (rules, tests))
+
+pub returns-in_err-line : goal.returns-in_err-line
 unfolding question
-returns-then-sheet-i c =
-    let a = c.args in
-    let l = c.loop-i in
-    none_below a.text.now a.name.now a.sheet.lines a.sheet.count l.i l.invariant.1 c.if-sheet-i.true
-
-pub returns-then-is_named : goal.returns-then-is_named
-unfolding question
-returns-then-is_named c =
-    let a = c.args in
-    let l = c.loop-i in
-    found a.text.now a.name.now a.sheet.lines a.sheet.count l.i l.invariant.1 unused_line c.if-sheet-i.false (omega (arith, full (goal.at.returns-then-is_named c).Start, c.loop-i-test.true)) (named_by_place a.text.now a.name.now _ ∙ sym c.is_named.ensures ∙ c.if-is_named.true)
-
-pub loop-i-preserved : goal.loop-i-preserved
-loop-i-preserved c =
-    let a = c.args in
-    let l = c.loop-i in (
-      search rules,
-      passed a.text.now a.name.now a.sheet.lines a.sheet.count l.i l.invariant.1 unused_line c.if-sheet-i.false (omega (arith, full (goal.at.loop-i-preserved c).Start, c.loop-i-test.true)) (named_by_place a.text.now a.name.now _ ∙ sym c.is_named.ensures ∙ c.if-is_named.false),
-    )
+returns-in_err-line c =
+    c.from_residual.ensures
+    ∙ ap (option_map (λ (e : Entry). e.value)) (ap (option_map (λ (x : Bor Entry). x.now)) (sym c.in_err-line.was) ∙ found (goal.at.returns-in_err-line c).After-find)
+    ∙ found_first c.args.text.now c.args.name.now (take c.args.sheet.now.count c.args.sheet.now.lines)
 
 pub returns : goal.returns
 unfolding question
 returns c =
-    let a = c.args in
-    let l = c.loop-i in
-    none_left a.text.now a.name.now a.sheet.lines a.sheet.count l.i l.invariant.1 (omega (arith, full (goal.at.returns c).Start, c.loop-i-test.false))
-
-pub loop-i-init : goal.loop-i-init
-loop-i-init c = (search rules, refl)
+    ap (option_map (λ (e : Entry). e.value)) (ap (option_map (λ (x : Bor Entry). x.now)) (sym c.in_ok-line.was) ∙ found (goal.at.returns c).After-find)
+    ∙ found_first c.args.text.now c.args.name.now (take c.args.sheet.now.count c.args.sheet.now.lines)

@@ -1,5 +1,5 @@
 -- `expander::buckets::rebuild` meets its contract: the loop keeps that the definitions so far are chained. Assumes nothing.
-use Rattle.rules.proofs.Base.{◌<◌, ◌*◌, ◌∙◌, ap, refl, sym, subst, ◌≡◌, List, arith, length, get_or, take_all}
+use Rattle.rules.proofs.Base.{◌<◌, ◌*◌, ◌∙◌, ap, subst, ◌≡◌, List, arith, length, get_or, take_all}
 use Rattle.rules.specs.Table.{Definition}
 use Rattle.hashing.specs.Hashing.{bucket_of}
 use Rattle.hashing.proofs.Laws.{bucket_below}
@@ -23,7 +23,7 @@ after_heads c ds h = packs_before c.clear_heads.ensures.1 c.clear_heads.auto.end
 -- and on each turn
 there : (c : In-loop-i) (ds : List Definition) → Packs c.clear_heads.new.ends c.args.packed.count c.args.bytes.now c.args.packed.used (rows ds)
     → Packs c.loop-i.ends c.args.packed.count c.args.bytes.now c.args.packed.used (rows ds)
-there c ds h = let l = c.loop-i in packs_before l.invariant.1 (l.invariant.0 ∙ sym (c.clear_heads.auto.ends ∙ c.requires.ends_len.0)) c.requires.ends_len.1 h
+there c ds h = let l = c.loop-i in packs_before l.invariant.0 c.loop-i.auto.ends c.requires.ends_len.1 h
 
 some : (c : In-loop-i)
     → Packs c.clear_heads.new.ends c.args.packed.count c.args.bytes.now c.args.packed.used (rows c.requires.rows_in.definitions)
@@ -32,10 +32,10 @@ some c = packs_before c.clear_heads.ensures.1 c.clear_heads.auto.ends c.requires
 -- a turn comes to one of them
 one : (c : In-loop-i) (ds : List Definition) → Packs c.clear_heads.new.ends c.args.packed.count c.args.bytes.now c.args.packed.used (rows ds)
     → c.loop-i.i < length ds
-one c ds h = omega (arith, c.loop-i-test.true, c.loop-i.invariant.3, count_is h, length-rows ds)
+one c ds h = omega (arith, count_is h, length-rows ds)
 
 within : (c : In-loop-i) → 2 * c.loop-i.i < c.args.packed.count
-within c = omega (arith, c.loop-i-test.true, c.loop-i.invariant.3)
+within c = omega arith
 
 -- the bucket is that of its name
 its_bucket : (c : After-bucket_of-bucket) (ds : List Definition)
@@ -43,13 +43,8 @@ its_bucket : (c : After-bucket_of-bucket) (ds : List Definition)
     → c.bucket_of-bucket.result ≡ bucket_of (get_or ds c.loop-i.i blank).name
 its_bucket c ds h =
     let l = c.loop-i in
-    let t = packs_before l.invariant.1 (l.invariant.0 ∙ sym (c.clear_heads.auto.ends ∙ c.requires.ends_len.0)) c.requires.ends_len.1 h in
+    let t = packs_before l.invariant.0 c.loop-i.auto.ends c.requires.ends_len.1 h in
     c.bucket_of-bucket.ensures ∙ ap bucket_of (c.string.ensures (rows ds) t ∙ name_at_lem ds l.i)
-
-pub loop-i-init : goal.loop-i-init
-loop-i-init c =
-    let k = c.clear_heads in
-    (k.auto.ends ∙ c.requires.ends_len.0, refl, omega arith, refl, λ ds h. k.ensures.0)
 
 pub string-requires : goal.string-requires
 string-requires c = record { formed = formed (there (goal.at.string-requires c).In-loop-i c.requires.rows_in.definitions (some (goal.at.string-requires c).In-loop-i)); k_lt_count = within (goal.at.string-requires c).In-loop-i }
@@ -59,28 +54,19 @@ join-requires c =
     let ds = c.requires.rows_in.definitions in
     let l = c.loop-i in
     let b : c.bucket_of-bucket.result < bucket_count = omega (arith, c.bucket_of-bucket.ensures, bucket_below c.string.result.now) in
-    (l.invariant.0, b, omega (arith, within (goal.at.join-requires c).In-loop-i, c.requires.ends_len.1), rebuilt_head ds l.i (one (goal.at.join-requires c).In-loop-i ds (some (goal.at.join-requires c).In-loop-i)) (l.invariant.4 ds (some (goal.at.join-requires c).In-loop-i)) c.bucket_of-bucket.result b)
+    (c.loop-i.auto.ends ∙ c.clear_heads.auto.ends ∙ c.requires.ends_len.0, b, omega (arith, within (goal.at.join-requires c).In-loop-i, c.requires.ends_len.1), rebuilt_head ds l.i (one (goal.at.join-requires c).In-loop-i ds (some (goal.at.join-requires c).In-loop-i)) (l.invariant.1 ds (some (goal.at.join-requires c).In-loop-i)) c.bucket_of-bucket.result b)
 
 pub loop-i-preserved : goal.loop-i-preserved
 loop-i-preserved c =
     let j = c.join in
     let l = c.loop-i in (
-      j.auto.ends ∙ l.invariant.0,
-      j.ensures.ends_unchanged ∙ l.invariant.1,
-      omega (arith, c.loop-i-test.true),
-      l.invariant.3,
-      λ ds h. rebuilt_on ds l.i (one (goal.at.loop-i-preserved c).In-loop-i ds h) (l.invariant.4 ds h) c.bucket_of-bucket.result (its_bucket (goal.at.loop-i-preserved c).After-bucket_of-bucket ds h) j.ensures.chained,
+      j.ensures.ends_unchanged ∙ l.invariant.0,
+      λ ds h. rebuilt_on ds l.i (one (goal.at.loop-i-preserved c).In-loop-i ds h) (l.invariant.1 ds h) c.bucket_of-bucket.result (its_bucket (goal.at.loop-i-preserved c).After-bucket_of-bucket ds h) j.ensures.chained,
     )
 
 pub returns : goal.returns
 returns c =
-    let l = c.loop-i in record { chained = λ ds h. subst (Chained l.ends) (take_all l.i ds (omega (arith, c.loop-i-test.false, l.invariant.3, count_is h, length-rows ds))) (l.invariant.4 ds (after_heads (goal.at.returns c).After-loop-i ds h)); ends_unchanged = l.invariant.1 ∙ c.clear_heads.ensures.1 }
+    let l = c.loop-i in record { chained = λ ds h. subst (Chained l.ends) (take_all l.i ds (omega (arith, count_is h, length-rows ds))) (l.invariant.1 ds (after_heads (goal.at.returns c).After-loop-i ds h)); ends_unchanged = l.invariant.0 ∙ c.clear_heads.ensures.1 }
 
 pub clear_heads-requires : goal.clear_heads-requires
 clear_heads-requires c = (c.requires.ends_len.0, c.requires.ends_len.2)
-
-pub overflow_mul-i : goal.overflow_mul-i
-overflow_mul-i c = omega (arith, within (goal.at.overflow_mul-i c).In-loop-i, c.requires.ends_len.1)
-
-pub shape_of-ends : goal.shape_of-ends
-shape_of-ends c = c.loop-i.invariant.0 ∙ sym c.requires.ends_len.0

@@ -3,7 +3,6 @@ use Rattle.rules.proofs.Base.{◌+◌, ◌*◌, ◌≡◌, refl, sym, ap, [], ar
 use Rattle.rules.specs.Table.{text, Table, defined}
 use Rattle.expander.specs.Table.{rows, DefinitionsIn}
 use Rattle.expander.proofs.Packing.{formed, string_fits}
-use Rattle.expander.proofs.Changing.{few_strings}
 use Rattle.expander.proofs.Rows.{valid}
 use Rattle.expander.proofs.DefiningLaws.{overfilled, changed}
 use Rattle.expander.proofs.defining.copy_text.Goals as goal
@@ -39,12 +38,6 @@ returns c =
     λ a s b r.
     changed r (defined p.name.now (text (get_or (rows s.table.definitions) (2 * p.i + 1) [])) s.table) refl (d.ensures s.table r.table) d.auto.bytes d.auto.ends
     c.with_table.ensures c.on.ensures
-
-pub overflow_mul-k : goal.overflow_mul-k
-overflow_mul-k c = omega (arith, c.requires.name_nonzero, few_strings c.requires.valid.represents.table.holds)
-
-pub overflow_add-k : goal.overflow_add-k
-overflow_add-k c = omega (arith, c.requires.name_nonzero, few_strings c.requires.valid.represents.table.holds)
 
 pub string-n-requires : goal.string-n-requires
 string-n-requires c = record { formed = formed c.requires.valid.represents.table.holds.packs; k_lt_count = c.requires.name_nonzero.2 }

@@ -1,11 +1,12 @@
 -- `expander::defn::named_length` meets its contract: a case for each thing that looking a name up answers. Assumes nothing.
 use Rattle.rules.proofs.Base.{◌≤◌, ◌+◌, ◌<◌, ◌*◌, ◌∙◌, sym, ap, arith, length}
+use Rattle.std.specs.Prelude.{Ok}
+use Rattle.rules.specs.Answers.{fault_answer}
 use Rattle.expander.specs.Limits.{most_lent}
 use Rattle.expander.specs.Table.{rows}
 use Rattle.expander.specs.Defn.{measured_as}
-use Rattle.expander.specs.declared.defn.DefnLength.TheVariants as defn_length
 use Rattle.expander.proofs.Changing.{few_strings}
-use Rattle.expander.proofs.DefnLaws.{same_bytes_lem, no_length, named_text, named_predefined, named-undefined, text_within}
+use Rattle.expander.proofs.DefnLaws.{named_text, named_predefined, named-undefined, text_within}
 use Rattle.expander.proofs.Packing.{formed, string_fits}
 use Rattle.expander.proofs.defn.named_length.Goals as goal
 use Rattle.expander.proofs.defn.named_length.Goals.{After-string-text, In-Text}
@@ -30,18 +31,18 @@ unfolding measured_as
 returns-in-Text c =
     let text = c.string-text in record {
       value = λ u h.
-          ap defn_length.Bytes (sym (c.quotes_length.ensures.0 text.result.now))
+          ap Ok (sym (c.quotes_length.ensures.0 text.result.now))
           ∙ ap measured_as (sym (named_text _ u _ (c.look_up-meaning.ensures u h) c.in-Text.is (text.ensures (rows u.definitions) h.holds.packs)));
-      by_index = λ n e. omega (arith, same_bytes_lem e, c.quotes_length.ensures.1, text_most (goal.at.returns-in-Text c).After-string-text);
+      bounded = omega (arith, c.quotes_length.ensures.1, text_most (goal.at.returns-in-Text c).After-string-text);
     }
 
 pub returns-in-Predefined : goal.returns-in-Predefined
-unfolding measured_as
-returns-in-Predefined c = record { value = λ u h. sym (ap measured_as (named_predefined _ u _ (c.look_up-meaning.ensures u h) c.in-Predefined.is)); by_index = λ n e. absurd (no_length (sym e)) }
+unfolding measured_as fault_answer
+returns-in-Predefined c = record { value = λ u h. sym (ap measured_as (named_predefined _ u _ (c.look_up-meaning.ensures u h) c.in-Predefined.is)); bounded = tt }
 
 pub returns-in-Undefined : goal.returns-in-Undefined
 unfolding measured_as
-returns-in-Undefined c = record { value = λ u h. sym (ap measured_as (named-undefined _ u _ (c.look_up-meaning.ensures u h) c.in-Undefined.is)); by_index = λ n e. omega (arith, same_bytes_lem e) }
+returns-in-Undefined c = record { value = λ u h. sym (ap measured_as (named-undefined _ u _ (c.look_up-meaning.ensures u h) c.in-Undefined.is)); bounded = omega arith }
 
 pub overflow_mul-k : goal.overflow_mul-k
 overflow_mul-k c = omega (arith, within_for (goal.at.overflow_mul-k c).In-Text, few_strings c.requires.1.holds)
@@ -51,6 +52,3 @@ overflow_add-k c = omega (arith, within_for (goal.at.overflow_add-k c).In-Text, 
 
 pub string-text-requires : goal.string-text-requires
 string-text-requires c = record { formed = formed c.requires.1.holds.packs; k_lt_count = within_for (goal.at.string-text-requires c).In-Text }
-
-pub overflow_add-n : goal.overflow_add-n
-overflow_add-n c = omega (arith, c.quotes_length.ensures.1, text_most (goal.at.overflow_add-n c).After-string-text)

@@ -17,7 +17,7 @@ returns-then-calls-m c =
 pub collect_ahead-k-requires : goal.collect_ahead-k-requires
 collect_ahead-k-requires c =
     let m = c.requires.valid.represents in
-    (call_room m c.args.n (omega (arith, c.if-calls-m.false, m.calls.strings.used_in)), reach_lent m c.requires.reach.0, c.requires.reach.1)
+    (call_room m c.args.n (omega (arith, c.if-calls-m.false, m.calls.strings.used_in)), reach_lent m c.requires.reach.0 c.ahead.ensures, c.requires.reach.1)
 
 pub advanced-to-requires : goal.advanced-to-requires
 advanced-to-requires c = reach_advances c.requires.valid.represents c.requires.reach.0
@@ -32,7 +32,7 @@ returns c =
     let p = c.advanced-to in
     λ a s b x xs r q.
     refines_by refl (c.on.ensures ∙ ap (stepped progress.On) (c.with_calls.ensures ∙ ap (calls_set k.result) c.with_source.ensures))
-    (token_collected r l.bytes l.ends l.stack c.args.start c.args.n c.args.width x xs (k.ensures x xs (top_call r q))
+    (token_collected r l.bytes l.ends l.stack c.args.start c.args.n c.args.width x xs c.ahead.ensures (k.ensures x xs (top_call r q))
     (p.ensures c.args.text.now s.source r.source (reach_whole r c.requires.reach.0)))
 
 pub overflow_sub-calls : goal.overflow_sub-calls

@@ -1,14 +1,14 @@
 -- `expander::delivering::emit_byte` meets its contract: the byte does not fit, or it is placed. Assumes nothing.
-use Rattle.rules.proofs.Base.{◌∙◌, refl, ap}
+use Rattle.rules.proofs.Base.{◌∙◌, refl, sym, ap}
 use Rattle.expander.specs.declared.machine.Progress.TheVariants as progress
 use Rattle.expander.specs.Machine.{stepped}
 use Rattle.expander.proofs.DeliveringLaws.{byte_full, byte_emitted}
 use Rattle.expander.proofs.SteppedLaws.{refines_by}
 use Rattle.expander.proofs.delivering.emit_byte.Goals as goal
 
-pub returns-then-full-ne0 : goal.returns-then-full-ne0
-returns-then-full-ne0 c =
-    λ a s b r. refines_by refl c.refused.ensures (byte_full r c.args.x c.full-full.result c.full-full.ensures c.if-full-ne0.true)
+pub returns-in-Some : goal.returns-in-Some
+returns-in-Some c =
+    λ a s b r. refines_by refl c.refused.ensures (byte_full r c.args.x _ (sym c.in-Some.is ∙ c.full.ensures))
 
 pub returns : goal.returns
 returns c =

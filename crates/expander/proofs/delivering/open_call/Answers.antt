@@ -6,8 +6,7 @@ use Rattle.hashing.specs.Hashing.{bucket_of}
 use Rattle.expander.specs.declared.machine.Progress.TheVariants as progress
 use Rattle.expander.specs.Machine.{stepped, calls_set}
 use Rattle.expander.proofs.CallsLaws.{some_strings}
-use Rattle.expander.proofs.DeliveringLaws.{reach_advances, reach_first, reach_name, reach_whole, reach_taken, call_room, open_deep, open_many, open_full, call_opened}
-use Rattle.expander.proofs.StepLaws.{bytes_parts}
+use Rattle.expander.proofs.DeliveringLaws.{reach_advances, reach_lent, reach_name, reach_whole, reach_taken, call_room, open_deep, open_many, open_full, call_opened}
 use Rattle.expander.proofs.SteppedLaws.{refines_by}
 use Rattle.expander.proofs.delivering.open_call.Goals as goal
 
@@ -28,22 +27,10 @@ returns-then-calls-m c =
     refines_by refl c.refused-then-calls-m.ensures
     (open_full r (take c.args.n (ahead s.source)) c.args.n (suc c.args.n) c.if-opens-ge-MOST_CALLS.false c.if-m-opens-ge-MOST_ARGUMENTS.false (reach_taken r c.requires.reach) c.if-calls-m.true)
 
-pub slice_bounds-open_ahead-count : goal.slice_bounds-open_ahead-count
-slice_bounds-open_ahead-count c = c.requires.valid.represents.source.from_in
-
-pub slice_bounds-open_ahead-start : goal.slice_bounds-open_ahead-start
-slice_bounds-open_ahead-start c = omega (arith, c.requires.valid.represents.source.from_in)
-
-pub slice_bounds-open_ahead-count-2 : goal.slice_bounds-open_ahead-count-2
-slice_bounds-open_ahead-count-2 c = c.requires.valid.represents.source.taken_in
-
-pub slice_bounds-open_ahead-start-2 : goal.slice_bounds-open_ahead-start-2
-slice_bounds-open_ahead-start-2 c = omega (arith, c.requires.valid.represents.source.taken_in)
-
 pub open_ahead-k-requires : goal.open_ahead-k-requires
 open_ahead-k-requires c =
     let m = c.requires.valid.represents in
-    let u = c.args in record { call_room = (call_room m u.n (omega (arith, c.if-calls-m.false, m.calls.strings.used_in)), reach_first m c.requires.reach); opens_lt_most_calls = (c.if-opens-ge-MOST_CALLS.false, omega (arith, c.if-m-opens-ge-MOST_ARGUMENTS.false, some_strings m.calls)); bucket_value = c.requires.bucket_value ∙ ap (λ (l : Bytes). bucket_of (take u.n l)) (sym (bytes_parts u.text.now u.pending.now u.m.source)) }
+    let u = c.args in record { call_room = (call_room m u.n (omega (arith, c.if-calls-m.false, m.calls.strings.used_in)), omega (arith, reach_lent m c.requires.reach c.ahead.ensures)); opens_lt_most_calls = (c.if-opens-ge-MOST_CALLS.false, omega (arith, c.if-m-opens-ge-MOST_ARGUMENTS.false, some_strings m.calls)); bucket_value = c.requires.bucket_value ∙ ap (λ (l : Bytes). bucket_of (take u.n l)) (sym c.ahead.ensures) }
 
 pub overflow_add-n : goal.overflow_add-n
 overflow_add-n c =
@@ -62,7 +49,7 @@ returns c =
     let p = c.advanced-to in
     λ a s b r.
     refines_by refl (c.on.ensures ∙ ap (stepped progress.On) (c.with_calls.ensures ∙ ap (calls_set k.result) c.with_source.ensures))
-    (call_opened r l.bytes l.ends l.stack c.args.n c.if-opens-ge-MOST_CALLS.false c.if-m-opens-ge-MOST_ARGUMENTS.false (k.ensures s.calls r.calls)
+    (call_opened r l.bytes l.ends l.stack c.args.n c.if-opens-ge-MOST_CALLS.false c.if-m-opens-ge-MOST_ARGUMENTS.false c.ahead.ensures (k.ensures s.calls r.calls)
     (p.ensures c.args.text.now s.source r.source (reach_whole r (reach_name c.requires.reach))))
 
 pub overflow_sub-m : goal.overflow_sub-m

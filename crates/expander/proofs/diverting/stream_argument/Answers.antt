@@ -1,11 +1,9 @@
--- `expander::diverting::stream_argument` meets its contract: a number from 1 to 9, or none. Assumes nothing.
-use Rattle.rules.proofs.Base.{◌∙◌, sym}
-use Rattle.rules.specs.Arguments.{arg}
-use Rattle.expander.proofs.UndivertOrder.{stream_named, stream_unnamed}
+-- `expander::diverting::stream_argument` meets its contract. Assumes nothing.
+use Rattle.rules.proofs.Base.{◌∙◌, ap}
+use Rattle.std.specs.Prelude.{ℕ, Option, unwrap_or}
+use Rattle.expander.specs.Diverting.{stream_of}
 use Rattle.expander.proofs.diverting.stream_argument.Goals as goal
 
-pub returns-in_default : goal.returns-in_default
-returns-in_default c = λ args h. stream_unnamed (arg c.args.n args) (sym (c.natural_argument.ensures args h) ∙ c.in_default.is)
-
 pub returns : goal.returns
-returns c = λ args h. stream_named (arg c.args.n args) (sym (c.natural_argument.ensures args h) ∙ c.in-Number.is)
+unfolding stream_of
+returns c = c.unwrap_or.ensures ∙ ap (λ (o : Option ℕ). unwrap_or o 0) c.natural.ensures

@@ -9,15 +9,15 @@ returns-then-depth-eq0 c = role_closes _ _ _ c.in-41.is c.if-depth-eq0.true
 pub returns-then-depth-eq0-2 : goal.returns-then-depth-eq0-2
 returns-then-depth-eq0-2 c = role_separates _ _ _ c.in-44.is c.if-depth-eq0-2.true
 
-pub returns-then-collected-eq0 : goal.returns-then-collected-eq0
-returns-then-collected-eq0 c =
+pub returns-then-not-collected : goal.returns-then-not-collected
+returns-then-not-collected c =
     let o = c.in_default.in_default-own.rest in
-    role_dropped _ _ _ o.0.0.1 o.0.1 o.1 (sym c.is_blank.ensures ∙ c.if-is_blank.true) c.if-collected-eq0.true
+    role_dropped _ _ _ o.0.0.1 o.0.1 o.1 (sym c.is_blank.ensures ∙ c.if-is_blank.true) c.if-not-collected.true
 
 pub returns-then-is_blank : goal.returns-then-is_blank
 returns-then-is_blank c =
     let o = c.in_default.in_default-own.rest in
-    role_blank _ _ _ o.0.0.1 o.0.1 o.1 (sym c.is_blank.ensures ∙ c.if-is_blank.true) c.if-collected-eq0.false
+    role_blank _ _ _ o.0.0.1 o.0.1 o.1 (sym c.is_blank.ensures ∙ c.if-is_blank.true) c.if-not-collected.false
 
 pub returns-in-40 : goal.returns-in-40
 returns-in-40 c = role_left _ _ _ c.in-40.is

@@ -1,24 +1,37 @@
 -- `expander::giving::give_number` meets its contract: a number of a good radix has a length; it is written into the part before the pending text. Assumes nothing.
-use Rattle.rules.proofs.Base.{◌≤◌, ◌∙◌, sym, ◌≡◌, arith, length}
-use Rattle.rules.specs.Words.{signed_value}
+use Rattle.rules.proofs.Base.{◌∙◌, ◌≡◌, sym, arith, length, rules}
+use Rattle.std.proofs.lemmas.Result.{err_from_is_err_and}
+use Rattle.std.proofs.lemmas.Int.{to_z-of_z}
+use Rattle.std.proofs.Common.{w32}
 use Rattle.rules.specs.Numerals.{written_in}
-use Rattle.expander.proofs.GivingLaws.{giving_room, giving_part, number_long, number_measured, number-written, gap_long}
+use Rattle.numerals.specs.Answers.{length_of}
+use Rattle.expander.proofs.GivingLaws.{giving_room, giving_part, placed_at, number-written, gap_long}
 use Rattle.expander.proofs.giving.give_number.Goals as goal
+use Rattle.expander.proofs.giving.give_number.Goals.{In_ok-length}
 
-pub returns-in_default : goal.returns-in_default
-returns-in_default c = λ a s b m r g. absurd (number_measured _ _ c.written_length.ensures g c.in_default.is)
+-- how long its text is
+long : (c : In_ok-length) → length (written_in c.args.n.radix c.args.n.least c.args.n.value) ≡ c.in_ok-length.length
+unfolding length_of
+long c = search rules
 
-pub returns-then-from-n : goal.returns-then-from-n
-returns-then-from-n c = λ a s b m r g. giving_room r _ _ (number_long _ _ c.written_length.ensures g c.in-Bytes.is) c.if-from-n.true
+pub returns-in_err-length : goal.returns-in_err-length
+unfolding length_of
+returns-in_err-length c = search rules
+
+pub returns-in_err-at : goal.returns-in_err-at
+returns-in_err-at c =
+    let p = err_from_is_err_and c.from_residual-in_err-at.result c.from_residual-in_err-at.ensures.1 in
+    rw (p.1, p.2) (λ a s b m r. giving_room r _ _ (long (goal.at.returns-in_err-at c).In_ok-length) (sym c.place_before.ensures ∙ c.in_err-at.was))
+
+pub slice_bounds-write_number-count : goal.slice_bounds-write_number-count
+slice_bounds-write_number-count c = let q = placed_at c.args.p.from _ (sym c.place_before.ensures ∙ c.in_ok-at.was) in omega (arith, q.is)
+
+pub slice_bounds-write_number-start : goal.slice_bounds-write_number-start
+slice_bounds-write_number-start c = let q = placed_at c.args.p.from _ (sym c.place_before.ensures ∙ c.in_ok-at.was) in omega (arith, q.is)
 
 pub returns : goal.returns
 returns c =
-    let x = c.args in
-    let k = c.written_length.ensures in
-    let from = x.p.from in
-    let w = written_in x.radix x.least (signed_value x.bits) in
-    λ a s b m r g.
-    let l : length w ≡ c.in-Bytes.n = number_long x.radix w k g c.in-Bytes.is in
-    let fits : c.in-Bytes.n ≤ from = omega (arith, c.if-from-n.false) in
-    giving_part r w c.in-Bytes.n l fits
-    (number-written c.write_number.ensures g (l ∙ sym (gap_long x.pending.now from c.in-Bytes.n fits r.source.from_in)))
+    let l = long (goal.at.returns c).In_ok-length in
+    let k = sym c.place_before.ensures ∙ c.in_ok-at.was in
+    λ a s b m r.
+    giving_part r _ _ l k (number-written (rw (to_z-of_z w32 c.args.n.value (search rules)) at c.write_number.ensures) c.args.n.good_radix (l ∙ sym (gap_long c.args.pending.now c.args.p.from _ k r.source.from_in)))

@@ -1,33 +1,41 @@
 -- `expander::giving::give_translit` meets its contract: the text is written into the part before the pending text. Assumes nothing.
-use Rattle.rules.proofs.Base.{◌≤◌, ◌∙◌, refl, sym, ap, arith, length}
+use Rattle.rules.proofs.Base.{◌∙◌, ◌≡◌, refl, sym, ap, arith, length, rules}
+use Rattle.std.proofs.lemmas.Result.{err_from_is_err_and}
+use Rattle.matching.specs.Partners.{replaced}
+use Rattle.rules.specs.Results.{transliterated}
+use Rattle.expander.specs.Arguments.{args_of}
 use Rattle.expander.proofs.Parts.{fitted_whole}
-use Rattle.expander.proofs.GivingLaws.{giving_room, giving_part, gap_long, table_is, translit_refines}
+use Rattle.expander.proofs.GivingLaws.{giving_room, giving_part, placed_at, gap_long, table_is, translit_refines}
 use Rattle.expander.proofs.SteppedLaws.{refines_by}
 use Rattle.expander.proofs.giving.give_translit.Goals as goal
+use Rattle.expander.proofs.giving.give_translit.Goals.{After-translit_length-n}
 
-pub returns-then-from-n : goal.returns-then-from-n
-returns-then-from-n c =
-    λ a s b m args r x.
-    let e = c.argument-s.ensures args x in
-    let f = c.argument-old.ensures args x in
-    let g = c.argument-new.ensures args x in
-    let w = table_is x (λ i. (c.shared_slice_known-1.given i).fits) f g c.partners_of-table.ensures _ in
-    refines_by (translit_refines s args e f g) refl (giving_room r _ _ (sym (c.translit_length-n.ensures ∙ ap length w)) c.if-from-n.true)
+-- what the table makes of the text
+made : (c : After-translit_length-n)
+    → replaced c.partners_of-table.result c.argument-s.result.now ≡ transliterated c.argument-old.result.now c.argument-new.result.now c.argument-s.result.now
+made c =
+    table_is _ _ (search rules) (search rules) c.partners_of-table.ensures _
 
-pub slice_bounds-translit-end : goal.slice_bounds-translit-end
-slice_bounds-translit-end c = c.requires.valid_at.valid.represents.source.from_in
+pub returns-in_err-at : goal.returns-in_err-at
+returns-in_err-at c =
+    let p = err_from_is_err_and c.from_residual.result c.from_residual.ensures.1 in
+    let l = sym (c.translit_length-n.ensures ∙ ap length (made (goal.at.returns-in_err-at c).After-translit_length-n)) in
+    rw (p.1, p.2)
+    (λ a s b m r.
+    refines_by (translit_refines s (args_of c.args.x) c.argument-s.ensures c.argument-old.ensures c.argument-new.ensures) refl
+    (giving_room r _ _ l (sym c.place_before.ensures ∙ c.in_err-at.was)))
+
+pub slice_bounds-translit-count : goal.slice_bounds-translit-count
+slice_bounds-translit-count c = let q = placed_at c.args.p.from _ (sym c.place_before.ensures ∙ c.in_ok-at.was) in omega (arith, q.is)
+
+pub slice_bounds-translit-start : goal.slice_bounds-translit-start
+slice_bounds-translit-start c = let q = placed_at c.args.p.from _ (sym c.place_before.ensures ∙ c.in_ok-at.was) in omega (arith, q.is)
 
 pub returns : goal.returns
 returns c =
-    let start = c.args in
-    let n = c.translit_length-n in
-    let from = start.p.from in
-    λ a s b m args r x.
-    let e = c.argument-s.ensures args x in
-    let f = c.argument-old.ensures args x in
-    let g = c.argument-new.ensures args x in
-    let w = table_is x (λ i. (c.shared_slice_known-1.given i).fits) f g c.partners_of-table.ensures _ in
-    let l = sym (n.ensures ∙ ap length w) in
-    let fits : n.result ≤ from = omega (arith, c.if-from-n.false) in
-    refines_by (translit_refines s args e f g) refl
-    (giving_part r _ _ l fits (fitted_whole c.translit.ensures w (l ∙ sym (gap_long start.pending.now from n.result fits r.source.from_in))))
+    let w = made (goal.at.returns c).After-translit_length-n in
+    let l = sym (c.translit_length-n.ensures ∙ ap length w) in
+    let k = sym c.place_before.ensures ∙ c.in_ok-at.was in
+    λ a s b m r.
+    refines_by (translit_refines s (args_of c.args.x) c.argument-s.ensures c.argument-old.ensures c.argument-new.ensures) refl
+    (giving_part r _ _ l k (fitted_whole c.translit.ensures w (l ∙ sym (gap_long c.args.pending.now c.args.p.from _ k r.source.from_in))))

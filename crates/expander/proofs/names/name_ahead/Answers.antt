@@ -1,5 +1,5 @@
 -- `expander::names::name_ahead` meets its contract. Assumes nothing.
-use Rattle.rules.proofs.Base.{sym, arith, length-take-le}
+use Rattle.rules.proofs.Base.{arith, length-take-le}
 use Rattle.expander.proofs.CallingLaws.{part_long, name_pending, name_input}
 use Rattle.expander.proofs.names.name_ahead.Goals as goal
 
@@ -17,10 +17,6 @@ returns-then-n-have c =
 -- no room
 pub returns-then-scratch-n : goal.returns-then-scratch-n
 returns-then-scratch-n c = record { is = λ l. absurd (omega (arith, l, c.if-n-have.false)); fewer = λ l. c.if-scratch-n.true }
-
--- a copy
-pub slice_bounds-result-end-2 : goal.slice_bounds-result-end-2
-slice_bounds-result-end-2 c = sym (length-take-le c.args.n _ (omega arith))
 
 pub returns : goal.returns
 returns c = record { is = λ l. c.copy_name.ensures; fewer = λ l. absurd (omega (arith, l, length-take-le c.args.n c.copy_name.new.scratch (omega (arith, c.if-scratch-n.false, c.copy_name.auto)))) }

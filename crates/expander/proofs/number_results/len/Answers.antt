@@ -1,15 +1,19 @@
--- `expander::number_results::len` meets its contract: an argument has at most 65,536 bytes. Assumes nothing.
-use Rattle.rules.proofs.Base.{ap, arith, length}
-use Rattle.expander.proofs.NumberResultLaws.{shows_same, two_arguments, len_bits}
+-- `expander::number_results::len` meets its contract. Assumes nothing.
+use Rattle.rules.proofs.Base.{◌∙◌, ap, arith, length, pos, ℤ}
+use Rattle.std.specs.Prelude.{Ok}
+use Rattle.rules.specs.Numerals.{decimal}
+use Rattle.rules.specs.Results.{len_result}
+use Rattle.expander.specs.Results.{answered}
+use Rattle.expander.proofs.ArgumentLaws.{held_in, argument_short}
+use Rattle.expander.proofs.SubstitutionLaws.{counted_plain}
 use Rattle.expander.proofs.number_results.len.Goals as goal
 
-pub overflow_cast-bits : goal.overflow_cast-bits
-overflow_cast-bits c =
-    let p = c.requires in
-    omega (arith, ap length (c.argument-n.ensures p.args p.holds), two_arguments p.holds)
+pub overflow_cast-argument : goal.overflow_cast-argument
+overflow_cast-argument c = omega (arith, ap length c.argument.ensures, argument_short (held_in c.args.x) 1 (omega arith))
 
 pub returns : goal.returns
+unfolding len_result answered
 returns c =
-    λ args h.
-    let e = c.argument-n.ensures args h in
-    shows_same (len_bits args (length c.argument-n.result.now) (ap length e) (omega (arith, ap length e, two_arguments h))) c.plain.ensures
+    let e = ap length c.argument.ensures in
+    let k = counted_plain (length c.argument.result.now) (omega (arith, e, argument_short (held_in c.args.x) 1 (omega arith))) in
+    c.decimal.ensures ∙ ap (λ (z : ℤ). Ok (decimal z)) (k ∙ ap pos e)

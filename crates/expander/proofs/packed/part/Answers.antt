@@ -21,9 +21,6 @@ returns c = λ count used ss h l. (lies_for (goal.at.returns c).After-start-e ss
 pub start-a-requires : goal.start-a-requires
 start-a-requires c = omega (arith, c.requires.within, c.requires.formed.packs.count_in)
 
-pub overflow_add-k : goal.overflow_add-k
-overflow_add-k c = omega (arith, c.requires.within, c.requires.formed.packs.count_in, c.well_formed)
-
 pub start-e-requires : goal.start-e-requires
 start-e-requires c = omega (arith, c.requires.within, c.requires.formed.packs.count_in)
 

@@ -1,7 +1,7 @@
 -- `expander::packed::rebase` meets its contract: a turn writes one more of the ends that move. Assumes nothing.
-use Rattle.rules.proofs.Base.{◌+◌, ◌-◌, ◌<◌, ◌∙◌, refl, sym, ap, ◌≡◌, map, arith, length, drop, take, get_or}
+use Rattle.rules.proofs.Base.{◌+◌, ◌-◌, ◌<◌, ◌∙◌, sym, ap, ◌≡◌, map, arith, length, drop, take, get_or}
 use Rattle.expander.specs.Packed.{rebased}
-use Rattle.expander.proofs.Overwriting.{mapped_length, mapped_read, front_none, behind, one_more, all_there}
+use Rattle.expander.proofs.Overwriting.{mapped_length, mapped_read, behind, one_more, all_there}
 use Rattle.expander.proofs.packed.rebase.Goals as goal
 use Rattle.expander.proofs.packed.rebase.Goals.{In-loop-j, Start}
 
@@ -11,7 +11,7 @@ long c = mapped_length (rebased c.args.less c.args.more) c.args.ends.now c.args.
 -- what a turn reads is as at entry
 read : (c : In-loop-j)
     → get_or c.loop-j.ends (c.args.from + c.loop-j.j) 0 ≡ get_or c.args.ends.now (c.args.from + c.loop-j.j) 0
-read c = behind c.loop-j.invariant.1 (c.args.from + c.loop-j.j) (omega arith)
+read c = behind c.loop-j.invariant (c.args.from + c.loop-j.j) (omega arith)
 
 fits_for : (c : In-loop-j)
     → get_or c.loop-j.ends (c.args.from + c.loop-j.j) 0 - c.args.less + c.args.more < 4294967296
@@ -19,30 +19,16 @@ unfolding rebased
 fits_for c =
     omega (arith, read c, c.requires.by_index (c.args.from + c.loop-j.j) (omega arith) (omega arith))
 
-pub loop-j-init : goal.loop-j-init
-loop-j-init c =
-    let a = c.args in
-    (refl, front_none a.ends.now a.to (map (rebased a.less a.more) (drop a.from (take a.count a.ends.now))) (omega (arith, long (goal.at.loop-j-init c).Start)))
-
-pub overflow_sub-moved : goal.overflow_sub-moved
-overflow_sub-moved c =
-    omega (arith, read (goal.at.overflow_sub-moved c).In-loop-j, c.requires.by_index (c.args.from + c.loop-j.j) (omega arith) (omega arith))
-
 pub loop-j-preserved : goal.loop-j-preserved
 unfolding rebased
 loop-j-preserved c =
     let l = c.loop-j in
-    let a = c.args in (
-      refl,
-      one_more l.invariant.1 _ (omega (arith, long (goal.at.loop-j-preserved c).Start))
-          (ap (rebased a.less a.more) (read (goal.at.loop-j-preserved c).In-loop-j) ∙ sym (mapped_read (rebased a.less a.more) a.ends.now a.from a.count l.j (omega arith) (omega arith))),
-    )
+    let a = c.args in
+    one_more l.invariant _ (omega (arith, long (goal.at.loop-j-preserved c).Start))
+    (ap (rebased a.less a.more) (read (goal.at.loop-j-preserved c).In-loop-j) ∙ sym (mapped_read (rebased a.less a.more) a.ends.now a.from a.count l.j (omega arith) (omega arith)))
 
 pub returns : goal.returns
-returns c = all_there c.loop-j.invariant.1 (omega (arith, long (goal.at.returns c).Start))
-
-pub overflow_cast-e : goal.overflow_cast-e
-overflow_cast-e c = omega (arith, c.slice_known-1.given (c.args.from + c.loop-j.j))
+returns c = all_there c.loop-j.invariant (omega (arith, long (goal.at.returns c).Start))
 
 pub overflow_add-moved : goal.overflow_add-moved
 overflow_add-moved c = omega (arith, fits_for (goal.at.overflow_add-moved c).In-loop-j)

@@ -1,5 +1,4 @@
 -- `expander::packed::start` meets its contract. Assumes nothing.
-use Rattle.rules.proofs.Base.{◌-◌, arith}
 use Rattle.expander.proofs.Packing.{start_none, start_before}
 use Rattle.expander.proofs.packed.start.Goals as goal
 
@@ -8,6 +7,3 @@ returns-then-k-eq0 c = start_none c.args.ends.now c.args.k c.if-k-eq0.true
 
 pub returns : goal.returns
 returns c = start_before c.args.ends.now c.args.k c.if-k-eq0.false
-
-pub overflow_cast-result : goal.overflow_cast-result
-overflow_cast-result c = omega (arith, c.shared_slice_known-1.given (c.args.k - 1))

@@ -4,4 +4,4 @@ use Rattle.expander.proofs.Packing.{same_of}
 use Rattle.expander.proofs.part_results.alike.Goals as goal
 
 pub returns : goal.returns
-returns c = λ args h. c.same.ensures ∙ same_of (c.argument-left.ensures args h) (c.argument-right.ensures args h)
+returns c = c.same.ensures ∙ same_of c.argument-left.ensures c.argument-right.ensures

@@ -1,5 +1,5 @@
 -- `expander::run::run` meets its contract. Assumes nothing.
-use Rattle.rules.proofs.Base.{◌≤◌, ◌+◌, ℕ, ◌-◌, ◌<◌, ◌∙◌, refl, ap, ◌≡◌, some, List, [], le_trans, le_of_lt, arith}
+use Rattle.rules.proofs.Base.{◌≤◌, ◌+◌, ℕ, ◌-◌, ◌<◌, ◌∙◌, refl, ap, ◌≡◌, Some, List, [], le_trans, le_of_lt, arith}
 use Rattle.rules.specs.Bytes.{Bytes}
 use Rattle.rules.specs.Sets.{Item, set_items}
 use Rattle.rules.specs.State.{fresh_start, start_state}
@@ -22,7 +22,7 @@ whole text set budget is a = run_from (lengths a) budget 0 (start_state is (fres
 
 -- the items of the set
 abbrev Items : Bytes → List Item → Type 0
-Items set is = set_items set ≡ some is
+Items set is = set_items set ≡ Some is
 
 -- what the plain steps are not lent of the memory
 abbrev unlent : Bytes → Bytes → Bytes → Memory

@@ -1,5 +1,5 @@
 -- `expander::run::run` meets its contract. Assumes nothing.
-use Rattle.rules.proofs.Base.{◌≤◌, ℕ, ◌-◌, ◌≡◌, some, List, length}
+use Rattle.rules.proofs.Base.{◌≤◌, ℕ, ◌-◌, ◌≡◌, Some, List, length}
 use Rattle.rules.specs.Sets.{Item, set_items}
 use Rattle.rules.specs.State.{fresh_start, start_state}
 use Rattle.rules.specs.Run.{Setting, lengths, run_from}
@@ -24,7 +24,7 @@ SameLengths b s b₀ s₀ =
     × (length s ≡ length s₀)
 
 abbrev pub invariant-loop-left : goal.invariant-loop-left
-invariant-loop-left l = ((a : Setting) (is : List Item) → set_items l.set ≡ some is → Limits a (memory l.text l.set l.initial.pending l.initial.calls l.initial.ends l.initial.stack l.initial.definitions l.initial.table_ends l.initial.streams l.initial.owners l.initial.wrap l.initial.errors l.initial.output) → Running a (memory l.text l.set l.pending l.calls l.ends l.stack l.definitions l.table_ends l.streams l.owners l.wrap l.errors l.output) l.m l.left (l.budget - l.left) (run_from (lengths a) l.budget 0 (start_state is (fresh_start l.text l.set))))
+invariant-loop-left l = ((a : Setting) (is : List Item) → set_items l.set ≡ Some is → Limits a (memory l.text l.set l.initial.pending l.initial.calls l.initial.ends l.initial.stack l.initial.definitions l.initial.table_ends l.initial.streams l.initial.owners l.initial.wrap l.initial.errors l.initial.output) → Running a (memory l.text l.set l.pending l.calls l.ends l.stack l.definitions l.table_ends l.streams l.owners l.wrap l.errors l.output) l.m l.left (l.budget - l.left) (run_from (lengths a) l.budget 0 (start_state is (fresh_start l.text l.set))))
     × SameLengths (memory l.text l.set l.pending l.calls l.ends l.stack l.definitions l.table_ends l.streams l.owners l.wrap l.errors l.output) l.scratch (memory l.text l.set l.initial.pending l.initial.calls l.initial.ends l.initial.stack l.initial.definitions l.initial.table_ends l.initial.streams l.initial.owners l.initial.wrap l.initial.errors l.initial.output) l.initial.scratch
     × (l.left ≤ l.budget)
 

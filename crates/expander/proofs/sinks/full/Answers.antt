@@ -1,18 +1,17 @@
 -- `expander::sinks::full` meets its contract. Assumes nothing.
-use Rattle.expander.proofs.SinksLaws.{full_output, free_output, free_lost, full_stream, free_stream}
+use Rattle.std.proofs.lemmas.Int.{ints}
+use Rattle.rules.proofs.Base.{◌∙◌, arith}
+use Rattle.expander.proofs.SinksLaws.{waits, below_lost, above_lost, full_to_output, full_to_stream, free_lost}
 use Rattle.expander.proofs.sinks.full.Goals as goal
 
-pub returns-then-output-sinks : goal.returns-then-output-sinks
-returns-then-output-sinks c = full_output _ _ _ _ c.if-sinks-eq0.true c.if-output-sinks.true
+pub returns-in-0 : goal.returns-in-0
+returns-in-0 c = c.then_some.ensures ∙ full_to_output _ _ _ _ (omega (arith, ints))
 
-pub returns-then-sinks-eq0 : goal.returns-then-sinks-eq0
-returns-then-sinks-eq0 c = free_output _ _ _ _ c.if-sinks-eq0.true c.if-output-sinks.false
+pub returns-in-1-to-9 : goal.returns-in-1-to-9
+returns-in-1-to-9 c = c.then_some-in-1-to-9.ensures ∙ full_to_stream _ _ _ _ _ (waits c.args.sinks.current (omega (arith, ints)) (omega (arith, ints)))
 
-pub returns-then-sinks-gt9 : goal.returns-then-sinks-gt9
-returns-then-sinks-gt9 c = free_lost _ _ _ _ c.if-sinks-eq0.false c.if-sinks-gt9.true
+pub returns-in_default : goal.returns-in_default
+returns-in_default c = free_lost _ _ _ _ (below_lost c.args.sinks.current (omega (arith, ints)))
 
-pub returns-then-streams-sinks : goal.returns-then-streams-sinks
-returns-then-streams-sinks c = full_stream _ _ _ _ c.if-sinks-eq0.false c.if-sinks-gt9.false c.if-streams-sinks.true
-
-pub returns : goal.returns
-returns c = free_stream _ _ _ _ c.if-sinks-eq0.false c.if-sinks-gt9.false c.if-streams-sinks.false
+pub returns-in_default-2 : goal.returns-in_default-2
+returns-in_default-2 c = free_lost _ _ _ _ (above_lost c.args.sinks.current (omega (arith, ints)))

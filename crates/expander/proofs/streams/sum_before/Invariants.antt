@@ -1,10 +1,6 @@
--- `expander::streams::sum_before` meets its contract: the loop keeps the sums before i and the numbers from i on. Assumes nothing.
-use Rattle.rules.proofs.Base.{◌≤◌, ◌-◌}
+-- `expander::streams::sum_before` meets its contract: the loop keeps the sums before a place and the numbers from it on. Assumes nothing.
 use Rattle.expander.proofs.Placing.{Summing}
 use Rattle.expander.proofs.streams.sum_before.Given as goal
 
-abbrev pub invariant-loop-i : goal.invariant-loop-i
-invariant-loop-i l = (l.i ≤ 10) × Summing l.initial.numbers l.numbers l.sum l.i
-
-abbrev pub decreases-loop-i : goal.decreases-loop-i
-decreases-loop-i l = 10 - l.i
+abbrev pub invariant-loop-n : goal.invariant-loop-n
+invariant-loop-n l = Summing l.fn.numbers l.n-items l.sum l.n-index

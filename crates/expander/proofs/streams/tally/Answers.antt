@@ -1,41 +1,35 @@
 -- `expander::streams::tally` meets its contract: the loop keeps what each stream was given and what is left. Assumes nothing.
-use Rattle.rules.proofs.Base.{◌<◌, arith, get_or, rules}
+use Rattle.rules.proofs.Base.{◌<◌, ◌≡◌, arith, take, get_or, length-take, get_or-take}
 use Rattle.expander.proofs.Placing.{tally_none, tally_on, tally_within, tally_end}
 use Rattle.expander.proofs.streams.tally.Goals as goal
-use Rattle.expander.proofs.streams.tally.Goals.{In-loop-k}
+use Rattle.expander.proofs.streams.tally.Goals.{In-loop-o}
 
-numbered : (c : In-loop-k) → get_or c.args.owners.now c.loop-k.k 0 < 10
-numbered c = c.requires.used_in_bounds.1 c.loop-k.k (omega arith)
+-- the owner at the place, as the whole list has it
+read : (c : In-loop-o) → get_or (take c.args.used c.args.owners.now) c.loop-o.o-index 0 ≡ get_or c.args.owners.now c.loop-o.o-index 0
+read c = get_or-take c.args.used c.args.owners.now c.loop-o.o-index 0 (omega (arith, length-take c.args.used c.args.owners.now))
+
+numbered : (c : In-loop-o) → get_or c.args.owners.now c.loop-o.o-index 0 < 10
+numbered c = c.requires.used_in_bounds.1 c.loop-o.o-index (omega (arith, length-take c.args.used c.args.owners.now))
 
 pub overflow_add-counts : goal.overflow_add-counts
 overflow_add-counts c =
     let a = c.args in
-    let l = c.loop-k in
-    omega (arith, tally_within a.used a.owners.now l.counts l.k l.invariant.1 (omega arith) (omega arith) (numbered (goal.at.overflow_add-counts c).In-loop-k))
+    let l = c.loop-o in
+    let d = (goal.at.overflow_add-counts c).In-loop-o in
+    rw (read d) (omega (arith, tally_within a.used a.owners.now l.counts l.o-index l.invariant (omega arith) (omega (arith, length-take a.used a.owners.now)) (numbered d)))
 
-pub loop-k-preserved : goal.loop-k-preserved
-loop-k-preserved c =
+pub loop-o-preserved : goal.loop-o-preserved
+loop-o-preserved c =
     let a = c.args in
-    let l = c.loop-k in
-    (omega arith, tally_on a.used a.owners.now l.counts l.k l.invariant.1 (omega arith) (omega arith) (numbered (goal.at.loop-k-preserved c).In-loop-k))
+    let l = c.loop-o in
+    let d = (goal.at.loop-o-preserved c).In-loop-o in
+    rw (read d) (tally_on a.used a.owners.now l.counts l.o-index l.invariant (omega arith) (omega (arith, length-take a.used a.owners.now)) (numbered d))
 
 pub returns : goal.returns
 returns c =
     let a = c.args in
-    let l = c.loop-k in
-    tally_end a.used a.owners.now l.counts l.k l.invariant.1 (omega arith) (omega arith)
+    let l = c.loop-o in
+    tally_end a.used a.owners.now l.counts l.o-index l.invariant (omega arith) (omega (arith, length-take a.used a.owners.now))
 
-pub loop-k-init : goal.loop-k-init
-loop-k-init c = (search rules, tally_none c.args.used c.args.owners.now c.args.counts.now c.requires.counts_value)
-
-pub overflow_cast-o : goal.overflow_cast-o
-overflow_cast-o c = omega (arith, numbered (goal.at.overflow_cast-o c).In-loop-k)
-
-pub offset_bounds-counts-o : goal.offset_bounds-counts-o
-offset_bounds-counts-o c = omega (arith, numbered (goal.at.offset_bounds-counts-o c).In-loop-k)
-
-pub bounds-counts-o : goal.bounds-counts-o
-bounds-counts-o c = numbered (goal.at.bounds-counts-o c).In-loop-k
-
-pub bounds-counts-o-in-loop-k : goal.bounds-counts-o-in-loop-k
-bounds-counts-o-in-loop-k c = numbered (goal.at.bounds-counts-o-in-loop-k c).In-loop-k
+pub loop-o-init : goal.loop-o-init
+loop-o-init c = tally_none c.args.used c.args.owners.now c.args.counts.now c.requires.counts_value

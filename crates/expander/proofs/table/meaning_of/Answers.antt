@@ -2,12 +2,10 @@
 use Rattle.rules.proofs.Base.{◌∙◌, sym, ap, arith}
 use Rattle.builtins.specs.Numbers.{candidate_in}
 use Rattle.hashing.proofs.Laws.{bucket_below}
-use Rattle.expander.specs.Table.{place_of}
 use Rattle.expander.proofs.Rows.{represents_own}
 use Rattle.expander.proofs.table.meaning_of.Goals as goal
 
 pub returns-then-none_in : goal.returns-then-none_in
-unfolding place_of
 returns-then-none_in c =
     λ t h. represents_own h c.args.name.now (c.none_in.ensures c.if-none_in.true c.args.bytes.now t.definitions c.args.name.now h.holds (sym c.requires.bucket_value)) c.own_meaning.ensures
 

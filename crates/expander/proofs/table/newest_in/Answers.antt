@@ -6,13 +6,13 @@ use Rattle.expander.specs.Table.{DefinitionsIn}
 use Rattle.expander.specs.declared.packed.Packed.{Packed}
 use Rattle.expander.proofs.BucketSearch.{SearchAt, search_begins, may_visit, search_found, search_on, search_ended}
 use Rattle.expander.proofs.table.newest_in.Goals as goal
-use Rattle.expander.proofs.table.newest_in.Goals.{In-Older}
+use Rattle.expander.proofs.table.newest_in.Goals.{In-Continue}
 
 -- the next one is older
-older : (c : In-Older) (p : Packed) (ds : List Definition) → DefinitionsIn c.args.bytes.now c.args.ends.now p ds
-    → SearchAt c.args.name.now ds c.in-Older.next × (c.in-Older.next < c.loop-left.left)
+older : (c : In-Continue) (p : Packed) (ds : List Definition) → DefinitionsIn c.args.bytes.now c.args.ends.now p ds
+    → SearchAt c.args.name.now ds c.in-Continue.next × (c.in-Continue.next < c.loop-left.left)
 older c p ds h =
-    search_on c.args.name.now ds (c.loop-left.invariant p ds h) c.loop-left-test.true (sym (c.visit.ensures p ds h) ∙ c.in-Older.is)
+    search_on c.args.name.now ds (c.loop-left.invariant p ds h) c.loop-left-test.true (sym (c.visit.ensures p ds h) ∙ c.in-Continue.is)
 
 pub loop-left-init : goal.loop-left-init
 loop-left-init c =
@@ -21,16 +21,16 @@ loop-left-init c =
 pub visit-requires : goal.visit-requires
 visit-requires c = record { some_definitions = c.requires.some_definitions; in_bucket = λ p ds h. may_visit c.args.name.now ds (c.loop-left.invariant p ds h) c.loop-left-test.true }
 
-pub returns-in-Named : goal.returns-in-Named
-returns-in-Named c =
+pub returns-in-Break : goal.returns-in-Break
+returns-in-Break c =
     let l = c.loop-left in
-    λ p ds h. search_found c.args.name.now ds (l.invariant p ds h) c.loop-left-test.true (sym (c.visit.ensures p ds h) ∙ c.in-Named.is)
+    λ p ds h. search_found c.args.name.now ds (l.invariant p ds h) c.loop-left-test.true (sym (c.visit.ensures p ds h) ∙ c.in-Break.is)
 
 pub loop-left-smaller : goal.loop-left-smaller
-loop-left-smaller c = let d = c.requires.some_definitions in (older (goal.at.loop-left-smaller c).In-Older d.packed d.valid.definitions d.valid.holds).1
+loop-left-smaller c = let d = c.requires.some_definitions in (older (goal.at.loop-left-smaller c).In-Continue d.packed d.valid.definitions d.valid.holds).1
 
 pub loop-left-preserved : goal.loop-left-preserved
-loop-left-preserved c = λ p ds h. (older (goal.at.loop-left-preserved c).In-Older p ds h).0
+loop-left-preserved c = λ p ds h. (older (goal.at.loop-left-preserved c).In-Continue p ds h).0
 
 pub returns : goal.returns
 returns c =

@@ -1,25 +1,21 @@
 -- `expander::table::own_meaning` meets its contract: the number that the bucket tells of is confirmed, then the laws of the mask. Assumes nothing.
-use Rattle.rules.proofs.Base.{sym, subst, arith}
-use Rattle.builtins.specs.Numbers.{HasNumber}
-use Rattle.builtins.proofs.Naming.{confirmed_number}
+use Rattle.rules.proofs.Base.{sym, ◌∙◌, arith}
+use Rattle.builtins.proofs.Naming.{number_few}
 use Rattle.expander.proofs.MaskLaws.{own_none, own_kept, own_gone}
 use Rattle.expander.proofs.table.own_meaning.Goals as goal
-use Rattle.expander.proofs.table.own_meaning.Goals.{After-confirmed-k}
 
-numbered : (c : After-confirmed-k) → HasNumber c.args.name.now c.confirmed-k.result
-numbered c =
-    subst (HasNumber c.args.name.now) (sym c.confirmed-k.ensures) (confirmed_number c.args.name.now c.args.candidate c.requires)
+pub returns-in-Some : goal.returns-in-Some
+returns-in-Some c =
+    own_kept c.args.name.now (sym (c.confirmed.ensures.number c.requires) ∙ c.in-Some.is) c.args.own c.keeps_own.ensures c.if-keeps_own.true
 
-pub returns-then-k-eq0 : goal.returns-then-k-eq0
-returns-then-k-eq0 c = own_none (numbered (goal.at.returns-then-k-eq0 c).After-confirmed-k) c.if-k-eq0.true c.args.own
+pub returns-in_default : goal.returns-in_default
+returns-in_default c =
+    own_gone c.args.name.now (sym (c.confirmed.ensures.number c.requires) ∙ c.in-Some.is) c.args.own c.keeps_own.ensures c.if-keeps_own.false
 
-pub returns-then-keeps_own : goal.returns-then-keeps_own
-returns-then-keeps_own c =
-    own_kept (numbered (goal.at.returns-then-keeps_own c).After-confirmed-k) c.if-k-eq0.false c.args.own c.keeps_own.ensures c.if-keeps_own.true
-
-pub returns-else-keeps_own : goal.returns-else-keeps_own
-returns-else-keeps_own c =
-    own_gone (numbered (goal.at.returns-else-keeps_own c).After-confirmed-k) c.if-k-eq0.false c.args.own c.keeps_own.ensures c.if-keeps_own.false
+pub returns-in_default-2 : goal.returns-in_default-2
+returns-in_default-2 c = own_none c.args.name.now (sym (c.confirmed.ensures.number c.requires) ∙ c.in_default.is) c.args.own
 
 pub keeps_own-requires : goal.keeps_own-requires
-keeps_own-requires c = (omega (arith, c.if-k-eq0.false), omega (arith, (numbered (goal.at.keeps_own-requires c).After-confirmed-k).most))
+keeps_own-requires c =
+    let n = number_few c.args.name.now (sym (c.confirmed.ensures.number c.requires) ∙ c.in-Some.is) in
+    (n.0, omega (arith, n.1))

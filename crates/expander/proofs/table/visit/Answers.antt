@@ -30,9 +30,6 @@ returns c =
     visited_older h c.args.name.now c.args.left b (c.is_string.ensures p.count p.used (rows ds) h.packs (visit_within h c.args.name.now c.args.left b).0) c.if-is_string.false
     c.link_at.ensures
 
-pub overflow_sub-at : goal.overflow_sub-at
-overflow_sub-at c = omega (arith, (inside (goal.at.overflow_sub-at c).Start).positive)
-
 pub overflow_mul-at : goal.overflow_mul-at
 overflow_mul-at c = omega (arith, (visit_within c.requires.some_definitions.valid.holds c.args.name.now c.args.left (inside (goal.at.overflow_mul-at c).Start)).1)
 

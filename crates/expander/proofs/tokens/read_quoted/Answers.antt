@@ -1,6 +1,7 @@
 -- `expander::tokens::read_quoted` meets its contract: the loop keeps what the quoted text comes to from the place on. Assumes nothing.
-use Rattle.rules.proofs.Base.{◌∙◌, refl, ap, ◌≡◌, ◌++◌, arith}
+use Rattle.rules.proofs.Base.{◌∙◌, refl, ap, ◌≡◌, arith}
 use Rattle.rules.specs.Marks.{mark_text}
+use Rattle.expander.specs.Source.{bytes_of}
 use Rattle.expander.specs.Tokens.{quoted_from}
 use Rattle.expander.proofs.Quotes.{quoted-closed, quoted_over, quoted_skips}
 use Rattle.expander.proofs.tokens.read_quoted.Goals as goal
@@ -8,14 +9,14 @@ use Rattle.expander.proofs.tokens.read_quoted.Goals.{After-next_either-at}
 
 -- what is kept, at the next place where a mark may stand
 kept : (c : After-next_either-at)
-    → (let a = c.args in quoted_from (mark_text a.begin) (mark_text a.end) (a.front.now ++ a.rest.now) c.loop-i.depth c.next_either-at.result)
-    ≡ (let a = c.args in quoted_from (mark_text a.begin) (mark_text a.end) (a.front.now ++ a.rest.now) 1 c.mark_length-text.result)
+    → (let a = c.args in quoted_from (mark_text a.begin) (mark_text a.end) (bytes_of a.ahead) c.loop-i.depth c.next_either-at.result)
+    ≡ (let a = c.args in quoted_from (mark_text a.begin) (mark_text a.end) (bytes_of a.ahead) 1 c.mark_length-text.result)
 kept c =
     let a = c.args in
     let l = c.loop-i in
     let b = c.first_byte-a.ensures in
     let e = c.first_byte-b.ensures in
-    quoted_skips (mark_text a.begin) (mark_text a.end) (a.front.now ++ a.rest.now) l.i b.full e.full l.depth _ _ _ l.invariant.0 b.byte e.byte c.next_either-at.ensures
+    quoted_skips (mark_text a.begin) (mark_text a.end) (bytes_of a.ahead) l.i b.full e.full l.depth _ _ _ l.invariant.0 b.byte e.byte c.next_either-at.ensures
     ∙ l.invariant.2
 
 pub passed-open-requires : goal.passed-open-requires
@@ -26,7 +27,7 @@ passed-open-requires c =
 pub returns-then-depth-eq0 : goal.returns-then-depth-eq0
 returns-then-depth-eq0 c =
     let a = c.args in
-    let text = a.front.now ++ a.rest.now in
+    let text = bytes_of a.ahead in
     let o = c.passed-open in
     let b = c.mark_length-text.ensures.whole in
     quoted-closed (mark_text a.begin) (mark_text a.end) text o.result.place o.result.depth _ _ c.if-depth-eq0.true b c.mark_length.ensures.whole
@@ -37,7 +38,7 @@ returns-then-depth-eq0 c =
 pub returns : goal.returns
 returns c =
     let a = c.args in
-    let text = a.front.now ++ a.rest.now in
+    let text = bytes_of a.ahead in
     let l = c.loop-i in
     quoted_over (mark_text a.begin) (mark_text a.end) text l.i l.depth l.invariant.0 (omega arith)
     ∙ l.invariant.2

@@ -10,25 +10,25 @@ abbrev bytes : Bor Bytes → Bytes
 bytes x = x.now
 
 -- the slice in which the name begins
-begins_in : (c : Joined-front-eq0) → BeginsIn c.args.front.now c.args.rest.now c.if-front-eq0.s.now
+begins_in : (c : Joined-front-eq0) → BeginsIn c.args.ahead.front.now c.args.ahead.rest.now c.if-front-eq0.s.now
 begins_in c = elim c.if-front-eq0.branch [ then-front-eq0 w ↦ inl (w.if-front-eq0.true, ap bytes w.s-is) | else-front-eq0 w ↦ inr (w.if-front-eq0.false, ap bytes w.s-is) ]
 
 pub returns-then-n-s : goal.returns-then-n-s
 returns-then-n-s c =
     let a = c.args in
-    scan_one a.front.now a.rest.now c.requires.0 c.requires.1 (begins_in (goal.at.returns-then-n-s c).Joined-front-eq0) c.hash_on.ensures c.scan_name-n.ensures c.if-n-s.true
+    scan_one a.ahead.front.now a.ahead.rest.now c.requires.0 c.requires.1 (begins_in (goal.at.returns-then-n-s c).Joined-front-eq0) c.hash_on.ensures c.scan_name-n.ensures c.if-n-s.true
 
 pub returns-then-front-eq0-2 : goal.returns-then-front-eq0-2
 returns-then-front-eq0-2 c =
     let a = c.args in
-    scan_rest a.front.now a.rest.now c.requires.0 c.requires.1 (begins_in (goal.at.returns-then-front-eq0-2 c).Joined-front-eq0) c.hash_on.ensures c.scan_name-n.ensures c.if-front-eq0-2.true
+    scan_rest a.ahead.front.now a.ahead.rest.now c.requires.0 c.requires.1 (begins_in (goal.at.returns-then-front-eq0-2 c).Joined-front-eq0) c.hash_on.ensures c.scan_name-n.ensures c.if-front-eq0-2.true
 
 pub overflow_add-result : goal.overflow_add-result
 overflow_add-result c =
     let a = c.args in
-    omega (arith, front_within a.front.now a.rest.now c.requires.0 c.requires.1 (begins_in (goal.at.overflow_add-result c).Joined-front-eq0) c.hash_on.ensures c.scan_name-n.ensures c.if-front-eq0-2.false, rest_within a.rest.now c.scan_name-k.ensures)
+    omega (arith, front_within a.ahead.front.now a.ahead.rest.now c.requires.0 c.requires.1 (begins_in (goal.at.overflow_add-result c).Joined-front-eq0) c.hash_on.ensures c.scan_name-n.ensures c.if-front-eq0-2.false, rest_within a.ahead.rest.now c.scan_name-k.ensures)
 
 pub returns : goal.returns
 returns c =
     let a = c.args in
-    scan_over a.front.now a.rest.now c.requires.0 c.requires.1 (begins_in (goal.at.returns c).Joined-front-eq0) c.hash_on.ensures c.scan_name-n.ensures c.if-front-eq0-2.false c.if-n-s.false c.scan_name-k.ensures
+    scan_over a.ahead.front.now a.ahead.rest.now c.requires.0 c.requires.1 (begins_in (goal.at.returns c).Joined-front-eq0) c.hash_on.ensures c.scan_name-n.ensures c.if-front-eq0-2.false c.if-n-s.false c.scan_name-k.ensures

@@ -1,19 +1,23 @@
--- `tokens::past_blanks` meets its contract: at each blank passed, the place behind the blanks stays what it is. Assumes nothing.
-use Rattle.rules.proofs.Base.{◌∙◌, refl, sym, rules}
-use Rattle.expression.proofs.Scan.{blank_on, blank_off, blank_end}
+-- `tokens::past_blanks` meets its contract. Assumes nothing.
+use Rattle.rules.proofs.Base.{◌+◌, ◌∙◌, ap}
+use Rattle.std.proofs.Common.{rules, tests}
+use Rattle.std.proofs.lemmas.Iterator.{YieldsList-from_slice}
+use Rattle.std.proofs.lemmas.Iterator.Consumers.{count_from_yields_List}
+use Rattle.std.proofs.lemmas.Iterator.Search.{YieldsList-from_take_while}
+use Rattle.std.proofs.lemmas.List.Folds.{length-prefix_len}
+use Rattle.rules.specs.Bytes.{is_blank}
+use Rattle.rules.specs.Expression.{past_blanks}
+use Rattle.expression.proofs.Parts.{part, part_drop}
+use Rattle.expression.proofs.Scan.{blanks_front}
 use Rattle.expression.proofs.tokens.past_blanks.Goals as goal
 
-pub loop-i-preserved : goal.loop-i-preserved
-loop-i-preserved c =
-    let l = c.loop-i in
-    (search rules, search rules, blank_on c.args.s.now l.i c.loop-i-test.true (sym c.is_blank.ensures ∙ c.if-is_blank.true) ∙ l.invariant.2)
-
-pub returns-else-is_blank : goal.returns-else-is_blank
-returns-else-is_blank c =
-    let l = c.loop-i in record { is = blank_off c.args.s.now l.i c.loop-i-test.true (sym c.is_blank.ensures ∙ c.if-is_blank.false) ∙ l.invariant.2; within = search rules }
-
-pub returns : goal.returns
-returns c = record { is = blank_end c.args.s.now c.loop-i.i c.loop-i-test.false ∙ c.loop-i.invariant.2; within = search rules }
-
-pub loop-i-init : goal.loop-i-init
-loop-i-init c = (search rules, search rules, refl)
+pub returns-clause-is : goal.returns-clause-is
+unfolding past_blanks
+returns-clause-is c =
+    let s = c.args.s.now in
+    let at = c.args.at in
+    ap (λ n. at + n)
+    (count_from_yields_List c.take_while.result _ c.count.ensures.ran
+    (YieldsList-from_take_while _ is_blank (YieldsList-from_slice (part s at) cc) c.take_while.ensures.closure c.take_while.ensures.done (λ x b q k. search (rules, tests)))
+    ∙ length-prefix_len is_blank (part s at)
+    ∙ blanks_front (part s at)) ∙ rw (part_drop s at)

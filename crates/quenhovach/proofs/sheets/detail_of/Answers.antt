@@ -1,24 +1,16 @@
 -- `quenhovach::sheets::detail_of` meets its contract. Assumes nothing.
-use Rattle.rules.proofs.Base.{◌∙◌, sym, ap}
+use Rattle.rules.proofs.Base.{rules}
 use Rattle.rules.specs.Sheets.{sheet_detail}
 use Rattle.quenhovach.proofs.sheets.detail_of.Goals as goal
 
-pub returns-in-Good : goal.returns-in-Good
+pub returns-in-Ok : goal.returns-in-Ok
 unfolding sheet_detail
-returns-in-Good c = ap sheet_detail (sym c.in-Good.is)
+returns-in-Ok c = search rules
 
-pub returns-in-Malformed : goal.returns-in-Malformed
+pub returns-in-Err-Malformed : goal.returns-in-Err-Malformed
 unfolding sheet_detail
-returns-in-Malformed c = ap sheet_detail (sym c.in-Malformed.is)
+returns-in-Err-Malformed c = search rules
 
-pub returns-in-Twice : goal.returns-in-Twice
+pub returns-in-Err-NotDone : goal.returns-in-Err-NotDone
 unfolding sheet_detail
-returns-in-Twice c = ap sheet_detail (sym c.in-Twice.is)
-
-pub returns-in-TooMany : goal.returns-in-TooMany
-unfolding sheet_detail
-returns-in-TooMany c = ap sheet_detail (sym c.in-TooMany.is)
-
-pub returns-in-NotDone : goal.returns-in-NotDone
-unfolding sheet_detail
-returns-in-NotDone c = c.detail_of.ensures ∙ ap sheet_detail (sym c.in-NotDone.is)
+returns-in-Err-NotDone c = search rules

@@ -1,24 +1,24 @@
 -- `quenhovach::sheets::number_of` meets its contract. Assumes nothing.
-use Rattle.rules.proofs.Base.{◌∙◌, sym, ap}
+use Rattle.rules.proofs.Base.{rules}
 use Rattle.rules.specs.Sheets.{sheet_number}
 use Rattle.quenhovach.proofs.sheets.number_of.Goals as goal
 
-pub returns-in-Good : goal.returns-in-Good
+pub returns-in-Ok : goal.returns-in-Ok
 unfolding sheet_number
-returns-in-Good c = ap sheet_number (sym c.in-Good.is)
+returns-in-Ok c = search rules
 
-pub returns-in-Malformed : goal.returns-in-Malformed
+pub returns-in-Err-Malformed : goal.returns-in-Err-Malformed
 unfolding sheet_number
-returns-in-Malformed c = ap sheet_number (sym c.in-Malformed.is)
+returns-in-Err-Malformed c = search rules
 
-pub returns-in-Twice : goal.returns-in-Twice
+pub returns-in-Err-Twice : goal.returns-in-Err-Twice
 unfolding sheet_number
-returns-in-Twice c = ap sheet_number (sym c.in-Twice.is)
+returns-in-Err-Twice c = search rules
 
-pub returns-in-TooMany : goal.returns-in-TooMany
+pub returns-in-Err-TooMany : goal.returns-in-Err-TooMany
 unfolding sheet_number
-returns-in-TooMany c = ap sheet_number (sym c.in-TooMany.is)
+returns-in-Err-TooMany c = search rules
 
-pub returns-in-NotDone : goal.returns-in-NotDone
+pub returns-in-Err-NotDone : goal.returns-in-Err-NotDone
 unfolding sheet_number
-returns-in-NotDone c = c.number_of.ensures ∙ ap sheet_number (sym c.in-NotDone.is)
+returns-in-Err-NotDone c = search rules

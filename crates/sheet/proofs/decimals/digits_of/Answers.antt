@@ -1,5 +1,5 @@
 -- `sheet::decimals::digits_of` meets its contract: the loop keeps that the digits go on from the place i, and the number of those before it. Assumes nothing.
-use Rattle.rules.proofs.Base.{◌<◌, ◌+◌, ◌-◌, ◌*◌, ◌∙◌, sym, ◌≡◌, true, zero-add, get_or, arith, rules}
+use Rattle.rules.proofs.Base.{◌<◌, ◌+◌, ◌-◌, ◌*◌, ◌∙◌, sym, ◌≡◌, true, zero-add, length, get_or, arith}
 use Rattle.rules.specs.Bytes.{is_digit}
 use Rattle.rules.specs.Sheets.{digit_count}
 use Rattle.rules.proofs.Classes.{digit_bounds}
@@ -13,48 +13,38 @@ digit : (c : Else-not-is_digit) → is_digit (get_or c.args.s.now c.loop-i.i 0) 
 digit c = sym c.is_digit.ensures ∙ c.if-not-is_digit.false
 
 -- the number with it
-small :
-    (c : Else-not-is_digit)
-    → c.loop-i.number * 10 + (get_or c.args.s.now c.loop-i.i 0 - 48) < 10000000000000000
-small c =
-    let a = c.args in
-    let l = c.loop-i in
-    read_small a.s.now a.v l.i l.number l.invariant.2 c.loop-i-test.true (digit c) c.requires
+small : (c : Else-not-is_digit) → c.loop-i.number * 10 + (get_or c.args.s.now c.loop-i.i 0 - 48) < 10000000000000000
+small c = read_small c.args.s.now c.args.v c.loop-i.i c.loop-i.number c.loop-i.invariant.1 (omega arith) (digit c) c.requires
 
 pub loop-i-init : goal.loop-i-init
-loop-i-init c = (search rules, zero-add _, read_first c.args.s.now c.args.v)
+loop-i-init c = (zero-add _, read_first c.args.s.now c.args.v)
 
--- a byte that was asked about, in the loop
-pub returns-then-not-is_digit : goal.returns-then-not-is_digit
+pub returns-then-not-is_digit-clause-count : goal.returns-then-not-is_digit-clause-count
 unfolding digit_count
-returns-then-not-is_digit c =
-    let a = c.args in
-    let l = c.loop-i in record { count = sym (front_off is_digit a.s.now l.i c.loop-i-test.true (sym c.is_digit.ensures ∙ c.if-not-is_digit.true)) ∙ l.invariant.1; number = l.invariant.2.number; bounded = l.invariant.2.bounded }
-
-pub returns : goal.returns
-unfolding digit_count
-returns c =
-    let a = c.args in
-    let l = c.loop-i in record { count = sym (front_end is_digit a.s.now l.i c.loop-i-test.false) ∙ l.invariant.1; number = l.invariant.2.number; bounded = l.invariant.2.bounded }
+returns-then-not-is_digit-clause-count c =
+    sym (front_off is_digit c.args.s.now c.loop-i.i (omega arith) (sym c.is_digit.ensures ∙ c.if-not-is_digit.true)) ∙ c.loop-i.invariant.0
 
 pub overflow_mul-number : goal.overflow_mul-number
 overflow_mul-number c = let h = small (goal.at.overflow_mul-number c).Else-not-is_digit in omega arith
 
-pub overflow_sub-number : goal.overflow_sub-number
-overflow_sub-number c = (digit_bounds _ (digit (goal.at.overflow_sub-number c).Else-not-is_digit)).0
-
-pub overflow_cast-number : goal.overflow_cast-number
-overflow_cast-number c = let h = small (goal.at.overflow_cast-number c).Else-not-is_digit in omega arith
+pub overflow_sub-byte : goal.overflow_sub-byte
+overflow_sub-byte c = (digit_bounds _ (digit (goal.at.overflow_sub-byte c).Else-not-is_digit)).0
 
 pub overflow_add-number : goal.overflow_add-number
-overflow_add-number c = let h = small (goal.at.overflow_add-number c).Else-not-is_digit in omega arith
+overflow_add-number c = let h = small (goal.at.overflow_add-number c).Else-not-is_digit in omega (arith, c.from.ensures)
 
 pub loop-i-preserved : goal.loop-i-preserved
 loop-i-preserved c =
-    let a = c.args in
+    let s = c.args.s.now in
     let l = c.loop-i in
-    let t = c.loop-i-test.true in (
-      search rules,
-      sym (front_on is_digit a.s.now l.i t (digit (goal.at.loop-i-preserved c).Else-not-is_digit)) ∙ l.invariant.1,
-      read_on a.s.now a.v l.i l.number l.invariant.2 t (digit (goal.at.loop-i-preserved c).Else-not-is_digit),
+    let d = digit (goal.at.loop-i-preserved c).Else-not-is_digit in (
+      sym (front_on is_digit s l.i (omega arith) d) ∙ l.invariant.0,
+      rw c.from.ensures (read_on s c.args.v l.i l.number l.invariant.1 (omega arith) d),
     )
+
+pub returns-clause-count : goal.returns-clause-count
+unfolding digit_count
+returns-clause-count c =
+    let l = c.loop-i in
+    let all : length c.args.s.now ≡ l.i = omega arith in
+    all ∙ sym (front_end is_digit c.args.s.now l.i (omega arith)) ∙ l.invariant.0

@@ -1,22 +1,27 @@
 -- `sheet::decimals::read_decimal` meets its contract. Assumes nothing.
 use Rattle.rules.proofs.Base.{◌∙◌, sym, ap}
-use Rattle.numerals.proofs.Reading.{behind_first}
-use Rattle.sheet.specs.Answers.{decimal_of}
-use Rattle.sheet.proofs.Fractions.{no_decimal, no_byte, without_minus, minus_none, minus_some}
+use Rattle.rules.specs.Sheets.{negated, unsigned_decimal}
+use Rattle.sheet.proofs.Fronts.{from_place}
+use Rattle.sheet.proofs.Fractions.{no_byte_there, without_minus, with_minus}
 use Rattle.sheet.proofs.decimals.read_decimal.Goals as goal
+use Rattle.sheet.proofs.decimals.read_decimal.Goals.{then-s-eq0-via-then-s-eq0, then-s-eq0-via-else-s-eq0+then-s-ne45}
 
 pub returns-then-s-eq0 : goal.returns-then-s-eq0
-returns-then-s-eq0 c = no_decimal (no_byte c.args.s.now c.if-s-eq0.true)
+returns-then-s-eq0 c =
+    elim c.then-s-eq0.branch [
+      | then-s-eq0-via-then-s-eq0 w ↦ c.read_unsigned.ensures ∙ no_byte_there c.args.s.now w.if-s-eq0.true
+      | then-s-eq0-via-else-s-eq0+then-s-ne45 w ↦ c.read_unsigned.ensures ∙ sym (without_minus c.args.s.now w.if-s-eq0.false w.if-s-ne45.true)
+    ]
 
-pub returns-then-s-ne45 : goal.returns-then-s-ne45
-returns-then-s-ne45 c = c.read_unsigned.ensures ∙ ap decimal_of (sym (without_minus c.args.s.now c.if-s-eq0.false c.if-s-ne45.true))
-
-pub returns-in_default : goal.returns-in_default
-returns-in_default c =
-    let s = c.args.s.now in
-    minus_none s c.if-s-eq0.false c.if-s-ne45.false (c.read_unsigned-2.ensures ∙ rw (behind_first s)) c.in_default.is
+pub returns-in_err-read_unsigned : goal.returns-in_err-read_unsigned
+unfolding negated
+returns-in_err-read_unsigned c =
+    c.from_residual.ensures
+    ∙ ap negated (sym c.in_err-read_unsigned.was ∙ c.read_unsigned-2.ensures ∙ ap unsigned_decimal (from_place c.args.s.now 1))
+    ∙ sym (with_minus c.args.s.now c.if-s-eq0.false c.if-s-ne45.false)
 
 pub returns : goal.returns
+unfolding negated
 returns c =
-    let s = c.args.s.now in
-    minus_some s c.if-s-eq0.false c.if-s-ne45.false (c.read_unsigned-2.ensures ∙ rw (behind_first s)) c.in-Value.is
+    ap negated (sym c.in_ok-read_unsigned.was ∙ c.read_unsigned-2.ensures ∙ ap unsigned_decimal (from_place c.args.s.now 1))
+    ∙ sym (with_minus c.args.s.now c.if-s-eq0.false c.if-s-ne45.false)

@@ -1,58 +1,85 @@
 -- `sheet::decimals::read_unsigned` meets its contract. Assumes nothing.
-use Rattle.rules.proofs.Base.{ℕ, ◌<◌, ◌+◌, ◌-◌, suc, ◌∙◌, sym, ap, ◌≡◌, some, take, drop, length, length-drop, take_all, lit<, arith}
-use Rattle.rules.specs.Bytes.{Bytes}
+use Rattle.rules.proofs.Base.{ℕ, ◌<◌, ◌-◌, ◌^◌, suc, ◌∙◌, sym, ap, ◌≡◌, get_or, length, length-drop, take_all, lit<, arith, rules}
 use Rattle.rules.specs.Numerals.{natural_from}
-use Rattle.rules.specs.Sheets.{quotient}
-use Rattle.sheet.proofs.Fractions.{no_decimal, one_decimal, too_long, no_first_digit, only_digits, no_point, no_digit_behind, no_digits, decimal_is, short, rest, within-16, in_float_lem, ten_in_float}
+use Rattle.rules.specs.Sheets.{quotient, digit_count}
+use Rattle.sheet.proofs.Fronts.{behind, behind_rest, length-behind, first-behind, rest-behind}
+use Rattle.sheet.proofs.Fractions.{too_long, no_first_digit, digits_within, only_digits, no_point, no_digit_behind, no_digits, decimal_is, within-16, in_float_lem, power_fits, power_in_float}
 use Rattle.sheet.proofs.decimals.read_unsigned.Goals as goal
-use Rattle.sheet.proofs.decimals.read_unsigned.Goals.{Else-n-s}
+use Rattle.sheet.proofs.decimals.read_unsigned.Goals.{In-46, then-whole-eq0-via-then-whole-eq0, then-whole-eq0-via-else-whole-eq0+then-places-eq0, then-whole-eq0-via-else-whole-eq0+else-places-eq0+then-part-places}
 
 -- there is a byte behind the first digits
-inside : (c : Else-n-s) → c.digits_of-whole.result.count < length c.args.s.now
-inside c = short c.args.s.now _ c.digits_of-whole.ensures.count c.if-n-s.false
+inside : (c : In-46) → c.digits_of-whole.result.count < length c.args.s.now
+inside c = omega (arith, length-behind c.args.s.now c.digits_of-whole.result.count, c.in-46.len_at_least)
 
 pub returns-then-s : goal.returns-then-s
-returns-then-s c = no_decimal (too_long c.args.s.now c.if-s.true)
+returns-then-s c = sym (too_long c.args.s.now c.if-s.true)
 
 pub digits_of-whole-requires : goal.digits_of-whole-requires
 digits_of-whole-requires c = within-16 0 0 (lit< tt) (length c.args.s.now) (omega (arith, c.if-s.false))
 
-pub returns-then-n-eq0 : goal.returns-then-n-eq0
-returns-then-n-eq0 c = no_decimal (no_first_digit c.args.s.now _ c.digits_of-whole.ensures.count c.if-n-eq0.true)
+pub slice_bounds-behind-count : goal.slice_bounds-behind-count
+slice_bounds-behind-count c = digits_within c.args.s.now _ c.digits_of-whole.ensures.count
 
-pub returns-then-n-s : goal.returns-then-n-s
-returns-then-n-s c = let s = c.args.s.now in no_decimal (only_digits s _ c.digits_of-whole.ensures.count (omega (arith, c.if-n-s.true)))
+pub slice_bounds-behind-start : goal.slice_bounds-behind-start
+slice_bounds-behind-start c = digits_within c.args.s.now _ c.digits_of-whole.ensures.count
 
-pub returns-then-s-n-ne46 : goal.returns-then-s-n-ne46
-returns-then-s-n-ne46 c = let s = c.args.s.now in no_decimal (no_point s _ c.digits_of-whole.ensures.count (inside (goal.at.returns-then-s-n-ne46 c).Else-n-s) c.if-s-n-ne46.true)
+pub returns-in_default : goal.returns-in_default
+returns-in_default c =
+    let s = c.args.s.now in
+    let n = c.digits_of-whole.result.count in
+    sym (only_digits s n c.digits_of-whole.ensures.count (omega (arith, length-behind s n, c.in_default.len_below)))
 
-pub returns-then-places-eq0 : goal.returns-then-places-eq0
-returns-then-places-eq0 c = let s = c.args.s.now in no_decimal (no_digit_behind s _ c.digits_of-whole.ensures.count (inside (goal.at.returns-then-places-eq0 c).Else-n-s) c.if-places-eq0.true)
+pub returns-in_default-2 : goal.returns-in_default-2
+returns-in_default-2 c =
+    let s = c.args.s.now in
+    let n = c.digits_of-whole.result.count in
+    let other : get_or (behind s n) 0 0 ≡ 46 → ⊥ = λ q. omega arith in
+    sym (no_point s n c.digits_of-whole.ensures.count (omega (arith, length-behind s n, c.in_default.len_at_least)) (λ q. other (first-behind s n ∙ q)))
 
 pub digits_of-part-requires : goal.digits_of-part-requires
 digits_of-part-requires c =
     let s = c.args.s.now in
     let d = c.digits_of-whole in
-    let h = inside (goal.at.digits_of-part-requires c).Else-n-s in
-    let k = c.if-s.false in
-    rw (rest s d.result.count) (within-16 d.result.count d.result.number d.ensures.bounded (length (drop (suc d.result.count) s)) (omega (arith, h, k, length-drop (suc d.result.count) s)))
+    within-16 d.result.count d.result.number d.ensures.bounded _ (omega (arith, c.if-s.false, ap length (rest-behind s d.result.count), length-drop (suc d.result.count) s, inside (goal.at.digits_of-part-requires c).In-46))
 
-pub returns-then-part-places : goal.returns-then-part-places
-returns-then-part-places c =
+pub returns-then-whole-eq0 : goal.returns-then-whole-eq0
+returns-then-whole-eq0 c =
     let s = c.args.s.now in
     let d = c.digits_of-whole in
-    no_decimal
-    (no_digits s _ d.ensures.count (inside (goal.at.returns-then-part-places c).Else-n-s) _ d.ensures.number c.if-n-eq0.false c.if-places-eq0.false (omega (arith, c.if-s.false)) c.if-s-n-ne46.false
-    (λ e. c.if-part-places.true (c.digits_of-part.ensures.count ∙ rw (rest s d.result.count) e)))
+    let h = inside (goal.at.returns-then-whole-eq0 c).In-46 in
+    let point : get_or (behind s d.result.count) 0 0 ≡ 46 = search rules in
+    let p = sym (first-behind s d.result.count) ∙ point in
+    let long = ap length (rest-behind s d.result.count) in
+    let left = length-drop (suc d.result.count) s in
+    elim c.then-whole-eq0.branch [
+      | then-whole-eq0-via-then-whole-eq0 w ↦ sym (no_first_digit s _ d.ensures.count w.if-whole-eq0.true)
+      | then-whole-eq0-via-else-whole-eq0+then-places-eq0 w ↦ sym (no_digit_behind s _ d.ensures.count h (omega (arith, long, left, w.if-places-eq0.true)))
+      | then-whole-eq0-via-else-whole-eq0+else-places-eq0+then-part-places w ↦
+          sym
+          (no_digits s _ d.ensures.count h _ d.ensures.number w.if-whole-eq0.false (λ z. w.if-places-eq0.false (omega (arith, long, left, z))) (omega (arith, c.if-s.false)) p
+          (λ e. w.if-part-places.true (c.digits_of-part.ensures.count ∙ ap digit_count (rest-behind s d.result.count) ∙ e ∙ omega (arith, long, left))))
+    ]
 
 pub int_to_float-result : goal.int_to_float-result
 int_to_float-result c =
     let d = c.digits_of-whole in
     let p = c.digits_of-part in
-    in_float_lem d.result.count d.result.number d.ensures.bounded p.result.count p.result.number (omega (arith, inside (goal.at.int_to_float-result c).Else-n-s, c.if-s.false, c.if-part-places.false)) p.ensures.bounded
+    let s = c.args.s.now in
+    in_float_lem d.result.count d.result.number d.ensures.bounded p.result.count p.result.number
+    (omega (arith, inside (goal.at.int_to_float-result c).In-46, c.if-s.false, c.if-part-places.false, ap length (rest-behind s d.result.count), length-drop (suc d.result.count) s))
+    p.ensures.bounded
+
+pub pow-requires : goal.pow-requires
+pow-requires c =
+    let d = c.digits_of-whole in
+    let s = c.args.s.now in
+    power_fits _ _ (omega arith) (omega (arith, inside (goal.at.pow-requires c).In-46, c.if-s.false, ap length (rest-behind s d.result.count), length-drop (suc d.result.count) s))
 
 pub int_to_float-result-2 : goal.int_to_float-result-2
-int_to_float-result-2 c = rw c.ten_to.ensures (ten_in_float _ (omega (arith, inside (goal.at.int_to_float-result-2 c).Else-n-s, c.if-s.false)))
+int_to_float-result-2 c =
+    let d = c.digits_of-whole in
+    let s = c.args.s.now in
+    rw c.pow.ensures (power_in_float _ _ (omega arith) (omega (arith, inside (goal.at.int_to_float-result-2 c).In-46, c.if-s.false, ap length (rest-behind s d.result.count), length-drop (suc d.result.count) s)))
 
 pub returns : goal.returns
 unfolding quotient
@@ -60,19 +87,12 @@ returns c =
     let s = c.args.s.now in
     let d = c.digits_of-whole in
     let p = c.digits_of-part in
-    rw c.ten_to.ensures
-    (one_decimal
-    (decimal_is s _ d.ensures.count (inside (goal.at.returns c).Else-n-s) _ d.ensures.number c.if-n-eq0.false c.if-places-eq0.false (omega (arith, c.if-s.false)) c.if-s-n-ne46.false _
-    (all_read s d.result.count p.result.count d.result.number p.ensures.number c.if-part-places.false)))
-  where
-    all_read : (s : Bytes) (n k v : ℕ) {m : ℕ} → natural_from 10 v (take k (take (length s - (n + 1)) (drop (n + 1) s))) ≡ some m → k ≡ length s - n - 1 → natural_from 10 v (drop (suc n) s) ≡ some m
-    all_read s n k v e h = sym (ap (natural_from 10 v) (ap (take k) (rest s n) ∙ take_all k (drop (suc n) s) (omega (arith, h, length-drop (suc n) s)))) ∙ e
-
-pub bounds-s-n : goal.bounds-s-n
-bounds-s-n c = inside (goal.at.bounds-s-n c).Else-n-s
-
-pub overflow_sub-places : goal.overflow_sub-places
-overflow_sub-places c = omega (arith, inside (goal.at.overflow_sub-places c).Else-n-s)
-
-pub overflow_sub-places-2 : goal.overflow_sub-places-2
-overflow_sub-places-2 c = omega (arith, inside (goal.at.overflow_sub-places-2 c).Else-n-s)
+    let h = inside (goal.at.returns c).In-46 in
+    let point : get_or (behind s d.result.count) 0 0 ≡ 46 = search rules in
+    let long = ap length (rest-behind s d.result.count) in
+    let places : c.digits_of-part.result.count ≡ length s - d.result.count - 1 = omega (arith, c.if-part-places.false, long, length-drop (suc d.result.count) s) in
+    let power : c.pow.result ≡ 10 ^ (length s - d.result.count - 1) = c.pow.ensures ∙ ap (λ (k : ℕ). 10 ^ k) (sym c.if-part-places.false ∙ places) in
+    rw power
+    (sym
+    (decimal_is s _ d.ensures.count h _ d.ensures.number c.if-whole-eq0.false (λ z. c.if-places-eq0.false (omega (arith, c.if-part-places.false, places, z))) (omega (arith, c.if-s.false)) (sym (first-behind s d.result.count) ∙ point) _
+    (sym (ap (natural_from 10 d.result.number) (take_all p.result.count (behind_rest s d.result.count) (omega (arith, c.if-part-places.false)) ∙ rest-behind s d.result.count)) ∙ p.ensures.number)))

@@ -1,29 +1,18 @@
--- `sheet::entries::until_newline` meets its contract: the loop keeps that the line goes on from the place i. Assumes nothing.
-use Rattle.rules.proofs.Base.{◌∙◌, sym, zero-add, ne_eqb, eq-eqb, rules}
+-- `sheet::entries::until_newline` meets its contract. Assumes nothing.
+use Rattle.rules.proofs.Base.{◌∙◌}
+use Rattle.std.proofs.Common.{rules, tests}
+use Rattle.std.proofs.lemmas.Iterator.{YieldsList-from_slice}
+use Rattle.std.proofs.lemmas.Iterator.Consumers.{count_from_yields_List}
+use Rattle.std.proofs.lemmas.Iterator.Search.{YieldsList-from_take_while}
+use Rattle.std.proofs.lemmas.List.Folds.{length-prefix_len}
 use Rattle.sheet.specs.Lines.{is_in_line, until_newline}
-use Rattle.sheet.proofs.Fronts.{front_on, front_off, front_end}
+use Rattle.sheet.proofs.Fronts.{front_is}
 use Rattle.sheet.proofs.entries.until_newline.Goals as goal
 
-pub returns-then-s-i-eq10 : goal.returns-then-s-i-eq10
-unfolding until_newline is_in_line
-returns-then-s-i-eq10 c =
-    let a = c.args in
-    let l = c.loop-i in
-    sym (front_off is_in_line a.s.now l.i c.loop-i-test.true (rw (eq-eqb _ _ c.if-s-i-eq10.true))) ∙ l.invariant.1
-
-pub loop-i-preserved : goal.loop-i-preserved
-unfolding is_in_line
-loop-i-preserved c =
-    let a = c.args in
-    let l = c.loop-i in
-    (search rules, sym (front_on is_in_line a.s.now l.i c.loop-i-test.true (rw (ne_eqb _ _ c.if-s-i-eq10.false))) ∙ l.invariant.1)
-
 pub returns : goal.returns
-unfolding until_newline
+unfolding until_newline is_in_line
 returns c =
-    let a = c.args in
-    let l = c.loop-i in
-    sym (front_end is_in_line a.s.now l.i c.loop-i-test.false) ∙ l.invariant.1
-
-pub loop-i-init : goal.loop-i-init
-loop-i-init c = (search rules, zero-add _)
+    count_from_yields_List c.take_while.result _ c.count.ensures.ran
+    (YieldsList-from_take_while _ is_in_line (YieldsList-from_slice c.args.s.now cc) c.take_while.ensures.closure c.take_while.ensures.done (λ x b q k. search (rules, tests)))
+    ∙ length-prefix_len is_in_line c.args.s.now
+    ∙ front_is is_in_line c.args.s.now

@@ -1,5 +1,6 @@
 -- `expander::calls::Calls::collect_ahead` meets its contract. Assumes nothing.
-use Rattle.rules.proofs.Base.{◌≡◌, ◌++◌, arith, drop, take}
+use Rattle.rules.proofs.Base.{◌≡◌, arith, drop, take}
+use Rattle.expander.specs.Source.{bytes_of}
 use Rattle.expander.proofs.SinksLaws.{ahead_taken}
 use Rattle.expander.proofs.CallsLaws.{depth_in, same_depth}
 use Rattle.expander.proofs.calls.Calls.collect_ahead.Goals as goal
@@ -10,6 +11,6 @@ returns c =
     let p = c.requires in
     λ x xs m.
     let d : c.depth-depth.result ≡ x.depth = c.depth-depth.ensures a.bytes.now a.ends.now x xs m in
-    let f = c.collected.ensures a.bytes.now _ (take a.n (drop a.start (a.front.now ++ a.rest.now))) x xs m
-    (ahead_taken a.front.now a.rest.now a.start a.n p.1) c.fill_ahead.ensures (omega (arith, d, depth_in m)) in
-    same_depth (take a.n (drop a.start (a.front.now ++ a.rest.now))) _ x f d
+    let f = c.collected.ensures a.bytes.now _ (take a.n (drop a.start (bytes_of a.ahead))) x xs m
+    (ahead_taken (bytes_of a.ahead) a.start a.n p.1) c.fill.ensures (omega (arith, d, depth_in m)) in
+    same_depth (take a.n (drop a.start (bytes_of a.ahead))) _ x f d

@@ -1,10 +1,7 @@
 -- `expander::calls::Calls::collected` meets its contract. Assumes nothing.
 use Rattle.expander.proofs.CallsLaws.{calls_collected, some_strings}
-use Rattle.rules.proofs.Base.{arith, length-set}
+use Rattle.rules.proofs.Base.{arith}
 use Rattle.expander.proofs.calls.Calls.collected.Goals as goal
-
-pub bounds-stack-top-2 : goal.bounds-stack-top-2
-bounds-stack-top-2 c = simp length-set (omega (arith, c.requires.0.links.stack_long, c.requires.0.are.open_few, c.requires.1))
 
 pub returns : goal.returns
 returns c = λ bytes after w x xs m e f h. calls_collected m c.requires.0.links.stack_long w after _ _ e f h

@@ -8,4 +8,4 @@ returns c =
     let n = c.count in
     let x = c.extract in
     λ u m q h.
-    out_moves m c.args.i h q n.result n.ensures x.new.dst x.ensures (omega (arith, n.ensures, c.requires.2)) (c.compact-waiting.ensures.1 u.waiting h m.waiting)
+    out_moves m c.args.i h q n.result n.ensures x.new.dst x.ensures (omega (arith, n.ensures, c.requires.2)) (c.compact.ensures.1 u.waiting h m.waiting)

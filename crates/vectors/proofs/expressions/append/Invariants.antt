@@ -1,9 +1,0 @@
--- `append` meets its contract. Assumes nothing.
-use Rattle.rules.proofs.Base.{◌≤◌, ◌-◌, ◌≡◌, length}
-use Rattle.vectors.proofs.expressions.append.Given as goal
-
-abbrev pub invariant-loop-i : goal.invariant-loop-i
-invariant-loop-i l = (l.to ≤ length l.text) × (length l.text ≡ length l.initial.text)
-
-abbrev pub decreases-loop-i : goal.decreases-loop-i
-decreases-loop-i l = length l.piece - l.i

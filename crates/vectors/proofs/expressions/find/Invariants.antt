@@ -1,9 +1,0 @@
--- `find` meets its contract. Assumes nothing.
-use Rattle.rules.proofs.Base.{◌≤◌, ◌-◌, length}
-use Rattle.vectors.proofs.expressions.find.Given as goal
-
-abbrev pub invariant-loop-i : goal.invariant-loop-i
-invariant-loop-i l = (l.at ≤ l.i) × (l.i ≤ length l.text)
-
-abbrev pub decreases-loop-i : goal.decreases-loop-i
-decreases-loop-i l = length l.text - l.i
