@@ -1,5 +1,6 @@
 -- Laws of the predefined names, of their numbers and of their buckets. Assumes nothing.
 use Rattle.rules.proofs.Base.{◌≤◌, ◌+◌, ℕ, ◌<◌, suc, ◌∙◌, refl, sym, ap, ◌≡◌, true, Bool, false, true≢false, ◌&&◌, and-eq-true_iff, Some, None, Option, none-some, same_Some, List, [], ◌∷◌, map, arith, eqb, length, eq-eqb, ne_eqb, eqb-true, eqb-false}
+use Rattle.std.specs.Prelude.{IfSome}
 use Rattle.std.specs.Bool.{then_some}
 use Rattle.std.specs.Option.{option_and_then}
 use Rattle.rules.specs.Bytes.{Bytes, bytes_of, same_bytes}
@@ -152,8 +153,8 @@ module _ (w : Bytes) where
           at false false p q = refl
 
   -- the candidate of a name's bucket is its number, or it has none
-  pub confirmed_number : {o r : Option ℕ} → o ≡ candidate_in (bucket_of w) → r ≡ option_and_then (λ k. then_some (has_number w k) k) o → r ≡ predefined_number w
-  confirmed_number {o} e h = h ∙ go o (sym (e ∙ candidate_place (bucket_of w)))
+  pub confirmed_is : {o r : Option ℕ} → o ≡ candidate_in (bucket_of w) → r ≡ option_and_then (λ k. then_some (has_number w k) k) o → r ≡ predefined_number w
+  confirmed_is {o} e h = h ∙ go o (sym (e ∙ candidate_place (bucket_of w)))
     where
       go : (o : Option ℕ) → own ≡ o → option_and_then (λ k. then_some (has_number w k) k) o ≡ predefined_number w
       go None h = sym (number_is None h)
@@ -171,6 +172,15 @@ number_few w {k} e = let n = go 1 predefined_names e in (n.0, omega (arith, n.1,
         at : (t : Bool) → elim t [ true ↦ Some j | false ↦ number_from (suc j) w ns ] ≡ Some k → (number_from (suc j) w ns ≡ Some k → (suc j ≤ k) × (k < suc j + length ns)) → (j ≤ k) × (k < j + length (n ∷ ns))
         at true e f = let z : j ≡ k = same_Some j k e in (omega arith, omega arith)
         at false e f = let r = f e in (omega (arith, r.0), omega (arith, r.1))
+
+-- the candidate of a name's bucket is its number, which is one of 1 to 27, or it has none
+pub confirmed_number : (w : Bytes) {o r : Option ℕ} → o ≡ candidate_in (bucket_of w) → r ≡ option_and_then (λ k. then_some (has_number w k) k) o
+    → (r ≡ predefined_number w) × IfSome r (λ k. (0 < k) × (k ≤ macro_count))
+confirmed_number w {o} {r} e h = let is = confirmed_is w e h in (is, few r is)
+  where
+    few : (r : Option ℕ) → r ≡ predefined_number w → IfSome r (λ k. (0 < k) × (k ≤ macro_count))
+    few None e = record {}
+    few (Some k) e = number_few w (sym e)
 
 -- and so are those of the buckets
 pub candidate_few : (b : ℕ) {k : ℕ} → candidate_in b ≡ Some k → (0 < k) × (k ≤ macro_count)

@@ -142,7 +142,7 @@ fn is_named(name: &[u8], k: u8) -> bool
 
 // The candidate, where the name is the predefined one of this number. Where it is the candidate of the name's bucket, this is the number of the
 // name: it is compared with one predefined name, or with none.
-#[tactic(auto, using(crate::proofs::Naming::confirmed_number))]
+#[tactic(auto, using(crate::proofs::Naming::confirmed_is))]
 pub fn confirmed(name: &[u8], candidate: Option<u8>) -> Option<u8>
     ensures compared { result ≡ option_and_then (λ k. then_some (has_number name.now k) k) candidate }
     ensures number { candidate ≡ candidate_in (bucket_of name.now) → result ≡ predefined_number name.now }

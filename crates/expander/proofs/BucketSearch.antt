@@ -134,7 +134,7 @@ module _ {bytes : Bytes} {ends : List ℕ} {p : Packed} {ds : List Definition} (
 
 -- a name whose bucket has no predefined name is none
 not_predefined : (w : Bytes) → candidate_in (bucket_of w) ≡ None → predefined_number w ≡ None
-not_predefined w e = sym (confirmed_number w (sym e) refl)
+not_predefined w e = sym ((confirmed_number w (sym e) refl).0)
 
 pub means_nothing : {bytes : Bytes} {ends : List ℕ} {p : Packed} {own : ℕ} {t : Table} (w : Bytes) {b : ℕ} → TableIn bytes ends p own t → bucket_of w ≡ b → b < bucket_count
     → get_or ends (heads_start + b) 0 ≡ 0 → meaning_of w t ≡ None

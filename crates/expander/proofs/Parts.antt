@@ -1,5 +1,5 @@
 -- Laws of lists and of their parts, as slices are lent. Assumes nothing.
-use Rattle.rules.proofs.Base.{◌≤◌, ◌+◌, ℕ, ◌-◌, suc, zero, ◌∙◌, refl, sym, ap, ◌≡◌, ap₂, Bool, List, [], ◌++◌, ◌∷◌, append-nil, arith, length, drop, take, length-drop, drop_of_length-le, length-take, replicate, take_all, drop-length, drop-drop, take-nil}
+use Rattle.rules.proofs.Base.{◌≤◌, ◌+◌, ℕ, ◌-◌, ◌<◌, suc, zero, ◌∙◌, refl, sym, ap, ◌≡◌, ap₂, Bool, List, [], ◌++◌, ◌∷◌, append-nil, zero-add, add-one, arith, length, drop, take, get_or, set, paste-suc, take-length, length-drop, drop_of_length-le, length-take, replicate, take_all, drop-length, drop-drop, take-nil}
 use Rattle.matching.specs.Partners.{Fitted}
 
 -- the part of a slice from a place on
@@ -25,6 +25,14 @@ drop-take (suc m) (suc n) [] = sym (take-nil (suc n - suc m))
 drop-take (suc m) (suc n) (x ∷ l) =
     let e : n - m ≡ suc n - suc m = omega arith in
     drop-take m n l ∙ ap (λ (k : ℕ). take k (drop m l)) e
+
+-- d has the first i bytes of s over its own; one more is stored, and then all are there
+module _ (s before d : List ℕ) (i : ℕ) (e : d ≡ take i s ++ drop i before) where
+  pub copied_on : i < length s → i < length before → set d i (get_or s i 0) ≡ take (i + 1) s ++ drop (i + 1) before
+  copied_on h k = rw (e, add-one i) (simp zero-add at (paste-suc before 0 s i 0 (omega arith) h))
+
+  pub copied_all : i ≡ length s → length s ≡ length before → d ≡ s
+  copied_all h k = e ∙ rw (h, take-length s, k, drop-length before) (append-nil s)
 
 -- a text, said otherwise, written into a slice of its length
 pub fitted_whole : {w v before after : List ℕ} {r : Bool} → Fitted w before r after → w ≡ v → length v ≡ length before → after ≡ v

@@ -3,13 +3,24 @@ ghost use Rattle.std.specs.Prelude.{◌≡◌, ◌+◌, ◌-◌, ◌≤◌, ◌+
 ghost use Rattle.expander.specs.Filled.{Filled};
 ghost use Rattle.rules.specs.Contract.{fronted};
 
+// Copies one slice into another of its length. (`copy_from_slice` became a call of memmove where a buffer is lent: the library for C would ask its host
+// for that, too, and arguments of few bytes took twice the instructions.)
+pub(crate) fn copy(from: &[u8], into: &mut [u8])
+    requires { length from.now ≡ length into.old }
+    ensures { into.new ≡ from.now }
+{
+    for i in 0..from.len() {
+        into[i] = from[i];
+    }
+}
+
 // A slice at a place.
 pub(crate) fn fill_slice(s: &[u8], buffer: &mut [u8], at: usize)
     requires { at + length s.now ≤ length buffer.old }
     ensures { Filled buffer.old at s.now buffer.new }
 {
     let end = at + s.len();
-    buffer[at..end].copy_from_slice(s);
+    copy(s, &mut buffer[at..end]);
 }
 
 // s in front of the text that stands from `from` on; returns where it begins.

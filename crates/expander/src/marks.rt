@@ -3,6 +3,7 @@ ghost use Rattle.std.specs.Prelude.{◌≡◌, ◌≤◌, [], ◌∷◌, length}
 ghost use Rattle.rules.specs.Marks.{is_barred, none_barred, is_mark, is_end_mark, default_marks, mark_text, mark_texts};
 ghost use Rattle.expander.specs.Tokens.{GoodMarks};
 
+use crate::buffers;
 use rules::{Mark, Marks};
 
 // No mark may have the byte.
@@ -42,7 +43,7 @@ pub(crate) fn mark_of(w: &[u8]) -> Mark
     ensures { (mark_text result ≡ w.now) × (result.len ≡ length w.now) }
 {
     let mut bytes = [0; 5];
-    bytes[..w.len()].copy_from_slice(w);
+    buffers::copy(w, &mut bytes[..w.len()]);
     Mark {
         bytes,
         len: w.len() as u8,

@@ -8,6 +8,8 @@ ghost use Rattle.expander.specs.Limits.{most_lent};
 ghost use Rattle.expander.specs.Ahead.{plain_length, AheadLength, NextEither, LineEnd};
 ghost use Rattle.expander.specs.Filled.{Filled};
 
+use crate::buffers::copy;
+
 // Where the text ahead stands.
 #[derive(Clone, Copy)]
 pub(crate) struct Position {
@@ -63,14 +65,6 @@ impl Position {
 pub(crate) struct Ahead<'a> {
     pub(crate) front: &'a [u8],
     pub(crate) rest: &'a [u8],
-}
-
-// Copies one slice into another of its length.
-fn copy(from: &[u8], into: &mut [u8])
-    requires { length from.now ≡ length into.old }
-    ensures { into.new ≡ from.now }
-{
-    ascii::copy(from, into);
 }
 
 // How many bytes at the front are neither a nor b.

@@ -102,13 +102,13 @@ least_set (suc d) n p h = go (n % 2) refl (λ q. least_set d (n / 2) q (omega (a
     go zero e r = rw (e, r (omega arith)) refl
     go (suc b) e r = rw e refl
 
--- no word has as many bits before one
-pub too_far : (d before word : ℕ) → d ≤ before → select d before word ≡ None
-unfolding select plus_one
-too_far zero before word h = refl
-too_far (suc d) before word h = go (word % 2) before h (λ m q. too_far d m (word / 2) q)
+-- a word of no more set bits has none behind so many
+pub too_few : (d before word : ℕ) → ones_in d word ≤ before → select d before word ≡ None
+unfolding select plus_one ones_in
+too_few zero before word h = refl
+too_few (suc d) before word h = go (word % 2) before h (λ m q. too_few d m (word / 2) q)
   where
-    go : (b before : ℕ) → suc d ≤ before → ((m : ℕ) → d ≤ m → select d m (word / 2) ≡ None)
+    go : (b before : ℕ) → b + ones_in d (word / 2) ≤ before → ((m : ℕ) → ones_in d (word / 2) ≤ m → select d m (word / 2) ≡ None)
         → ◌≡◌ {A = Option ℕ} (elim b [ zero ↦ plus_one (select d before (word / 2)) | suc c ↦ elim before [ zero ↦ Some 0 | suc m ↦ plus_one (select d m (word / 2)) ] ]) None
     go zero before h r = ap plus_one (r before (omega arith))
     go (suc b) zero h r = absurd (omega arith)
@@ -198,6 +198,12 @@ mask_pos k h = le_trans (pow_mono {i = 0} {j = k} (omega arith)) (le_of_eq (sym 
 -- the rank of a place in its word: the count of ones of the word masked below it
 pub masked : (word k : ℕ) → k < 64 → ones (bit_and word ((1 * 2 ^ k) % 2 ^ 64 - 1)) ≡ ones_in k word
 masked word k h = ap (λ (m : ℕ). ones (bit_and word (m - 1))) (mask_is k h) ∙ ap ones (and_mask word k) ∙ ones_mod k word
+
+-- all bits of a word, counted
+pub ones_whole : (word : ℕ) → word < 2 ^ 64 → ones word ≡ ones_in 64 word
+ones_whole word h =
+    let whole : word % 2 ^ 64 ≡ word = omega (arith, h) in
+    ap ones (sym whole) ∙ ones_mod 64 word
 
 pub ones_in_le : (k n : ℕ) → ones_in k n ≤ k
 unfolding ones_in

@@ -19,7 +19,7 @@ pub(crate) fn word_of(text: &[u8]) -> u64
 pub(crate) fn select(word: u64, before: u64) -> Option<usize>
     ensures { result ≡ select 64 before word }
 {
-    if COUNT as u64 <= before {
+    if u64::from(word.count_ones()) <= before {
         return None;
     }
     let mut rest = word;

@@ -2,9 +2,9 @@
 // needed any more: only its length.
 #![tactic(auto)]
 
-ghost use Rattle.std.specs.Prelude.{◌≡◌, ◌%◌, length, Ok};
+ghost use Rattle.std.specs.Prelude.{◌≡◌, ℕ, ◌%◌, length, Ok};
 ghost use Rattle.std.specs.Int.Count.{ones_in};
-ghost use Rattle.rules.specs.Lines.{index_number, index_value, judged_index, last_below, Indexed, line_of, start_of};
+ghost use Rattle.rules.specs.Lines.{index_number, index_value_by, judged_index, last_below, Indexed, line_of, start_of};
 
 use rules::IndexError;
 
@@ -114,9 +114,44 @@ pub fn number_of<T: Drop>(answer: Result<T, IndexError>) -> u32
     }
 }
 
+// What an answer has, as a number: a line, or the place where one starts. An index that was built has none, which is 0.
+pub trait IndexValue {
+    ghost value: { Self → ℕ };
+
+    fn value(self) -> u64
+        ensures { result ≡ value self };
+}
+
+impl IndexValue for u64 {
+    ghost value = { λ line. line };
+
+    fn value(self) -> u64 {
+        self
+    }
+}
+
+impl IndexValue for usize {
+    ghost value = { λ place. place };
+
+    fn value(self) -> u64 {
+        self as u64
+    }
+}
+
+impl IndexValue for () {
+    ghost value = { λ _. 0 };
+
+    fn value(self) -> u64 {
+        0
+    }
+}
+
 // The line, or the place where it starts; 0 where the answer has neither.
-pub fn value_of(answer: Result<u64, IndexError>) -> u64
-    ensures { result ≡ index_value answer }
+pub fn value_of<T: IndexValue>(answer: Result<T, IndexError>) -> u64
+    ensures { result ≡ index_value_by T.value answer }
 {
-    answer.unwrap_or(0)
+    match answer {
+        Ok(x) => x.value(),
+        Err(_) => 0,
+    }
 }

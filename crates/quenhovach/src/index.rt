@@ -11,6 +11,7 @@ pub extern "C" fn quenhovach_lines_build(text: &[u8], words: &mut [u64], totals:
 }
 
 // The line of a place, by any words and totals; 0 with a refusal, whose number is returned.
+#[tactic(auto, unfolding(rules::specs::Lines::index_value))]
 #[unsafe(no_mangle)]
 pub extern "C" fn quenhovach_lines_line_of(
     length: usize,
@@ -27,6 +28,7 @@ pub extern "C" fn quenhovach_lines_line_of(
 }
 
 // The place where a line starts, by any words and totals; 0 with a refusal, whose number is returned.
+#[tactic(auto, unfolding(rules::specs::Lines::index_value))]
 #[unsafe(no_mangle)]
 pub extern "C" fn quenhovach_lines_start_of(
     length: usize,
@@ -37,7 +39,7 @@ pub extern "C" fn quenhovach_lines_start_of(
 ) -> u32
     ensures { InNumbers (start_of length words.now totals.now line) result start.new }
 {
-    let answer = lines::start_of(length, words, totals, line).map(|place| place as u64);
+    let answer = lines::start_of(length, words, totals, line);
     *start = lines::value_of(answer);
     lines::number_of(answer)
 }

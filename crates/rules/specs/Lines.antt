@@ -21,10 +21,14 @@ index_number (Err Beyond) = 31
 index_number (Err NoLine) = 32
 index_number (Err NoRoom) = 33
 
+-- the number of what was found, as f tells it; 0 where nothing was
+unfoldable pub index_value_by : {T : Type 0} → (T → ℕ) → Result T IndexError → ℕ
+index_value_by f (Ok x) = f x
+index_value_by f (Err e) = 0
+
 -- the line, or the place where it starts; 0 where there is none
 unfoldable pub index_value : Result ℕ IndexError → ℕ
-index_value (Ok n) = n
-index_value (Err e) = 0
+index_value = index_value_by (λ n. n)
 
 -- ---- the index of a text
 

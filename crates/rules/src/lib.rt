@@ -184,8 +184,8 @@ pub struct Entry {
     pub value: Value,
 }
 
-// 02 "A sheet is lines": the first `count` of them; at most 256, "22 a 257th line". It is 10 KB, so it is lent, and not copied.
-#[derive(Drop)]
+// 02 "A sheet is lines": the first `count` of them; at most 256, "22 a 257th line". It is 10 KB, so functions lend it to each other.
+#[derive(Clone, Copy)]
 pub struct Sheet {
     pub lines: [Entry; 256],
     pub count: usize,
@@ -202,7 +202,7 @@ pub enum SheetError {
 }
 
 // What expanding and reading returns: the six numbers of 01, by the answer's number and detail, and the sheet.
-#[derive(Drop)]
+#[derive(Clone, Copy)]
 pub struct SheetReport {
     pub answer: Result<Sheet, SheetError>,
     pub steps: u32,

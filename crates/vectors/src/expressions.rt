@@ -7,7 +7,6 @@ use crate::names;
 use rules::EvalError;
 use std::io;
 use std::io::Print;
-use std::iter::{once, repeat_n};
 
 // The bytes of these vectors that do not print have an escape.
 fn write_byte(printer: &impl Print, b: u8) -> io::Result<()> {
@@ -41,18 +40,20 @@ fn show(printer: &impl Print, s: &[u8]) -> io::Result<()> {
 
 fn count_of(s: &[u8]) -> usize {
     match expression::evaluate(s) {
-        Ok(count) => usize::try_from(count).unwrap_or(0),
+        Ok(count) => count.cast_unsigned() as usize,
         Err(_) => 0,
     }
 }
 
-// Puts a piece behind the first `at` bytes, as far as there is room: so many bytes stand there then.
-fn append(text: &mut [u8], at: usize, piece: &[u8]) -> usize
+// Puts a piece so many times behind the first `at` bytes, as far as there is room: so many bytes stand there then.
+fn repeat(text: &mut [u8], at: usize, piece: &[u8], count: usize) -> usize
     requires { at ≤ length text.old }
     ensures { result ≤ length text.new }
 {
-    let n = piece.len().min(text.len() - at);
-    text[at..at + n].copy_from_slice(&piece[..n]);
+    let n = piece.len().saturating_mul(count).min(text.len() - at);
+    for (to, from) in text[at..at + n].iter_mut().zip(piece.iter().cycle()) {
+        *to = *from;
+    }
     at + n
 }
 
@@ -64,13 +65,9 @@ fn show_repeated(printer: &impl Print, fields: &[u8]) -> io::Result<()> {
     let middle = fields.next().unwrap_or(&[]);
     let back = fields.next().unwrap_or(&[]);
     let mut text = [0; 65536];
-    let mut end = 0;
-    for piece in repeat_n(front, count)
-        .chain(once(middle))
-        .chain(repeat_n(back, count))
-    {
-        end = append(&mut text, end, piece);
-    }
+    let begun = repeat(&mut text, 0, front, count);
+    let whole = repeat(&mut text, begun, middle, 1);
+    let end = repeat(&mut text, whole, back, count);
     write_value(printer, &text[..end])
 }
 

@@ -4,4 +4,4 @@ use Rattle.expander.proofs.MarkTests.{made}
 use Rattle.expander.proofs.marks.mark_of.Goals as goal
 
 pub returns : goal.returns
-returns c = (rw c.copy_from_slice.ensures.after (made c.args.w.now _), refl)
+returns c = (rw c.copy.ensures (made c.args.w.now _), refl)
