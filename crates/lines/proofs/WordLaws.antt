@@ -209,3 +209,7 @@ pub ones_in_le : (k n : ℕ) → ones_in k n ≤ k
 unfolding ones_in
 ones_in_le zero n = omega arith
 ones_in_le (suc k) n = let h = ones_in_le k (n / 2) in omega arith
+
+-- no word has as many bits before one
+pub too_far : (d before word : ℕ) → d ≤ before → select d before word ≡ None
+too_far d before word h = too_few d before word (le_trans (ones_in_le d word) h)
